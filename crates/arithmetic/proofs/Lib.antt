@@ -1,0 +1,15 @@
+-- The laws of the arithmetic. Higher crates cite MarkLaws, and of the others only what has no mark in it.
+pub mod ScaleLaws
+pub mod Rounding
+pub mod Operations
+pub mod Tied
+pub mod Ranges
+pub mod RangeTest
+pub mod PlainLaws
+pub mod PowerOfTwo
+pub mod RootWhole
+pub mod RootLoop
+pub mod RootPatterns
+pub mod RootCases
+pub mod RootNearest
+pub mod MarkLaws

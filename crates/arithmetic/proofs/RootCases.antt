@@ -1,0 +1,157 @@
+-- The wholeRoot by cases, as the code goes: a NaN, a zero, a negative value, an infinity, and a pattern.
+use mathlib.Core.Path.{_≡_, refl, sym, ap, _∙_, subst}
+use Prim.Native.Nat.{ℕ, zero, suc, _+_, _-_, _*_, _/_, _%_, _^_, _≤_, _<_}
+use native.Mathlib.Nat.{le-trans, le-of-eq, lt-of-lt-of-le, lt-of-le-of-lt, lt-irrefl, mul-one, mul-pos, mul-assoc, mul-comm, pow-suc, le-of-mul-le-mul-right, lt-of-mul-lt-mul-right, mul-lt-mul-of-pos-right, mul-le-mul-right, zero-lt-suc, zero-mul, div-lt-iff-lt-mul, not-le-of-lt, eq-zero-or-pos, zero-add}
+use native.Mathlib.Omega.{arith}
+use mathlib.Core.Bool.{Bool, true, false, not, _&&_, _||_, Bool·beq, cond, true≢false, false≢true}
+use mathlib.Core.Logic.{_⊎_, inl, inr}
+use lib.IntN.{ℤ, pos, negsuc}
+use lib.Dec.{T, ltb, leb, eqb, ltb→lt, lt→ltb, eqb→eq, not-T}
+use lib.Pow.{pow-add, pow-pos, pow-mono}
+use lib.Ieee.{Float, nan, inf, fin, Format, binary64, up, down, size, fits, isNan, eq, lt, ne, toBits, ofBits, neg}
+use lib.Ieee.Fits.{up-pos, down-pos, kept-lt, eq→eqb, and-i}
+use lib.Ieee.Digits.{size-le, size-lt}
+use lib.Ieee.Bits.{ofBits-toBits, ofBits-fits, is-true, is-false}
+use lib.Ieee.Compare.{differs-from-itself}
+use lib.Ieee.Exact.{HasValue}
+use Rattle.arithmetic.specs.Numbers.{plusZero, isZero}
+use Rattle.arithmetic.proofs.Operations.{Zero}
+use Rattle.arithmetic.proofs.RangeTest.{zero-of-test, test-of-zero}
+use Rattle.arithmetic.proofs.PowerOfTwo.{fits-parts}
+use Rattle.arithmetic.specs.SquareRoot.{squareRoot, Full}
+use Rattle.arithmetic.specs.RootPattern.{rootBits}
+use Rattle.arithmetic.proofs.RootPatterns.{root-bits}
+use Rattle.arithmetic.proofs.Rounding.{Within}
+
+of-eq : {b : Bool} → b ≡ true → T b
+of-eq e = subst (λ (c : Bool). T c) (sym e) tt
+
+clash : {b : Bool} {X : Type 0} → b ≡ true → b ≡ false → X
+clash p q = absurd (true≢false (sym p ∙ q))
+
+pub root-nan : (x : Float) → ne x x ≡ true → x ≡ squareRoot x
+unfolding squareRoot
+root-nan x h = let e = differs-from-itself x (of-eq h) in e ∙ sym (ap squareRoot e)
+
+root-of-zero : (x : Float) → Zero x → x ≡ squareRoot x
+unfolding squareRoot
+root-of-zero nan z = absurd z
+root-of-zero (inf s) z = absurd z
+root-of-zero (fin s m e) z = ap (λ (k : ℕ). fin s k e) z ∙ sym (ap (λ (k : ℕ). squareRoot (fin s k e)) z)
+
+pub root-zero : (x : Float) → eq x plusZero ≡ true → x ≡ squareRoot x
+unfolding isZero
+root-zero x h = root-of-zero x (zero-of-test x (of-eq h))
+
+not-below : (a b : ℕ) → T (ltb a (0 * b)) → ⊥
+not-below a b t = no a (0 * b) (zero-mul b) (ltb→lt a (0 * b) t)
+  where
+    no : (a z : ℕ) → z ≡ 0 → a < z → ⊥
+    no a z e h = omega arith
+
+pub root-negative : (x : Float) → eq x plusZero ≡ false → lt x plusZero ≡ true → nan ≡ squareRoot x
+unfolding squareRoot lt
+root-negative nan z h = refl
+root-negative (inf true) z h = refl
+root-negative (inf false) z h = absurd (false≢true h)
+root-negative (fin true zero e) z h = clash (is-true (eq (fin true zero e) plusZero) (unfold isZero in test-of-zero (fin true zero e) refl)) z
+root-negative (fin false m e) z h = absurd (not-below (m * up e * 1) (down e) (of-eq h))
+root-negative (fin true (suc m) e) z h = refl
+
+-- the pattern of a finite value that is not negative is below the infinity's
+bits-finite : (m : ℕ) (e : ℤ) → m * up e < 2 ^ 1024 * down e → toBits binary64 (fin false m e) < 2047 * 2 ^ 52
+unfolding toBits
+bits-finite m e h =
+    let n = m * up e * 2 ^ 1074 / down e in
+    let top : n < 2 ^ 2098 = div-lt-iff-lt-mul (down-pos e) .1 (lt-of-lt-of-le (mul-lt-mul-of-pos-right h (pow-pos 1074)) (le-of-eq (swap (down e) (2 ^ 1024) (2 ^ 1074) (2 ^ 2098) refl))) in
+    small (size n) (n / 2 ^ (size n - 53)) (size-le n 2098 top) (kept-lt 53 n)
+  where
+    swap : (d x y z : ℕ) → z ≡ x * y → x * d * y ≡ z * d
+    swap d x y z k = omega (arith, ap (λ (i : ℕ). i * d) k)
+
+    small : (z r : ℕ) → z ≤ 2098 → r < 2 ^ 53 → 0 + (z - 53) * 2 ^ 52 + r < 2047 * 2 ^ 52
+    small z r h k = omega arith
+
+-- a value above zero
+module _ (x : Float) (F : fits binary64 x ≡ true) (N : ne x x ≡ false) (Z : eq x plusZero ≡ false) (L : lt x plusZero ≡ false) where
+  same : ofBits binary64 (toBits binary64 x) ≡ x
+  same = ofBits-toBits binary64 x (of-eq F)
+
+  no-bits : toBits binary64 x ≡ 0 → ⊥
+  unfolding ofBits eq
+  no-bits e = true≢false (sym (ap (λ (y : Float). eq y plusZero) (sym same ∙ ap (ofBits binary64) e)) ∙ Z)
+
+  pub bits-pos : 0 < toBits binary64 x
+  bits-pos = elim (eq-zero-or-pos (toBits binary64 x)) [ inl e ↦ absurd (no-bits e) | inr p ↦ p ]
+
+  pub root-pattern : toBits binary64 x < 2047 * 2 ^ 52 → ofBits binary64 (rootBits (toBits binary64 x)) ≡ squareRoot x
+  root-pattern h = sym (ap squareRoot (sym same) ∙ root-bits (toBits binary64 x) bits-pos h)
+
+pub is-number : (x : Float) → ne x x ≡ false → T (not (isNan x))
+unfolding ne isNan
+is-number nan h = absurd (true≢false h)
+is-number (inf s) h = tt
+is-number (fin s m e) h = tt
+
+pub root-infinite : (x : Float) → fits binary64 x ≡ true → ne x x ≡ false → eq x plusZero ≡ false → lt x plusZero ≡ false → 2047 * 2 ^ 52 ≤ toBits binary64 x → x ≡ squareRoot x
+unfolding squareRoot lt isNan
+root-infinite nan F N Z L h = absurd (is-number nan N)
+root-infinite (inf true) F N Z L h = absurd (true≢false L)
+root-infinite (inf false) F N Z L h = refl
+root-infinite (fin s zero e) F N Z L h = refl
+root-infinite (fin false (suc m) e) F N Z L h = absurd (not-le-of-lt (bits-finite (suc m) e (fits-parts binary64 false m e (of-eq F) .2)) h)
+root-infinite (fin true (suc m) e) F N Z L h = clash (is-true (ltb 0 (suc m * up e * 1 + 0 * down e)) (lt→ltb 0 (suc m * up e * 1 + 0 * down e) (lt-of-lt-of-le (mul-pos (mul-pos (zero-lt-suc m) (up-pos e)) (zero-lt-suc 0)) (native.Mathlib.Nat.le-add-right (suc m * up e * 1) (0 * down e))))) L
+
+-- ---- a wholeRoot fits
+whole-fits : (m : ℕ) (e : ℤ) → T (fits binary64 (fin false (suc m) e)) → T (fits binary64 (squareRoot (fin false (suc m) e)))
+unfolding isZero isNan lt
+whole-fits m e t =
+    let x = fin false (suc m) e in
+    let b = toBits binary64 x in
+    let p = root-pattern x (is-true (fits binary64 x) t) (same-ne m e) (apart m e) (above m e) (bits-finite (suc m) e (fits-parts binary64 false m e t .2)) in
+    subst (λ (y : Float). T (fits binary64 y)) p (ofBits-fits binary64 (rootBits b))
+  where
+    same-ne : (m : ℕ) (e : ℤ) → ne (fin false (suc m) e) (fin false (suc m) e) ≡ false
+    same-ne m e = is-false (ne (fin false (suc m) e) (fin false (suc m) e)) (not-T (ne (fin false (suc m) e) (fin false (suc m) e)) (λ q. subst (λ (y : Float). T (not (isNan y))) (differs-from-itself (fin false (suc m) e) q) tt))
+
+    never : (m : ℕ) → suc m ≡ 0 → ⊥
+    never m h = omega arith
+
+    apart : (m : ℕ) (e : ℤ) → eq (fin false (suc m) e) plusZero ≡ false
+    apart m e = is-false (eq (fin false (suc m) e) plusZero) (not-T (eq (fin false (suc m) e) plusZero) (λ q. never m (zero-of-test (fin false (suc m) e) q)))
+
+    above : (m : ℕ) (e : ℤ) → lt (fin false (suc m) e) plusZero ≡ false
+    above m e = is-false (ltb (suc m * up e * 1) (0 * down e)) (not-T (ltb (suc m * up e * 1) (0 * down e)) (not-below (suc m * up e * 1) (down e)))
+
+pub root-fits : (x : Float) → T (fits binary64 x) → T (fits binary64 (squareRoot x))
+unfolding squareRoot fits
+root-fits nan t = tt
+root-fits (inf true) t = tt
+root-fits (inf false) t = tt
+root-fits (fin s zero e) t = t
+root-fits (fin true (suc m) e) t = tt
+root-fits (fin false (suc m) e) t = whole-fits m e t
+
+-- the binary exponent of a value that is not zero, more 1074: from 2 ^ n units on, and below twice that
+pub full-within : (x : Float) (M n : ℕ) → Full M → HasValue x false (M * 2 ^ n) (2 ^ 1126) → Within binary64 n (suc n) x
+full-within nan M n F v = v
+full-within (inf s) M n F v = v
+full-within (fin s m e) M n F v = (
+  lower m (up e) (down e) M (2 ^ n) (2 ^ 52) (2 ^ 1074) (2 ^ 1126) (pow-pos 52) refl (v .1) (F .0),
+  upper m (up e) (down e) M (2 ^ n) (2 ^ suc n) (2 ^ 52) (2 ^ 1074) (2 ^ 1126) (2 ^ 53) (down-pos e) (pow-pos n) refl (pow-suc 2 n) refl (v .1) (F .1),
+)
+  where
+    lower : (m u d M N P Q R : ℕ) → 0 < P → R ≡ P * Q → m * u * R ≡ M * N * d → P ≤ M → N * d ≤ m * u * Q
+    lower m u d M N P Q R P0 r h k = le-of-mul-le-mul-right (le-trans (le-of-eq (mul-comm (N * d) P)) (le-trans (mul-le-mul-right (N * d) k) (le-of-eq (fold m u d M N P Q R r h)))) P0
+      where
+        fold : (m u d M N P Q R : ℕ) → R ≡ P * Q → m * u * R ≡ M * N * d → M * (N * d) ≡ m * u * Q * P
+        fold m u d M N P Q R r h = omega (arith, h, ap (λ (x : ℕ). m * u * x) r)
+
+    upper : (m u d M N N' P Q R S : ℕ) → 0 < d → 0 < N → R ≡ P * Q → N' ≡ N * 2 → S ≡ P * 2 → m * u * R ≡ M * N * d → M < S → m * u * Q < N' * d
+    upper m u d M N N' P Q R S D Np r n s h k = lt-of-mul-lt-mul-right P (lt-of-le-of-lt (le-of-eq (fold m u d M N P Q R r h)) (lt-of-lt-of-le (mul-lt-mul-of-pos-right k (mul-pos Np D)) (le-of-eq (last N d P N' S n s))))
+      where
+        fold : (m u d M N P Q R : ℕ) → R ≡ P * Q → m * u * R ≡ M * N * d → m * u * Q * P ≡ M * (N * d)
+        fold m u d M N P Q R r h = omega (arith, h, ap (λ (x : ℕ). m * u * x) r)
+
+        last : (N d P N' S : ℕ) → N' ≡ N * 2 → S ≡ P * 2 → S * (N * d) ≡ N' * d * P
+        last N d P N' S n s = omega (arith, ap (λ (x : ℕ). x * (N * d)) s, ap (λ (x : ℕ). x * d * P) n)

@@ -1,0 +1,18 @@
+-- `arithmetic::step::div` meets its contract.
+use Rattle.arithmetic.specs.Marks.{markedDiv}
+use borrow.Author.Needs.{needs}
+use Rattle.arithmetic.proofs.step.div.Statement.{statement}
+use Rattle.arithmetic.proofs.step.div.Tie as tie
+
+step-mark-requires : tie.Need-step-mark-requires
+step-mark-requires c κs = search needs
+
+lost-quotient-requires : tie.Need-lost-quotient-requires
+lost-quotient-requires c κs = search needs
+
+returns : tie.Need-returns
+unfolding markedDiv
+returns c = cc
+
+pub div-spec : {M : Type 1} → statement M
+div-spec = tie.close (tie.spec step-mark-requires lost-quotient-requires returns)

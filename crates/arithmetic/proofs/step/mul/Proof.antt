@@ -1,0 +1,18 @@
+-- `arithmetic::step::mul` meets its contract.
+use Rattle.arithmetic.specs.Marks.{markedMul}
+use borrow.Author.Needs.{needs}
+use Rattle.arithmetic.proofs.step.mul.Statement.{statement}
+use Rattle.arithmetic.proofs.step.mul.Tie as tie
+
+step-mark-requires : tie.Need-step-mark-requires
+step-mark-requires c κs = search needs
+
+lost-product-requires : tie.Need-lost-product-requires
+lost-product-requires c κs = search needs
+
+returns : tie.Need-returns
+unfolding markedMul
+returns c = cc
+
+pub mul-spec : {M : Type 1} → statement M
+mul-spec = tie.close (tie.spec step-mark-requires lost-product-requires returns)

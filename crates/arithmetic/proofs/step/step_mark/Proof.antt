@@ -1,0 +1,22 @@
+-- `arithmetic::step::step_mark` meets its contract.
+use Rattle.arithmetic.specs.Marks.{stepMark}
+use borrow.Author.Needs.{needs}
+use Rattle.arithmetic.proofs.step.step_mark.Statement.{statement}
+use Rattle.arithmetic.proofs.step.step_mark.Tie as tie
+
+in-range-requires : tie.Need-in-range-requires
+in-range-requires c κs = search needs
+
+in-range-requires-2 : tie.Need-in-range-requires-2
+in-range-requires-2 c κs = search needs
+
+in-range-requires-3 : tie.Need-in-range-requires-3
+in-range-requires-3 c κs = search needs
+
+returns : tie.Need-returns
+unfolding stepMark
+returns c = cc
+
+pub step-mark-spec : {M : Type 1} → statement M
+step-mark-spec =
+    tie.close (tie.spec in-range-requires in-range-requires-2 in-range-requires-3 returns)

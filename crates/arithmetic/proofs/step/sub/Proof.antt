@@ -1,0 +1,15 @@
+-- `arithmetic::step::sub` meets its contract.
+use Rattle.arithmetic.specs.Marks.{markedSub}
+use borrow.Author.Needs.{needs}
+use Rattle.arithmetic.proofs.step.sub.Statement.{statement}
+use Rattle.arithmetic.proofs.step.sub.Tie as tie
+
+step-mark-requires : tie.Need-step-mark-requires
+step-mark-requires c κs = search needs
+
+returns : tie.Need-returns
+unfolding markedSub
+returns c = cc
+
+pub sub-spec : {M : Type 1} → statement M
+sub-spec = tie.close (tie.spec step-mark-requires returns)

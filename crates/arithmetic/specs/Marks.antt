@@ -1,0 +1,61 @@
+-- Marked numbers (document 01: "A marked number is a value together with its mark") and the marked steps, those that bear an M.
+use mathlib.Core.Bool.{Bool, true, false, not, _&&_, _||_}
+use lib.IntN.{ℤ, pos, negsuc}
+use lib.Ieee.{Float, fin, binary64, neg, add, sub, mul, div, lt, le}
+use Rattle.arithmetic.specs.declared.Marked.{Marked}
+use Rattle.arithmetic.specs.Numbers.{magnitude, isZero}
+use Rattle.arithmetic.specs.SquareRoot.{squareRoot}
+
+-- 2 ^ -800 and 2 ^ 801
+abbrev pub least : Float
+least = fin false 1 (negsuc 799)
+
+abbrev pub limit : Float
+limit = fin false 1 (pos 801)
+
+-- x is a zero, or finite with a binary exponent from -800 to 800: 2 ^ -800 ≤ |x| < 2 ^ 801
+unfoldable pub inRange : Float → Bool
+inRange x = isZero x || (le least (magnitude x) && lt (magnitude x) limit)
+
+-- a value and a mark
+abbrev pub marked : Float → Bool → Marked
+marked x b = record { value = x; inside = b }
+
+-- an input or a constant: no step led to it
+abbrev pub given : Float → Marked
+given x = marked x true
+
+-- the mark of a step on a and b with the rounded result r: both operands are inside and in range, and the result is in range
+unfoldable pub stepMark : Marked → Marked → Float → Bool
+stepMark a b r = a .inside && b .inside && (inRange (a .value) && inRange (b .value)) && inRange r
+
+-- "no product of nonzero factors, nor quotient of a nonzero numerator, is zero"
+unfoldable pub lostProduct : Float → Float → Float → Bool
+lostProduct x y r = isZero r && (not (isZero x) && not (isZero y))
+
+unfoldable pub lostQuotient : Float → Float → Bool
+lostQuotient x r = isZero r && not (isZero x)
+
+unfoldable pub markedAdd : Marked → Marked → Marked
+markedAdd a b = let r = add binary64 (a .value) (b .value) in marked r (stepMark a b r)
+
+unfoldable pub markedSub : Marked → Marked → Marked
+markedSub a b = let r = sub binary64 (a .value) (b .value) in marked r (stepMark a b r)
+
+unfoldable pub markedMul : Marked → Marked → Marked
+markedMul a b = let r = mul binary64 (a .value) (b .value) in marked r (stepMark a b r && not (lostProduct (a .value) (b .value) r))
+
+unfoldable pub markedDiv : Marked → Marked → Marked
+markedDiv a b = let r = div binary64 (a .value) (b .value) in marked r (stepMark a b r && not (lostQuotient (a .value) r))
+
+unfoldable pub markedRoot : Marked → Marked
+markedRoot a = let r = squareRoot (a .value) in marked r (a .inside && inRange (a .value) && inRange r)
+
+-- ---- what rounds nothing is no step and keeps the mark
+-- the sign changed
+unfoldable pub markedNeg : Marked → Marked
+markedNeg a = marked (neg (a .value)) (a .inside)
+
+-- the number a, whose mark counts b's too: what is compared or dropped is still counted
+unfoldable pub also : Marked → Marked → Marked
+also a b = marked (a .value) (a .inside && b .inside)

@@ -1,0 +1,123 @@
+// The marked steps: + - * / and the square root on numbers that carry their mark.
+ghost use mathlib.Core.Path.{_≡_};
+ghost use Rattle.arithmetic.specs.Marks.{inRange, stepMark, lostProduct, lostQuotient, given, markedAdd, markedSub, markedMul, markedDiv, markedRoot, markedNeg, also};
+use crate::Marked;
+use crate::plain::is_zero;
+use crate::plain::magnitude;
+use crate::root::sqrt;
+
+// 2^-800 and 2^801.
+const LEAST: f64 = 1.499696813895631e-241;
+
+const LIMIT: f64 = 1.333602886575971e+241;
+
+// Zero, or of a binary exponent from -800 to 800.
+pub fn in_range(x: f64) -> bool
+    ensures { λ r. ⌜ r ≡ inRange x ⌝ }
+{
+    let m = magnitude(x);
+    let a = LEAST <= m;
+    let b = m < LIMIT;
+    is_zero(x) | (a & b)
+}
+
+// The mark of a step on a and b with the rounded result r.
+pub fn step_mark(a: Marked, b: Marked, r: f64) -> bool
+    ensures { λ q. ⌜ q ≡ stepMark a b r ⌝ }
+{
+    a.inside & b.inside & (in_range(a.value) & in_range(b.value)) & in_range(r)
+}
+
+// Whether r is a zero product of factors that are not zero.
+pub fn lost_product(x: f64, y: f64, r: f64) -> bool
+    ensures { λ q. ⌜ q ≡ lostProduct x y r ⌝ }
+{
+    is_zero(r) & (!is_zero(x) & !is_zero(y))
+}
+
+// Whether r is a zero quotient of a numerator that is not zero.
+pub fn lost_quotient(x: f64, r: f64) -> bool
+    ensures { λ q. ⌜ q ≡ lostQuotient x r ⌝ }
+{
+    is_zero(r) & !is_zero(x)
+}
+
+// An input or a constant: no step led to it.
+pub fn given(x: f64) -> Marked
+    ensures { λ r. ⌜ r ≡ given x ⌝ }
+{
+    Marked {
+        value: x,
+        inside: true,
+    }
+}
+
+pub fn add(a: Marked, b: Marked) -> Marked
+    ensures { λ r. ⌜ r ≡ markedAdd a b ⌝ }
+{
+    let r = a.value + b.value;
+    Marked {
+        value: r,
+        inside: step_mark(a, b, r),
+    }
+}
+
+pub fn sub(a: Marked, b: Marked) -> Marked
+    ensures { λ r. ⌜ r ≡ markedSub a b ⌝ }
+{
+    let r = a.value - b.value;
+    Marked {
+        value: r,
+        inside: step_mark(a, b, r),
+    }
+}
+
+pub fn mul(a: Marked, b: Marked) -> Marked
+    ensures { λ r. ⌜ r ≡ markedMul a b ⌝ }
+{
+    let r = a.value * b.value;
+    Marked {
+        value: r,
+        inside: step_mark(a, b, r) & !lost_product(a.value, b.value, r),
+    }
+}
+
+pub fn div(a: Marked, b: Marked) -> Marked
+    ensures { λ r. ⌜ r ≡ markedDiv a b ⌝ }
+{
+    let r = a.value / b.value;
+    Marked {
+        value: r,
+        inside: step_mark(a, b, r) & !lost_quotient(a.value, r),
+    }
+}
+
+pub fn square_root(a: Marked) -> Marked
+    ensures { λ r. ⌜ r ≡ markedRoot a ⌝ }
+{
+    let r = sqrt(a.value);
+    Marked {
+        value: r,
+        inside: a.inside & in_range(a.value) & in_range(r),
+    }
+}
+
+// The sign changed: no step.
+pub fn negated(a: Marked) -> Marked
+    ensures { λ r. ⌜ r ≡ markedNeg a ⌝ }
+{
+    Marked {
+        value: -a.value,
+        inside: a.inside,
+    }
+}
+
+// The number a, whose mark counts b's too.
+pub fn also(a: Marked, b: Marked) -> Marked
+    ensures { λ r. ⌜ r ≡ also a b ⌝ }
+{
+    Marked {
+        value: a.value,
+        inside: a.inside & b.inside,
+    }
+}
