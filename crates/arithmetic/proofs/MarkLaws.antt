@@ -11,15 +11,16 @@ use lib.Dec.{T, lit≤}
 use lib.Ieee.{Float, binary64, fits, neg, add, sub, mul, div}
 use lib.Ieee.Fits.{and-l, and-r, neg-fits}
 use Rattle.arithmetic.specs.declared.Marked.{Marked}
-use Rattle.arithmetic.specs.Numbers.{isZero}
+use Rattle.arithmetic.specs.Numbers.{magnitude, isZero}
 use Rattle.arithmetic.specs.Scale.{scale}
 use Rattle.arithmetic.specs.SquareRoot.{squareRoot}
-use Rattle.arithmetic.specs.Marks.{inRange, given, stepMark, lostProduct, lostQuotient, markedAdd, markedSub, markedMul, markedDiv, markedRoot, markedNeg, also}
+use Rattle.arithmetic.specs.Marks.{inRange, given, stepMark, lostProduct, lostQuotient, markedAdd, markedSub, markedMul, markedDiv, markedRoot, markedNeg, markedMagnitude, also}
 use Rattle.arithmetic.proofs.ScaleLaws.{scale-neg}
 use Rattle.arithmetic.proofs.Operations.{Zero, Safe}
 use Rattle.arithmetic.proofs.Rounding.{Within}
 use Rattle.arithmetic.proofs.Ranges.{safe-within, zero-safe}
 use Rattle.arithmetic.proofs.RangeTest.{or-cases, zero-of-test, test-of-zero, range-cases}
+use Rattle.arithmetic.proofs.PlainLaws.{magnitude-scale, magnitude-fits}
 use Rattle.arithmetic.proofs.Tied.{Tied, add-tied, sub-tied, mul-tied, div-tied}
 use Rattle.arithmetic.proofs.RootWhole.{root-scale}
 use Rattle.arithmetic.proofs.RootCases.{root-fits}
@@ -85,6 +86,10 @@ root-bears a h =
 pub neg-bears : {t : ℕ} (a : Marked) → Bears t (markedNeg a) → Bears t a
 unfolding markedNeg
 neg-bears a h = at h (h .mark)
+
+pub magnitude-bears : {t : ℕ} (a : Marked) → Bears t (markedMagnitude a) → Bears t a
+unfolding markedMagnitude
+magnitude-bears a h = at h (h .mark)
 
 pub also-bears : {t : ℕ} (a b : Marked) → Bears t (also a b) → Bears t a × Bears t b
 unfolding also
@@ -177,6 +182,12 @@ module _ {t : ℕ} where
   neg-moves u a a' p h =
       let k = p (at h (h .mark)) in
       record { fine = neg-fits binary64 (a .value) (k .fine); moved = ap neg (k .moved) ∙ scale-neg u (a .value) }
+
+  pub magnitude-moves : (u : ℤ) (a a' : Marked) → Moves t u a a' → Moves t u (markedMagnitude a) (markedMagnitude a')
+  unfolding markedMagnitude
+  magnitude-moves u a a' p h =
+      let k = p (at h (h .mark)) in
+      record { fine = magnitude-fits (a .value) (k .fine); moved = ap magnitude (k .moved) ∙ magnitude-scale u (a .value) }
 
   pub also-moves : (u : ℤ) (a b a' b' : Marked) → Moves t u a a' → Moves t u (also a b) (also a' b')
   unfolding also

@@ -56,6 +56,10 @@ markedRoot a = let r = squareRoot (a .value) in marked r (a .inside && inRange (
 unfoldable pub markedNeg : Marked → Marked
 markedNeg a = marked (neg (a .value)) (a .inside)
 
+-- the sign cleared
+unfoldable pub markedMagnitude : Marked → Marked
+markedMagnitude a = marked (magnitude (a .value)) (a .inside)
+
 -- the number a, whose mark counts b's too: what is compared or dropped is still counted
 unfoldable pub also : Marked → Marked → Marked
 also a b = marked (a .value) (a .inside && b .inside)

@@ -1,6 +1,6 @@
 // The marked steps: + - * / and the square root on numbers that carry their mark.
 ghost use mathlib.Core.Path.{_≡_};
-ghost use Rattle.arithmetic.specs.Marks.{inRange, stepMark, lostProduct, lostQuotient, given, markedAdd, markedSub, markedMul, markedDiv, markedRoot, markedNeg, also};
+ghost use Rattle.arithmetic.specs.Marks.{inRange, stepMark, lostProduct, lostQuotient, given, markedAdd, markedSub, markedMul, markedDiv, markedRoot, markedNeg, markedMagnitude, also};
 use crate::Marked;
 use crate::plain::is_zero;
 use crate::plain::magnitude;
@@ -108,6 +108,16 @@ pub fn negated(a: Marked) -> Marked
 {
     Marked {
         value: -a.value,
+        inside: a.inside,
+    }
+}
+
+// The sign cleared: no step.
+pub fn unsigned(a: Marked) -> Marked
+    ensures { λ r. ⌜ r ≡ markedMagnitude a ⌝ }
+{
+    Marked {
+        value: magnitude(a.value),
         inside: a.inside,
     }
 }

@@ -1,0 +1,3 @@
+-- The laws of the algebra.
+pub mod FoldLaws
+pub mod TableLaws
