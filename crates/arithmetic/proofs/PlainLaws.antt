@@ -1,14 +1,14 @@
 -- The plain helpers, as the code works them out, and what scaling does to them.
 use mathlib.Core.Path.{_≡_, refl, sym, ap, _∙_, subst}
-use Prim.Native.Nat.{ℕ, zero, suc, _+_, _*_, _^_, _≤_, _<_}
+use Prim.Native.Nat.{ℕ, zero, suc, _+_, _*_, _%_, _^_, _≤_, _<_}
 use native.Mathlib.Nat.{zero-mul, mul-pos, zero-lt-suc, lt-of-lt-of-le}
 use native.Mathlib.Omega.{arith}
 use mathlib.Core.Bool.{Bool, true, false, not, _&&_, cond, true≢false, false≢true}
 use lib.IntN.{ℤ, pos}
 use lib.Dec.{T, ltb, ltb→lt, lt→ltb, not-T}
-use lib.Ieee.{Float, nan, inf, fin, binary64, up, down, lt, eq, ne, le, neg, fits, isNan}
+use lib.Ieee.{Float, nan, inf, fin, binary64, up, down, lt, eq, ne, le, neg, fits, isNan, nanBits, ofBits, toBits}
 use lib.Ieee.Fits.{up-pos, ofInt-fits}
-use lib.Ieee.Bits.{is-true, is-false}
+use lib.Ieee.Bits.{is-true, is-false, nanBits-is, nanBits-above}
 use lib.Ieee.Compare.{differs-from-itself, nan-differs}
 use lib.Ieee.Exact.{HasValue}
 use lib.Ieee.Back.{round-whole}
@@ -19,10 +19,10 @@ use Rattle.arithmetic.proofs.Rounding.{fits-written}
 use Rattle.arithmetic.proofs.RangeTest.{zero-of-test, test-of-zero}
 use Rattle.arithmetic.proofs.ScaleLaws.{lt-scale, eq-scale}
 
-of-eq : {b : Bool} → b ≡ true → T b
+pub of-eq : {b : Bool} → b ≡ true → T b
 of-eq e = subst (λ (c : Bool). T c) (sym e) tt
 
-clash : {b : Bool} {X : Type 0} → b ≡ true → b ≡ false → X
+pub clash : {b : Bool} {X : Type 0} → b ≡ true → b ≡ false → X
 clash p q = absurd (true≢false (sym p ∙ q))
 
 -- ---- the magnitude, by the code's cases
@@ -40,7 +40,7 @@ pub magnitude-zero : (x : Float) → fits binary64 x ≡ true → eq x plusZero 
 unfolding isZero
 magnitude-zero x f h = magnitude-none x (of-eq f) (zero-of-test x (of-eq h))
 
-not-below : (a b : ℕ) → T (ltb a (0 * b)) → ⊥
+pub not-below : (a b : ℕ) → T (ltb a (0 * b)) → ⊥
 not-below a b t = no a (0 * b) (zero-mul b) (ltb→lt a (0 * b) t)
   where
     no : (a z : ℕ) → z ≡ 0 → a < z → ⊥
@@ -89,6 +89,31 @@ finite-test nan = refl
 finite-test (inf true) = refl
 finite-test (inf false) = refl
 finite-test (fin s m e) = refl
+
+-- ---- bit patterns
+pattern-nan : (x : Float) → T (isNan x) → x ≡ nan
+unfolding isNan
+pattern-nan nan t = refl
+pattern-nan (inf s) t = absurd t
+pattern-nan (fin s m e) t = absurd t
+
+-- a pattern above the infinity's, its sign apart, is a NaN's, and no other is
+pub bits-nan : (b : ℕ) → 2047 * 2 ^ 52 < b % 2 ^ 63 → nan ≡ ofBits binary64 b
+bits-nan b h = sym (pattern-nan (ofBits binary64 b) (subst T (sym (nanBits-above binary64 b) ∙ nanBits-is binary64 b) (lt→ltb (2047 * 2 ^ 52) (b % 2 ^ 63) h)))
+
+pub bits-number : (b : ℕ) → b % 2 ^ 63 ≤ 2047 * 2 ^ 52 → T (not (nanBits binary64 b))
+bits-number b h = subst (λ (c : Bool). T (not c)) (sym (nanBits-above binary64 b)) (not-T (ltb (2047 * 2 ^ 52) (b % 2 ^ 63)) (λ q. over (b % 2 ^ 63) h (ltb→lt (2047 * 2 ^ 52) (b % 2 ^ 63) q)))
+  where
+    over : (x : ℕ) → x ≤ 2047 * 2 ^ 52 → 2047 * 2 ^ 52 < x → ⊥
+    over x h k = omega arith
+
+-- what is written for a NaN
+pub bits-of-nan : (x : Float) → ne x x ≡ true → 0x7ff8000000000000 ≡ toBits binary64 x
+unfolding toBits
+bits-of-nan x h = sym (ap (toBits binary64) (differs-from-itself x (of-eq h)))
+
+pub is-number : (x : Float) → ne x x ≡ false → T (not (isNan x))
+is-number x h = subst (λ (c : Bool). T (not c)) (sym h ∙ nan-test x) tt
 
 -- a count up to 2 ^ 53 is exact
 pub count-exact : (n : ℕ) → n ≤ 2 ^ 53 → HasValue (ofCount n) false n 1

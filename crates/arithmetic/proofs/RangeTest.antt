@@ -202,3 +202,9 @@ exponent-range (fin s m d) e h k =
 pub zero-range : (x : Float) → Zero x → T (inRange x)
 unfolding inRange
 zero-range x z = or-left (isZero x) (le least (magnitude x) && lt (magnitude x) limit) (test-of-zero x z)
+
+-- the ends: 2 ^ -800 and the last f64 below 2 ^ 801 are in; the last f64 below 2 ^ -800 and 2 ^ 801 are out
+pub range-ends :
+    (inRange (fin false 1 (negsuc 799)) ≡ true) × (inRange (fin true 9007199254740991 (pos 748)) ≡ true) × (inRange (fin true 9007199254740991 (negsuc 852)) ≡ false) × (inRange (fin false 1 (pos 801)) ≡ false)
+unfolding inRange isZero magnitude le lt eq
+range-ends = (refl, refl, refl, refl)

@@ -17,17 +17,12 @@ use lib.Ieee.Exact.{HasValue}
 use Rattle.arithmetic.specs.Numbers.{plusZero, isZero}
 use Rattle.arithmetic.proofs.Operations.{Zero}
 use Rattle.arithmetic.proofs.RangeTest.{zero-of-test, test-of-zero}
+use Rattle.arithmetic.proofs.PlainLaws.{is-number, of-eq, clash, not-below}
 use Rattle.arithmetic.proofs.PowerOfTwo.{fits-parts}
 use Rattle.arithmetic.specs.SquareRoot.{squareRoot, Full}
 use Rattle.arithmetic.specs.RootPattern.{rootBits}
 use Rattle.arithmetic.proofs.RootPatterns.{root-bits}
 use Rattle.arithmetic.proofs.Rounding.{Within}
-
-of-eq : {b : Bool} → b ≡ true → T b
-of-eq e = subst (λ (c : Bool). T c) (sym e) tt
-
-clash : {b : Bool} {X : Type 0} → b ≡ true → b ≡ false → X
-clash p q = absurd (true≢false (sym p ∙ q))
 
 pub root-nan : (x : Float) → ne x x ≡ true → x ≡ squareRoot x
 unfolding squareRoot
@@ -42,12 +37,6 @@ root-of-zero (fin s m e) z = ap (λ (k : ℕ). fin s k e) z ∙ sym (ap (λ (k :
 pub root-zero : (x : Float) → eq x plusZero ≡ true → x ≡ squareRoot x
 unfolding isZero
 root-zero x h = root-of-zero x (zero-of-test x (of-eq h))
-
-not-below : (a b : ℕ) → T (ltb a (0 * b)) → ⊥
-not-below a b t = no a (0 * b) (zero-mul b) (ltb→lt a (0 * b) t)
-  where
-    no : (a z : ℕ) → z ≡ 0 → a < z → ⊥
-    no a z e h = omega arith
 
 pub root-negative : (x : Float) → eq x plusZero ≡ false → lt x plusZero ≡ true → nan ≡ squareRoot x
 unfolding squareRoot lt
@@ -86,12 +75,6 @@ module _ (x : Float) (F : fits binary64 x ≡ true) (N : ne x x ≡ false) (Z : 
 
   pub root-pattern : toBits binary64 x < 2047 * 2 ^ 52 → ofBits binary64 (rootBits (toBits binary64 x)) ≡ squareRoot x
   root-pattern h = sym (ap squareRoot (sym same) ∙ root-bits (toBits binary64 x) bits-pos h)
-
-pub is-number : (x : Float) → ne x x ≡ false → T (not (isNan x))
-unfolding ne isNan
-is-number nan h = absurd (true≢false h)
-is-number (inf s) h = tt
-is-number (fin s m e) h = tt
 
 pub root-infinite : (x : Float) → fits binary64 x ≡ true → ne x x ≡ false → eq x plusZero ≡ false → lt x plusZero ≡ false → 2047 * 2 ^ 52 ≤ toBits binary64 x → x ≡ squareRoot x
 unfolding squareRoot lt isNan

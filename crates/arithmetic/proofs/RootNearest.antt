@@ -1,7 +1,7 @@
--- What correctly rounded means: the wholeRoot of a positive value x that fits is q * 2 ^ H with q of 53 digits, 4 x is N * 2 ^ (2 H), and 2 q is less than 1 from the wholeRoot of N.
+-- The theorem that the square root is correctly rounded, for every positive finite argument (`CorrectlyRounded` says what that means), and that no tie occurs.
 use mathlib.Core.Path.{_≡_, refl, sym, ap, _∙_, subst}
 use Prim.Native.Nat.{ℕ, zero, suc, _+_, _-_, _*_, _/_, _%_, _^_, _≤_, _<_}
-use native.Mathlib.Nat.{lt-of-lt-of-le, le-of-lt, mul-one, one-mul, mul-pos, mul-assoc, mul-comm, eq-of-mul-eq-mul-right, zero-lt-suc, mul-mod-left}
+use native.Mathlib.Nat.{lt-irrefl, lt-of-lt-of-le, le-of-lt, mul-one, one-mul, mul-pos, mul-assoc, mul-comm, eq-of-mul-eq-mul-right, zero-lt-suc, mul-mod-left}
 use native.Mathlib.Omega.{arith}
 use mathlib.Core.Bool.{Bool, true, false, cond}
 use lib.IntN.{ℤ, pos, negsuc, negℤ, predℤ, _+ℤ_, _-ℤ_, +ℤ-assoc, +ℤ-comm, +ℤ-idr, +ℤ-predℤ, predℤ-+ℤ}
@@ -107,3 +107,7 @@ root-nearest m e t =
 
         a3 : m * 4 * d * z * (A * P * D) ≡ m * z * (P * 4) * A * d * D
         a3 = omega arith
+
+-- no tie occurs: twice the root's 54th digit is never exactly half of a last digit
+pub root-no-tie : {x y : Float} (r : CorrectlyRounded x y) → ((2 * r .q + 1) * (2 * r .q + 1) ≡ r .N → ⊥) × ((2 * r .q - 1) * (2 * r .q - 1) ≡ r .N → ⊥)
+root-no-tie r = (λ e. lt-irrefl (r .N) (subst (λ (n : ℕ). r .N < n) e (r .near .1)), λ e. lt-irrefl (r .N) (subst (λ (n : ℕ). n < r .N) e (r .near .0)))

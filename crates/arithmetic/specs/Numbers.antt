@@ -1,4 +1,5 @@
 -- Plain f64 numbers. `Float` is an f64's value: a NaN, an infinity by its sign, or `fin s m e`, which is m * 2 ^ e with the sign s (true is minus).
+-- A bit pattern is read by `ofBits binary64` and written by `toBits binary64` of `lib.Ieee`; every NaN is written as 7ff8000000000000.
 -- The operations + - * / are `add`, `sub`, `mul`, `div` of `lib.Ieee` at `binary64`: each rounds once, to nearest even (document 01, "Each + - * / rounds once").
 use Prim.Native.Nat.{ℕ}
 use mathlib.Core.Bool.{Bool, true, false, cond}

@@ -1,7 +1,7 @@
 // Plain f64 numbers: what rounds nothing.
 ghost use mathlib.Core.Path.{_≡_};
 ghost use Prim.Native.Nat.{_^_, _≤_};
-ghost use lib.Ieee.{isNan};
+ghost use lib.Ieee.{isNan, ofBits, toBits, binary64};
 ghost use Rattle.arithmetic.specs.Numbers.{magnitude, isZero, isFinite, sign, isLarger, ofCount};
 
 // The value without its sign, of -0 too.
@@ -55,4 +55,24 @@ pub fn of_count(n: usize) -> f64
     ensures { λ r. ⌜ r ≡ ofCount n ⌝ }
 {
     n as f64
+}
+
+// The number of a bit pattern. Each pattern above the infinity's is a NaN's, whatever its sign.
+pub fn of_bits(b: u64) -> f64
+    ensures { λ r. ⌜ r ≡ ofBits binary64 b ⌝ }
+{
+    if 9218868437227405312 < b % 9223372036854775808 {
+        return 0.0 / 0.0;
+    }
+    f64::from_bits(b)
+}
+
+// The bit pattern of a number, of every NaN the same one.
+pub fn to_bits(x: f64) -> u64
+    ensures { λ r. ⌜ r ≡ toBits binary64 x ⌝ }
+{
+    if x != x {
+        return 9221120237041090560;
+    }
+    f64::to_bits(x)
 }

@@ -6,7 +6,8 @@ use Prim.Native.Nat.{ℕ}
 use lib.Dec.{T}
 use lib.Ieee.{ofBits, div, binary64, nanBits, toBits}
 use Rattle.arithmetic.proofs.RootPatterns.{no-nan, bits-lt}
-use Rattle.arithmetic.proofs.RootCases.{root-nan, root-zero, root-negative, is-number, bits-pos, root-pattern, root-infinite}
+use Rattle.arithmetic.proofs.PlainLaws.{is-number}
+use Rattle.arithmetic.proofs.RootCases.{root-nan, root-zero, root-negative, bits-pos, root-pattern, root-infinite}
 use Rattle.arithmetic.proofs.root.sqrt.Statement.{statement}
 use Rattle.arithmetic.proofs.root.sqrt.Tie as tie
 
