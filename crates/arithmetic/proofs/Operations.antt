@@ -177,7 +177,7 @@ units-zero f s q k = go (ltb (q * 2 ^ k) (2 ^ (low f + suc (emax f))))
 round-to-zero : (f : Format) (s : Bool) (a c : ℕ) → Zero (round f s a c) → grid f a c ≡ 0
 round-to-zero f s a c z = units-zero f s (kept (prec f) (a * 2 ^ low f) c) (drop (prec f) (a * 2 ^ low f) c) (subst Zero (round-is f s a c) z)
 
-size-pos : (n : ℕ) → 1 ≤ n → 0 < size n
+pub size-pos : (n : ℕ) → 1 ≤ n → 0 < size n
 size-pos n h = native.Mathlib.Nat.lt-of-not-le (λ (g : size n ≤ 0). native.Mathlib.Nat.not-le-of-lt (lt-of-lt-of-le (lib.Ieee.Digits.size-lt n) (pow-mono g)) h)
 
 fewer : (z p : ℕ) → 0 < p → 0 < z → z - p < z

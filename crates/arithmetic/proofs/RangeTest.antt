@@ -16,7 +16,7 @@ use Rattle.arithmetic.specs.Scale.{HasExponent}
 use Rattle.arithmetic.specs.Marks.{least, limit, inRange}
 use Rattle.arithmetic.proofs.ScaleLaws.{up-add}
 use Rattle.arithmetic.proofs.Rounding.{Within}
-use Rattle.arithmetic.proofs.Operations.{Zero}
+use Rattle.arithmetic.proofs.Operations.{size-pos, Zero}
 
 pub or-cases : (a b : Bool) → T (a || b) → T a ⊎ T b
 or-cases true b t = inl tt
@@ -111,9 +111,6 @@ range-cases x t = go (or-cases (isZero x) (le least (magnitude x) && lt (magnitu
 -- ---- the binary exponent: m * 2 ^ d, m of z digits, has the exponent d + z - 1
 last : (z : ℕ) → 0 < z → (z - 1 < z) × (suc (z - 1) ≡ z)
 last z h = omega arith
-
-size-pos : (n : ℕ) → 0 < n → 0 < size n
-size-pos n h = lt-of-not-le (λ (g : size n ≤ 0). not-le-of-lt (lt-of-lt-of-le (size-lt n) (pow-mono g)) h)
 
 lower-end : (u d p m U D : ℕ) → U * (d * 1) ≡ u * p * D → p ≤ m → U * d ≤ m * u * D
 lower-end u d p m U D h k = le-trans (le-of-eq (ap (λ (x : ℕ). U * x) (sym (mul-one d)) ∙ h ∙ swap u p D)) (le-trans (mul-le-mul-right (u * D) k) (le-of-eq (sym (mul-assoc m u D))))

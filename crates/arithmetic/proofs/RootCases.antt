@@ -1,4 +1,4 @@
--- The wholeRoot by cases, as the code goes: a NaN, a zero, a negative value, an infinity, and a pattern.
+-- The root by cases, as the code goes: a NaN, a zero, a negative value, an infinity, and a pattern.
 use mathlib.Core.Path.{_≡_, refl, sym, ap, _∙_, subst}
 use Prim.Native.Nat.{ℕ, zero, suc, _+_, _-_, _*_, _/_, _%_, _^_, _≤_, _<_}
 use native.Mathlib.Nat.{le-trans, le-of-eq, lt-of-lt-of-le, lt-of-le-of-lt, lt-irrefl, mul-one, mul-pos, mul-assoc, mul-comm, pow-suc, le-of-mul-le-mul-right, lt-of-mul-lt-mul-right, mul-lt-mul-of-pos-right, mul-le-mul-right, zero-lt-suc, zero-mul, div-lt-iff-lt-mul, not-le-of-lt, eq-zero-or-pos, zero-add}
@@ -85,7 +85,7 @@ root-infinite (fin s zero e) F N Z L h = refl
 root-infinite (fin false (suc m) e) F N Z L h = absurd (not-le-of-lt (bits-finite (suc m) e (fits-parts binary64 false m e (of-eq F) .2)) h)
 root-infinite (fin true (suc m) e) F N Z L h = clash (is-true (ltb 0 (suc m * up e * 1 + 0 * down e)) (lt→ltb 0 (suc m * up e * 1 + 0 * down e) (lt-of-lt-of-le (mul-pos (mul-pos (zero-lt-suc m) (up-pos e)) (zero-lt-suc 0)) (native.Mathlib.Nat.le-add-right (suc m * up e * 1) (0 * down e))))) L
 
--- ---- a wholeRoot fits
+-- ---- a root fits
 whole-fits : (m : ℕ) (e : ℤ) → T (fits binary64 (fin false (suc m) e)) → T (fits binary64 (squareRoot (fin false (suc m) e)))
 unfolding isZero isNan lt
 whole-fits m e t =

@@ -1,4 +1,4 @@
--- The loop that takes a wholeRoot a binary digit at a time: what holds at each turn.
+-- The loop that takes a root a binary digit at a time: what holds at each turn.
 use mathlib.Core.Path.{_≡_, refl, sym, ap, _∙_, subst}
 use Prim.Native.Nat.{ℕ, zero, suc, _+_, _-_, _*_, _/_, _%_, _^_, _≤_, _<_}
 use native.Mathlib.Nat.{lt-of-lt-of-le, le-antisymm, pow-suc}
@@ -8,7 +8,7 @@ use lib.Pow.{pow-mono, shl-lt}
 use Rattle.arithmetic.specs.SquareRoot.{wholeRoot}
 use Rattle.arithmetic.proofs.RootWhole.{Roots, root-roots, roots-unique}
 
--- After i turns r is the wholeRoot of the first 2 i digits of a (64 digits, and zeros after them), rem what is left of these, and `rest` the digits to come.
+-- After i turns r is the root of the first 2 i digits of a (64 digits, and zeros after them), rem what is left of these, and `rest` the digits to come.
 pub record Rooting (a i r rem rest : ℕ) : Type 0 where
   pub turns : i ≤ 54
   pub tail : rest < 2 ^ 64

@@ -15,7 +15,7 @@ use Rattle.arithmetic.specs.Scale.{scale}
 use Rattle.arithmetic.proofs.ScaleLaws.{scale-val, up-add}
 use Rattle.arithmetic.proofs.PowerOfTwo.{fits-parts}
 use Rattle.arithmetic.specs.SquareRoot.{half, parity, missingDigits, radicand, rounded, squareRoot, Near, Full}
-use Rattle.arithmetic.proofs.RootWhole.{half-down, parity-down, rounded-nearest}
+use Rattle.arithmetic.proofs.RootWhole.{swap, half-down, parity-down, rounded-nearest}
 use Rattle.arithmetic.proofs.RootPatterns.{full-of, rounded-full, less-up}
 use Rattle.arithmetic.specs.SquareRoot.{CorrectlyRounded}
 
@@ -40,9 +40,6 @@ half-parity (pos n) = ap pos (two n)
 half-parity (negsuc n) = half-parity-neg n
 
 -- with H = half - 26, E is 2 H + 52 + parity
-swap : (a b c : ℤ) → (a +ℤ b) +ℤ c ≡ (a +ℤ c) +ℤ b
-swap a b c = +ℤ-assoc a b c ∙ ap (λ (x : ℤ). a +ℤ x) (+ℤ-comm b c) ∙ sym (+ℤ-assoc a c b)
-
 twice : (h k : ℤ) → (h +ℤ k) +ℤ (h +ℤ k) ≡ (h +ℤ h) +ℤ (k +ℤ k)
 twice h k = sym (+ℤ-assoc (h +ℤ k) h k) ∙ ap (λ (x : ℤ). x +ℤ k) (swap h k h) ∙ +ℤ-assoc (h +ℤ h) k k
 

@@ -1,4 +1,4 @@
--- The wholeRoot of a positive finite f64 by its bit pattern.
+-- The root of a positive finite f64 by its bit pattern.
 use mathlib.Core.Path.{_≡_, refl, sym, ap, _∙_, subst}
 use Prim.Native.Nat.{ℕ, zero, suc, _+_, _-_, _*_, _/_, _%_, _^_, _≤_, _<_}
 use native.Mathlib.Nat.{le-trans, le-of-eq, le-of-lt, lt-of-lt-of-le, lt-of-le-of-lt, lt-of-not-le, not-le-of-lt, lt-irrefl, le-antisymm, le-of-suc-le-suc, mul-one, one-mul, mul-pos, mul-assoc, mul-comm, mul-le-mul, mul-le-mul-right, mul-lt-mul-of-pos-right, eq-of-mul-eq-mul-right, zero-lt-suc, zero-mul, div-lt-iff-lt-mul, pow-suc, eq-or-lt-of-le}
@@ -18,7 +18,7 @@ use lib.Ieee.Bits.{ofBits-fits, cond-no, is-false, nanBits-above}
 use Rattle.arithmetic.specs.Scale.{scale}
 use Rattle.arithmetic.proofs.ScaleLaws.{scale-scale, scale-val, sub-val, up-add}
 use Rattle.arithmetic.proofs.Rounding.{Written, unique, fits-written, scale-written}
-use Rattle.arithmetic.proofs.Operations.{up-neg, down-neg}
+use Rattle.arithmetic.proofs.Operations.{size-pos, up-neg, down-neg}
 use Rattle.arithmetic.proofs.PowerOfTwo.{fits-parts}
 use Rattle.arithmetic.specs.SquareRoot.{wholeRoot, half, parity, missingDigits, radicand, rounded, rootAt, squareRoot}
 use Rattle.arithmetic.proofs.RootWhole.{Roots, root-roots, roots-unique, below, half-add}
@@ -60,9 +60,6 @@ full-unique m (negsuc i) n (negsuc j) o p h =
 last : (z : ℕ) → 0 < z → z - 1 < z
 last z h = omega arith
 
-size-pos : (n : ℕ) → 1 ≤ n → 0 < size n
-size-pos n h = lt-of-not-le (λ (g : size n ≤ 0). not-le-of-lt (lt-of-lt-of-le (size-lt n) (pow-mono g)) h)
-
 pub full-of : (m : ℕ) → 1 ≤ m → m < 2 ^ 53 → Full (m * 2 ^ missingDigits m)
 full-of m P h =
     let z = size m in
@@ -78,7 +75,7 @@ full-of m P h =
     high : (z : ℕ) → z ≤ 53 → z + (53 - z) ≡ 53
     high z k = omega arith
 
--- ---- a value that is M * 2 ^ n / 2 ^ 1126 has the wholeRoot of M and that exponent
+-- ---- a value that is M * 2 ^ n / 2 ^ 1126 has the root of M and that exponent
 cross-up : (m z U D e' e d M n up' l : ℕ) → 0 < d → 0 < l → m * e * l ≡ M * n * d → U * l ≡ n * D → up' * (d * z) ≡ e * e' → m * z * up' * D ≡ M * U * e'
 cross-up m z U D e' e d M n up' l dp lp v s h =
     eq-of-mul-eq-mul-right (d * l) (mul-pos dp lp) (m * z * up' * D) (M * U * e')
@@ -253,7 +250,7 @@ pattern-is n q N F =
     at : (k t q : ℕ) → suc k < 2047 → 2 ^ 52 + t ≡ q → HasValue (ofFields binary64 false (suc k) t) false (q * 2 ^ k) (2 ^ 1074)
     at k t q l e = subst (λ (x : Float). HasValue x false (q * 2 ^ k) (2 ^ 1074)) (sym (normal-fields k t l)) (subst (λ (x : ℕ). HasValue (odd 53 false (2 ^ 52 + t) k 1074) false (x * 2 ^ k) (2 ^ 1074)) e (odd-sign 53 false (2 ^ 52 + t) k 1074))
 
--- the rounded wholeRoot, scaled, is that pattern's value
+-- the rounded root, scaled, is that pattern's value
 pub root-at : (M n : ℕ) → n < 2099 → Full M → rootAt M (subℕ n 1126) ≡ ofBits binary64 (pattern n (rounded (radicand M (n % 2))))
 root-at M n N F =
     let q = rounded (radicand M (n % 2)) in
@@ -273,7 +270,7 @@ expo-lt zero t h = few (missingDigits t)
     few z = omega arith
 expo-lt (suc k) t h = omega arith
 
--- ---- the law: the wholeRoot of a positive finite value, by patterns
+-- ---- the law: the root of a positive finite value, by patterns
 pub root-bits : (b : ℕ) → 0 < b → b < 2047 * 2 ^ 52 → squareRoot (ofBits binary64 b) ≡ ofBits binary64 (rootBits b)
 unfolding rootBits
 root-bits b P h =
@@ -297,7 +294,7 @@ missing-is t P h =
     sum : (x j z : ℕ) → x + suc j ≡ 64 → z ≡ suc j → z ≤ 53 → (11 ≤ x) × (x ≤ 64) × (x - 11 ≡ 53 - z)
     sum x j z h k l = omega arith
 
--- the argument of the whole wholeRoot
+-- the argument of the whole root
 pub whole-is : (M p : ℕ) → p < 2 → Full M → M * 2 ^ (10 + p) % 2 ^ 64 * 2 ^ 44 ≡ radicand M p
 whole-is M p P F =
     ap (λ (x : ℕ). x * 2 ^ 44) (shl-exact 53 (10 + p) 64 (F .1) (room p P)) ∙ mul-assoc M (2 ^ (10 + p)) (2 ^ 44) ∙ ap (λ (x : ℕ). M * x) (sym (pow-add 2 (10 + p) 44) ∙ ap (λ (x : ℕ). 2 ^ x) (sum p))
@@ -308,7 +305,7 @@ whole-is M p P F =
     sum : (p : ℕ) → 10 + p + 44 ≡ 54 + p
     sum p = omega arith
 
--- its wholeRoot is below 2 ^ 54
+-- its root is below 2 ^ 54
 pub root-small : (M p : ℕ) → p < 2 → Full M → wholeRoot 54 (radicand M p) < 2 ^ 54
 root-small M p P F = small (wholeRoot 54 (radicand M p)) (rounded-full M p P F .1)
   where

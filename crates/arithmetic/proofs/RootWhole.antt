@@ -1,4 +1,4 @@
--- The square wholeRoot, correctly rounded, over whole numbers.
+-- The whole part of a root, half of an exponent, and the nearest: what the square root rests on; and that it goes with scaling.
 use mathlib.Core.Path.{_≡_, refl, sym, ap, _∙_, subst}
 use Prim.Native.Nat.{ℕ, zero, suc, _+_, _-_, _*_, _/_, _%_, _^_, _≤_, _<_}
 use native.Mathlib.Nat.{le-trans, le-of-eq, le-of-lt, lt-of-lt-of-le, lt-of-le-of-lt, lt-of-not-le, not-le-of-lt, lt-irrefl, le-antisymm, le-of-suc-le-suc, mul-one, one-mul, mul-pos, mul-assoc, mul-comm, mul-le-mul, mul-le-mul-right, mul-lt-mul-of-pos-right, zero-lt-suc, zero-mul, div-lt-iff-lt-mul, pow-suc, div-add-mod', mod-lt}
@@ -19,7 +19,7 @@ Roots n r = (r * r ≤ n) × (n < (r + 1) * (r + 1))
 only-zero : (n : ℕ) → n < 1 → 0 * 0 ≤ n
 only-zero n h = omega arith
 
--- with s the wholeRoot of n / 4, the wholeRoot of n is 2 s or 2 s + 1
+-- with s the root of n / 4, the root of n is 2 s or 2 s + 1
 step-low : (s n q : ℕ) → s * s ≤ q → 4 * q ≤ n → 2 * s * (2 * s) ≤ n
 step-low s n q h k = omega (arith, h, k)
 
@@ -109,7 +109,7 @@ half-add k (negsuc (suc n)) =
     twice n = omega arith
 
 -- ---- it goes with scaling, whatever the range
-swap : (a b c : ℤ) → (a +ℤ b) +ℤ c ≡ (a +ℤ c) +ℤ b
+pub swap : (a b c : ℤ) → (a +ℤ b) +ℤ c ≡ (a +ℤ c) +ℤ b
 swap a b c = +ℤ-assoc a b c ∙ ap (λ (x : ℤ). a +ℤ x) (+ℤ-comm b c) ∙ sym (+ℤ-assoc a c b)
 
 rootAt-scale : (M : ℕ) (E v : ℤ) → rootAt M (E +ℤ (v +ℤ v)) ≡ scale v (rootAt M E)
@@ -148,7 +148,7 @@ root-three : squareRoot (fin false 3 (pos 0)) ≡ lib.Ieee.ofBits binary64 0x3FF
 unfolding squareRoot wholeRoot round lib.Ieee.ofBits
 root-three = refl
 
--- ---- the nearest: twice q is within 1 of the wholeRoot of N, for an N that 4 divides
+-- ---- the nearest: twice q is within 1 of the root of N, for an N that 4 divides
 even-step : (N r : ℕ) → N % 4 ≡ 0 → r % 2 ≡ 1 → r * r ≡ N → ⊥
 even-step N r h o e = no (r / 2) (omega arith) (omega arith)
   where
