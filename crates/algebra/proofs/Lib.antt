@@ -1,3 +1,4 @@
 -- The laws of the algebra.
 pub mod FoldLaws
 pub mod TableLaws
+pub mod EliminationLaws

@@ -1,0 +1,149 @@
+-- Laws of elimination: where the pivot's row lies; what a column leaves as it was; and that the run which stops at a zero pivot is refused
+-- just where the run that goes on has a zero on its diagonal at the end.
+use Prim.Native.Nat.{ℕ, _+_, _≤_, _<_}
+use native.Mathlib.Omega.{arith}
+use native.Mathlib.Decide.{decLt}
+use mathlib.Core.Path.{_≡_, refl, sym, ap, _∙_}
+use mathlib.Core.Bool.{Bool, true, false, cond, _||_, true≢false}
+use mathlib.Core.List.{List, []}
+use mathlib.Core.Logic.{_⊎_, inl, inr}
+use lib.ListN.{getD, set, length, length-set}
+use lib.Seq.{getD-set-same, getD-set-other, set-getD}
+use Rattle.arithmetic.specs.Numbers.{isZero, isLarger}
+use Rattle.algebra.specs.Fold.{fold}
+use Rattle.algebra.specs.Kind.{Arith}
+use Rattle.algebra.specs.Product.{at}
+use Rattle.algebra.specs.Elimination.{Stopping, larger, pivotRow, swapRows, lessRow, cleared, eliminateColumn, eliminateTo, zeroPivot, columnOrStop, stopping}
+use Rattle.algebra.proofs.FoldLaws.{fold-more, fold-start, fold-keeps, fold-steps, fold-ext, length-span, span-other}
+
+module _ {A : Type 0} (N : Arith A) where
+  -- ---- the pivot's row
+  larger-range : (m : List (List A)) (n c r best : ℕ) → c < r → r < n → (c ≤ best) × (best < n) → (c ≤ larger N m c r best) × (larger N m c r best < n)
+  unfolding larger
+  larger-range m n c r best h l p = go (isLarger (N .value (at N m r c)) (N .value (at N m best c)))
+    where
+      go : (b : Bool) → (c ≤ cond b r best) × (cond b r best < n)
+      go true = (omega arith, l)
+      go false = p
+
+  -- it is one of the rows c to n - 1
+  pub pivot-range : (n c : ℕ) (m : List (List A)) → c < n → (c ≤ pivotRow N n c m) × (pivotRow N n c m < n)
+  unfolding pivotRow
+  pivot-range n c m h =
+      fold-keeps (λ best. (c ≤ best) × (best < n)) (c + 1) n (λ r best. larger N m c r best) c (omega arith, h)
+      (λ r l k best p. larger-range m n c r best (omega arith) k p)
+
+  -- ---- rows after a swap, and after a column
+  pub length-swap : (i j : ℕ) (m : List (List A)) → length (swapRows N i j m) ≡ length m
+  unfolding swapRows
+  length-swap i j m = length-set (set m i (getD m j [])) j (getD m i []) ∙ length-set m i (getD m j [])
+
+  swap-first : (i j : ℕ) (m : List (List A)) → i < length m → getD (swapRows N i j m) i [] ≡ getD m j []
+  unfolding swapRows
+  swap-first i j m h = go (decLt i j) (decLt j i)
+    where
+      go : Dec (i < j) → Dec (j < i) → getD (set (set m i (getD m j [])) j (getD m i [])) i [] ≡ getD m j []
+      go (yes l) k = getD-set-other (set m i (getD m j [])) j i (getD m i []) [] (λ q. omega arith) ∙ getD-set-same m i (getD m j []) [] h
+      go (no l) (yes k) = getD-set-other (set m i (getD m j [])) j i (getD m i []) [] (λ q. omega arith) ∙ getD-set-same m i (getD m j []) [] h
+      go (no l) (no k) =
+          let e : j ≡ i = omega arith in
+          rw e (getD-set-same (set m i (getD m i [])) i (getD m i []) [] (omega (arith, length-set m i (getD m i []))))
+
+  swap-other : (i j k : ℕ) (m : List (List A)) → k < i → k < j → getD (swapRows N i j m) k [] ≡ getD m k []
+  unfolding swapRows
+  swap-other i j k m h l =
+      getD-set-other (set m i (getD m j [])) j k (getD m i []) [] (λ q. omega arith) ∙ getD-set-other m i k (getD m j []) [] (λ q. omega arith)
+
+  pub length-column : (n w c : ℕ) (m : List (List A)) → length (eliminateColumn N n w c m) ≡ length m
+  unfolding eliminateColumn cleared
+  length-column n w c m =
+      let s : List (List A) = swapRows N c (pivotRow N n c m) m in
+      length-span (c + 1) n (λ r. lessRow N w c (getD s c []) (getD s r [])) s ∙ length-swap c (pivotRow N n c m) m
+
+  -- up to row c a column is as its swap made it
+  column-row : (n w c i : ℕ) (m : List (List A)) → i ≤ c → getD (eliminateColumn N n w c m) i [] ≡ getD (swapRows N c (pivotRow N n c m) m) i []
+  unfolding eliminateColumn cleared
+  column-row n w c i m h =
+      let s : List (List A) = swapRows N c (pivotRow N n c m) m in
+      span-other (c + 1) n (λ r. lessRow N w c (getD s c []) (getD s r [])) s i [] (inl (omega arith))
+
+  -- no column changes a row above it
+  pub column-above : (n w c i : ℕ) (m : List (List A)) → c < n → i < c → getD (eliminateColumn N n w c m) i [] ≡ getD m i []
+  column-above n w c i m h l =
+      let p = pivot-range n c m h in
+      column-row n w c i m (omega arith) ∙ swap-other c (pivotRow N n c m) i m l (omega arith)
+
+  -- the pivot's row is in row c
+  pub column-pivot : (n w c : ℕ) (m : List (List A)) → c < length m → getD (eliminateColumn N n w c m) c [] ≡ getD m (pivotRow N n c m) []
+  column-pivot n w c m h = column-row n w c c m (omega arith) ∙ swap-first c (pivotRow N n c m) m h
+
+  -- ---- a zero on the diagonal of the first k columns
+  abbrev pub zeroOnDiagonal : ℕ → List (List A) → Bool
+  zeroOnDiagonal k m = fold 0 k (λ c z. z || isZero (N .value (at N m c c))) false
+
+  -- one column more adds the test of its pivot
+  diagonal-next : (n w k : ℕ) (m : List (List A)) → k < n → n ≤ length m
+      → zeroOnDiagonal (k + 1) (eliminateColumn N n w k m) ≡ (zeroOnDiagonal k m || zeroPivot N n k m)
+  unfolding zeroPivot
+  diagonal-next n w k m h l =
+      let e : List (List A) = eliminateColumn N n w k m in
+      fold-more 0 k (λ c z. z || isZero (N .value (at N e c c))) false (omega arith)
+      ∙ ap (λ (z : Bool). z || isZero (N .value (at N e k k)))
+      (fold-ext 0 k (λ c z. z || isZero (N .value (at N e c c))) (λ c z. z || isZero (N .value (at N m c c))) false
+      (λ c a b z. ap (λ (x : List A). z || isZero (N .value (getD x c (N .void)))) (column-above n w k c m h b)))
+      ∙ ap (λ (x : List A). zeroOnDiagonal k m || isZero (N .value (getD x k (N .void)))) (column-pivot n w k m (omega arith))
+
+  -- the stopping run s beside the run e that goes on, after k columns
+  record Beside (k rows : ℕ) (s : Stopping A) (e : List (List A)) : Type 0 where
+    long : length e ≡ rows
+    told : s .refused ≡ zeroOnDiagonal k e
+    same : s .refused ≡ false → s .rows ≡ e
+
+  beside-next : (n w k rows : ℕ) (s : Stopping A) (e : List (List A)) → k < n → n ≤ rows → Beside k rows s e
+      → Beside (k + 1) rows (columnOrStop N n w k s) (eliminateColumn N n w k e)
+  unfolding columnOrStop
+  beside-next n w k rows s e h l r =
+      record {
+        long = length-column n w k e ∙ r .long;
+        told = told-next (s .refused) refl (zeroPivot N n k (s .rows)) refl ∙ sym next;
+        same = same-next (s .refused) refl (zeroPivot N n k (s .rows));
+      }
+    where
+      next : zeroOnDiagonal (k + 1) (eliminateColumn N n w k e) ≡ (s .refused || zeroPivot N n k e)
+      next = diagonal-next n w k e h (omega (arith, r .long)) ∙ ap (λ (z : Bool). z || zeroPivot N n k e) (sym (r .told))
+
+      told-next : (b : Bool) → s .refused ≡ b → (z : Bool) → zeroPivot N n k (s .rows) ≡ z
+          → cond b s (cond z (record { rows = s .rows; refused = true }) (record { rows = eliminateColumn N n w k (s .rows); refused = false })) .refused
+          ≡ (s .refused || zeroPivot N n k e)
+      told-next true p z q = rw p
+      told-next false p true q = rw (p, ← r .same p, q)
+      told-next false p false q = rw (p, ← r .same p, q)
+
+      same-next : (b : Bool) → s .refused ≡ b → (z : Bool)
+          → cond b s (cond z (record { rows = s .rows; refused = true }) (record { rows = eliminateColumn N n w k (s .rows); refused = false })) .refused ≡ false
+          → cond b s (cond z (record { rows = s .rows; refused = true }) (record { rows = eliminateColumn N n w k (s .rows); refused = false })) .rows
+          ≡ eliminateColumn N n w k e
+      same-next true p z q = absurd (true≢false (sym p ∙ q))
+      same-next false p true q = absurd (true≢false q)
+      same-next false p false q = ap (eliminateColumn N n w k) (r .same p)
+
+  beside : (n w : ℕ) (m : List (List A)) → n ≤ length m → Beside n (length m) (stopping N n n w m) (eliminateTo N n n w m)
+  unfolding stopping eliminateTo
+  beside n w m h =
+      fold-steps (λ k s. Beside k (length m) s (fold 0 k (λ c m. eliminateColumn N n w c m) m)) 0 n (λ c s. columnOrStop N n w c s)
+      (record { rows = m; refused = false }) (omega arith)
+      (record {
+        long = ap length (sym (fold-start 0 (λ c m. eliminateColumn N n w c m) m));
+        told = fold-start 0 _ false;
+        same = λ q. fold-start 0 (λ c m. eliminateColumn N n w c m) m;
+      })
+      (λ k a b s r. rw fold-more (beside-next n w k (length m) s _ b h r))
+
+  -- the run that stops in the column of a zero pivot is refused where the run that goes on has a zero on its diagonal at the end
+  pub refused-diagonal : (n w : ℕ) (m : List (List A)) → n ≤ length m → stopping N n n w m .refused ≡ zeroOnDiagonal n (eliminateTo N n n w m)
+  refused-diagonal n w m h = beside n w m h .told
+
+  -- and where it is not refused, the two runs end with the same matrix
+  pub not-refused-rows : (n w : ℕ) (m : List (List A)) → n ≤ length m → stopping N n n w m .refused ≡ false
+      → stopping N n n w m .rows ≡ eliminateTo N n n w m
+  not-refused-rows n w m h q = beside n w m h .same q
