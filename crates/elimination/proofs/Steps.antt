@@ -1,0 +1,61 @@
+-- What the functions of the two modules share: one step of an elimination, for any kind of number.
+use Prim.Native.Nat.{ℕ, _+_, _-_, _≤_, _<_}
+use native.Mathlib.Omega.{arith}
+use mathlib.Core.Path.{_≡_, refl, sym, ap, _∙_}
+use mathlib.Core.Bool.{Bool, true, false, cond, _||_}
+use mathlib.Core.List.{List, []}
+use lib.Dec.{ltb, eqb}
+use lib.ListN.{getD, length}
+use borrow.Author.Tests.{lt-ltb, le-ltb, eq-eqb, ne-eqb}
+use Rattle.arithmetic.specs.Numbers.{isLarger, one}
+use Rattle.algebra.specs.Kind.{Arith, nil}
+use Rattle.algebra.specs.Product.{at}
+use Rattle.algebra.specs.Elimination.{larger, pivotRow, factor, lessBy, lessRow, eliminateTo, backTo, joined, solution, refused, stopping}
+use Rattle.algebra.proofs.TableLaws.{length-table}
+use Rattle.algebra.proofs.EliminationLaws.{pivot-range, refused-diagonal}
+use Rattle.elimination.specs.Parts.{singular, joinedCell, identityCell}
+
+module _ {A : Type 0} (N : Arith A) where
+  -- the larger of two rows, by the test t
+  pub larger-is : (m : List (List A)) (c r best q : ℕ) (t : Bool) → t ≡ isLarger (N .value (at N m r c)) (N .value (at N m best c)) → q ≡ cond t r best
+      → q ≡ larger N m c r best
+  unfolding larger
+  larger-is m c r best q t e d = rw (← e) d
+
+  -- the pivot's row is a row of the matrix
+  pub pivot-below : (n c : ℕ) (m : List (List A)) (q : ℕ) → q ≡ pivotRow N n c m → c < n → q < n
+  pivot-below n c m q e h = rw e (pivot-range N n c m h .1)
+
+  -- a row less the pivot row times its factor
+  pub lessRow-is : (w c : ℕ) (pivots lower q : List A) (f : A) → f ≡ factor N c pivots lower → q ≡ lessBy N w c f pivots lower → q ≡ lessRow N w c pivots lower
+  lessRow-is w c pivots lower q f e d = rw (← e) d
+
+  -- a cell of A and B side by side, and one of the identity
+  pub joined-left : (n j : ℕ) (x y : A) → j < n → x ≡ cond (ltb j n) x y
+  joined-left n j x y h = rw (lt-ltb j n h)
+
+  pub joined-right : (n j : ℕ) (x y : A) → n ≤ j → y ≡ cond (ltb j n) x y
+  joined-right n j x y h = rw (le-ltb j n h)
+
+  pub identity-on : (i j : ℕ) → i ≡ j → N .of one ≡ identityCell N i j
+  identity-on i j h = rw (eq-eqb i j h)
+
+  pub identity-off : (i j : ℕ) → (i ≡ j → ⊥) → nil N ≡ identityCell N i j
+  identity-off i j h = rw (ne-eqb i j h)
+
+  -- A and B side by side have as many rows as are stored
+  length-joined : (R W n cols : ℕ) (a b : List (List A)) → length (joined N R W n cols a b) ≡ R
+  unfolding joined
+  length-joined R W n cols a b = length-table (nil N) R W n (n + cols) (joinedCell N n a b)
+
+  -- the zero test after the run that goes on tells what the stopping run refuses
+  pub refused-is : (R W n cols : ℕ) (a b m e : List (List A)) (z : Bool) → n ≤ R → m ≡ joined N R W n cols a b → e ≡ eliminateTo N n n (n + cols) m
+      → z ≡ singular N n e → z ≡ refused N R W n cols a b
+  unfolding refused singular
+  refused-is R W n cols a b m e z h p q s =
+      rw (s, q, p) (sym (refused-diagonal N n (n + cols) (joined N R W n cols a b) (rw length-joined h)))
+
+  pub solution-is : (R W C n cols : ℕ) (a b m e x : List (List A)) → m ≡ joined N R W n cols a b → e ≡ eliminateTo N n n (n + cols) m
+      → x ≡ backTo N n R C n cols e → x ≡ solution N R W C n cols a b
+  unfolding solution
+  solution-is R W C n cols a b m e x p q s = rw (s, q, p)

@@ -1,0 +1,20 @@
+-- `elimination::plain::inverse` meets its contract.
+use borrow.Author.Needs.{needs}
+use Rattle.elimination.proofs.plain.inverse.Statement.{statement}
+use Rattle.elimination.proofs.plain.inverse.Tie as tie
+use Rattle.elimination.proofs.plain.inverse.Reads as reads
+use Rattle.elimination.proofs.plain.inverse.Lts as lts
+use Rattle.elimination.proofs.plain.identity.Reads as identity-reads
+use Rattle.elimination.proofs.plain.solve.Reads as solve-reads
+
+identity-requires : tie.Need-identity-requires
+identity-requires c κs = search needs
+
+solve-requires : tie.Need-solve-requires
+solve-requires c κs = search needs
+
+returns : tie.Need-returns
+returns c = (cc, cc)
+
+pub inverse-spec : {M : Type 1} → statement M
+inverse-spec = tie.close (tie.spec identity-requires solve-requires returns)
