@@ -2,3 +2,4 @@
 pub mod FoldLaws
 pub mod TableLaws
 pub mod EliminationLaws
+pub mod JacobiCount

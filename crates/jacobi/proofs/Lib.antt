@@ -1,0 +1,2 @@
+-- The laws of the rotations, for any kind of number.
+pub mod Cells

@@ -1,0 +1,17 @@
+-- `jacobi::plain::cosine` meets its contract.
+use mathlib.Core.Path.{_≡_, refl}
+use lib.Ieee.{ofBits}
+use Rattle.algebra.specs.Jacobi.{cosine}
+use borrow.Author.Needs.{needs}
+use Rattle.jacobi.proofs.plain.cosine.Statement.{statement}
+use Rattle.jacobi.proofs.plain.cosine.Tie as tie
+
+sqrt-requires : tie.Need-sqrt-requires
+sqrt-requires c κs = search needs
+
+returns : tie.Need-returns
+unfolding cosine ofBits
+returns c = cc
+
+pub cosine-spec : {M : Type 1} → statement M
+cosine-spec = tie.close (tie.spec sqrt-requires returns)

@@ -1,0 +1,13 @@
+-- `jacobi::plain::turned_first` meets its contract.
+use mathlib.Core.Path.{_≡_, refl}
+use lib.Ieee.{ofBits}
+use Rattle.algebra.specs.Jacobi.{turnedFirst}
+use Rattle.jacobi.proofs.plain.turned_first.Statement.{statement}
+use Rattle.jacobi.proofs.plain.turned_first.Tie as tie
+
+returns : tie.Need-returns
+unfolding turnedFirst ofBits
+returns c = refl
+
+pub turned-first-spec : {M : Type 1} → statement M
+turned-first-spec = tie.close (tie.spec returns)
