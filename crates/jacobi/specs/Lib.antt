@@ -1,0 +1,2 @@
+-- Names for the cells that the two starting matrices are filled with. Everything else that the contracts cite stands in the algebra.
+pub mod Starts
