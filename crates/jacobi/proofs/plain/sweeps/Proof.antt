@@ -1,38 +1,47 @@
+-- `jacobi::plain::sweeps` meets its contract.
+use Prim.Native.Nat.{_≤_, _<_, _-_, _+_}
+use mathlib.Core.Path.{_≡_, refl}
+use Rattle.arithmetic.specs.Numbers.{plusZero}
+use Rattle.algebra.specs.Kind.{floats}
+use Rattle.algebra.specs.Jacobi.{State, sweepsTo}
+use Rattle.algebra.proofs.FoldLaws.{fold-start, fold-next, fold-end}
+use Rattle.jacobi.proofs.Rotations.{sweeps-limit}
+use native.Mathlib.Omega.{arith}
 use Rattle.jacobi.proofs.plain.sweeps.Statement.{statement}
 use Rattle.jacobi.proofs.plain.sweeps.Tie as tie
-use Rattle.jacobi.proofs.plain.sweeps.Reads as reads
-use Rattle.jacobi.proofs.plain.sweeps.Lts as lts
-use Rattle.jacobi.proofs.plain.sweep.Reads as sweep-reads
 
 abbrev Inv-loop : tie.InvT-loop
-Inv-loop a₀ v₀ n limit made₀ i₀ a v made i = ?
+Inv-loop a₀ v₀ n limit made₀ i₀ a v made i = (i ≤ 30) × (record { a = a; v = v; count = made; seen = plusZero } ≡ sweepsTo floats i limit 6 6 n (record { a = a₀; v = v₀; count = 0; seen = plusZero }))
 
 abbrev μ-loop : tie.MeasureT-loop
-μ-loop a₀ v₀ n limit made₀ i₀ a v made i = ?
+μ-loop a₀ v₀ n limit made₀ i₀ a v made i = 30 - i
 
--- src/plain.rt:270:5
 loop-holds : tie.Need-loop-holds Inv-loop μ-loop
-loop-holds c = ?
+unfolding sweepsTo
+loop-holds c = (omega arith, fold-start _ _ _)
 
--- src/plain.rt:271:9
 sweep-requires : tie.Need-sweep-requires Inv-loop μ-loop
-sweep-requires c κs = ?
+sweep-requires c κs =
+    let v = c .before .before .before .loop .inv in
+    omega (arith, sweeps-limit floats _ _ _ _ _ _ _ (v .1) (omega arith))
 
--- src/plain.rt:270:9
 add-i : tie.Need-add-i Inv-loop μ-loop
-add-i c = ?
+add-i c = omega arith
 
--- src/plain.rt:270:5
 loop-less : tie.Need-loop-less Inv-loop μ-loop
-loop-less c = ?
+loop-less c = omega arith
 
--- src/plain.rt:270:5
 loop-again : tie.Need-loop-again Inv-loop μ-loop
-loop-again c = ?
+unfolding sweepsTo
+loop-again c =
+    let v = c .before .before .before .before .loop .inv in
+    (omega arith, fold-next _ _ _ _ _ _ (omega arith) (v .1) (c .sweep .ensures))
 
--- src/plain.rt:265:1
 returns : tie.Need-returns Inv-loop μ-loop
-returns c = ?
+unfolding sweepsTo
+returns c =
+    let v = c .before .loop .inv in
+    fold-end _ _ _ _ _ _ (v .0) (c .loop-test .left) (v .1)
 
 pub sweeps-spec : {M : Type 1} → statement M
 sweeps-spec =
