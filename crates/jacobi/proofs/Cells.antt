@@ -9,26 +9,27 @@ use Rattle.algebra.specs.Jacobi.{rotatedCell}
 
 module _ {A : Type 0} (N : Arith A) (p q : ℕ) (t : A) (m w : List (List A)) (i j : ℕ) where
   -- row p: the diagonal, the cell that becomes +0, and the others
-  pub first-diagonal : i ≡ p → j ≡ p → N .minus (at N m p p) (N .times t (at N m p q)) ≡ rotatedCell N p q t m w i j
+  pub first-diagonal : (y x : A) → y ≡ N .times t (at N m p q) → x ≡ N .minus (at N m p p) y → i ≡ p → j ≡ p → x ≡ rotatedCell N p q t m w i j
   unfolding rotatedCell
-  first-diagonal hi hj = simp (eq-eqb i p hi, eq-eqb j p hj)
+  first-diagonal y x ey ex hi hj = simp (ex, ey, eq-eqb i p hi, eq-eqb j p hj)
 
-  pub first-cleared : i ≡ p → (j ≡ p → ⊥) → j ≡ q → nil N ≡ rotatedCell N p q t m w i j
+  pub first-cleared : (x : A) → x ≡ nil N → i ≡ p → (j ≡ p → ⊥) → j ≡ q → x ≡ rotatedCell N p q t m w i j
   unfolding rotatedCell
-  first-cleared hi hp hq = simp (eq-eqb i p hi, ne-eqb j p hp, eq-eqb j q hq)
+  first-cleared x ex hi hp hq = simp (ex, eq-eqb i p hi, ne-eqb j p hp, eq-eqb j q hq)
 
   pub first-mirror : i ≡ p → (j ≡ p → ⊥) → (j ≡ q → ⊥) → at N w j p ≡ rotatedCell N p q t m w i j
   unfolding rotatedCell
   first-mirror hi hp hq = simp (eq-eqb i p hi, ne-eqb j p hp, ne-eqb j q hq)
 
   -- row q
-  pub second-diagonal : (i ≡ p → ⊥) → i ≡ q → j ≡ q → N .plus (at N m q q) (N .times t (at N m p q)) ≡ rotatedCell N p q t m w i j
+  pub second-diagonal : (y x : A) → y ≡ N .times t (at N m p q) → x ≡ N .plus (at N m q q) y → (i ≡ p → ⊥) → i ≡ q → j ≡ q
+      → x ≡ rotatedCell N p q t m w i j
   unfolding rotatedCell
-  second-diagonal hn hi hj = simp (ne-eqb i p hn, eq-eqb i q hi, eq-eqb j q hj)
+  second-diagonal y x ey ex hn hi hj = simp (ex, ey, ne-eqb i p hn, eq-eqb i q hi, eq-eqb j q hj)
 
-  pub second-cleared : (i ≡ p → ⊥) → i ≡ q → (j ≡ q → ⊥) → j ≡ p → nil N ≡ rotatedCell N p q t m w i j
+  pub second-cleared : (x : A) → x ≡ nil N → (i ≡ p → ⊥) → i ≡ q → (j ≡ q → ⊥) → j ≡ p → x ≡ rotatedCell N p q t m w i j
   unfolding rotatedCell
-  second-cleared hn hi hq hp = simp (ne-eqb i p hn, eq-eqb i q hi, ne-eqb j q hq, eq-eqb j p hp)
+  second-cleared x ex hn hi hq hp = simp (ex, ne-eqb i p hn, eq-eqb i q hi, ne-eqb j q hq, eq-eqb j p hp)
 
   pub second-mirror : (i ≡ p → ⊥) → i ≡ q → (j ≡ q → ⊥) → (j ≡ p → ⊥) → at N w j q ≡ rotatedCell N p q t m w i j
   unfolding rotatedCell

@@ -5,12 +5,19 @@ use native.Mathlib.Nat.{mul-le-mul-left}
 use mathlib.Core.Path.{_≡_, refl}
 use mathlib.Core.Bool.{Bool, true, false}
 use mathlib.Core.List.{List}
+use lib.ListN.{getD, set}
 use lib.Ieee.{Float, lt}
 use Rattle.algebra.specs.Kind.{Arith, nil}
 use Rattle.algebra.specs.Table.{table}
 use Rattle.algebra.specs.Product.{at, identity}
-use Rattle.algebra.specs.Jacobi.{State, ratio, tangent, cosine, sine, turnColumns, rotatedCell, rotated, squared, bound, rotateTested, rowTo, sweepTo, sweepsTo, mirrored, jacobi}
+use Rattle.algebra.specs.Jacobi.{State, ratio, tangent, cosine, sine, turnedFirst, turnedSecond, turnRow, turnColumns, rotatedCell, rotated, squared, bound, rotateTested, rowTo, sweepTo, sweepsTo, mirrored, jacobi}
 use Rattle.algebra.proofs.JacobiCount.{pairs-small, row-count, sweep-count, sweeps-count, jacobi-at-most}
+
+-- a turned row, from its two new cells
+pub turn-row-is : {A : Type 0} (N : Arith A) (p q : ℕ) (c s : A) (r : List A) (x y : A) → x ≡ turnedFirst N c s (getD r p (N .void)) (getD r q (N .void))
+    → y ≡ turnedSecond N c s (getD r p (N .void)) (getD r q (N .void)) → set (set r p x) q y ≡ turnRow N p q c s r
+unfolding turnRow
+turn-row-is N p q c s r x y ex ey = rw (ex, ey)
 
 module _ {A : Type 0} (N : Arith A) (limit : Float) (R C n : ℕ) where
   -- where the test says yes

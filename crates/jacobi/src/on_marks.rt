@@ -296,7 +296,7 @@ pub fn sweeps(
     count: &mut usize,
     inside: &mut bool,
 ) -> [[[Marked; 6]; 6]; 2]
-    requires { ⌜ (n ≤ 6) × (now count ≡ 0) ⌝ }
+    requires { ⌜ (n ≤ 6) × (now count ≤ 500) ⌝ }
     ensures { λ r. ⌜ markedState r (now (count .exit)) (now (inside .exit)) ≡ sweepsTo marks 30 limit 6 6 n (markedState both (now (count .entry)) (now (inside .entry))) ⌝ }
 {
     let mut out = both;

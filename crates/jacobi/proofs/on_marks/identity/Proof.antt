@@ -1,76 +1,74 @@
+-- `jacobi::on_marks::identity` meets its contract.
+use Prim.Native.Nat.{_≤_, _<_, _-_, _+_}
+use native.Mathlib.Nat.{le-antisymm}
+use mathlib.Core.Path.{_≡_, refl}
+use lib.Ieee.{ofBits}
+use Rattle.algebra.specs.Kind.{marks, nil}
+use Rattle.algebra.specs.Table.{table, blank}
+use Rattle.algebra.specs.Product.{identity}
+use Rattle.jacobi.specs.Starts.{identityCell}
+use Rattle.algebra.proofs.TableLaws.{Filling, table-none, filling-none, filling-more, filling-row}
+use native.Mathlib.Omega.{arith}
 use Rattle.jacobi.proofs.on_marks.identity.Statement.{statement}
 use Rattle.jacobi.proofs.on_marks.identity.Tie as tie
-use Rattle.jacobi.proofs.on_marks.identity.Reads as reads
-use Rattle.jacobi.proofs.on_marks.identity.Lts as lts
-use Rattle.jacobi.proofs.on_marks.identity_cell.Reads as identity-cell-reads
 
 abbrev Inv-loop2 : tie.InvT-loop2
-Inv-loop2 n out₀ i j₀ out j = ?
+Inv-loop2 n out₀ i j₀ out j = (i < n) × (j ≤ n) × Filling (nil marks) 6 6 (identityCell marks) n i j out₀ out
 
 abbrev μ-loop2 : tie.MeasureT-loop2
-μ-loop2 n out₀ i j₀ out j = ?
+μ-loop2 n out₀ i j₀ out j = n - j
 
 abbrev Inv-loop : tie.InvT-loop
-Inv-loop n out₀ i₀ out i = ?
+Inv-loop n out₀ i₀ out i = (i ≤ n) × (out ≡ table (nil marks) 6 6 i n (identityCell marks))
 
 abbrev μ-loop : tie.MeasureT-loop
-μ-loop n out₀ i₀ out i = ?
+μ-loop n out₀ i₀ out i = n - i
 
--- src/on_marks.rt:356:5
 loop-holds : tie.Need-loop-holds Inv-loop2 μ-loop2 Inv-loop μ-loop
-loop-holds c = ?
+unfolding blank ofBits
+loop-holds c = (omega arith, table-none _ _ _ _ _ _ refl)
 
--- src/on_marks.rt:357:9
 loop2-holds : tie.Need-loop2-holds Inv-loop2 μ-loop2 Inv-loop μ-loop
-loop2-holds c = ?
+loop2-holds c = (omega arith, omega arith, filling-none (omega arith) (c .before .loop .inv .1))
 
--- src/on_marks.rt:358:25
 identity-cell-requires : tie.Need-identity-cell-requires Inv-loop2 μ-loop2 Inv-loop μ-loop
-identity-cell-requires c κs = ?
+identity-cell-requires c κs = omega arith
 
--- src/on_marks.rt:358:13
 mul-t10 : tie.Need-mul-t10 Inv-loop2 μ-loop2 Inv-loop μ-loop
-mul-t10 c = ?
+mul-t10 c = omega arith
 
--- src/on_marks.rt:358:13
 mul-t13 : tie.Need-mul-t13 Inv-loop2 μ-loop2 Inv-loop μ-loop
-mul-t13 c = ?
+mul-t13 c = omega arith
 
--- src/on_marks.rt:358:13
 index-1-out : tie.Need-index-1-out Inv-loop2 μ-loop2 Inv-loop μ-loop
-index-1-out c = ?
+index-1-out c = omega arith
 
--- src/on_marks.rt:358:13
 index-2-out : tie.Need-index-2-out Inv-loop2 μ-loop2 Inv-loop μ-loop
-index-2-out c = ?
+index-2-out c = omega arith
 
--- src/on_marks.rt:357:13
 add-j : tie.Need-add-j Inv-loop2 μ-loop2 Inv-loop μ-loop
-add-j c = ?
+add-j c = omega arith
 
--- src/on_marks.rt:357:9
 loop2-less : tie.Need-loop2-less Inv-loop2 μ-loop2 Inv-loop μ-loop
-loop2-less c = ?
+loop2-less c = omega arith
 
--- src/on_marks.rt:357:9
 loop2-again : tie.Need-loop2-again Inv-loop2 μ-loop2 Inv-loop μ-loop
-loop2-again c = ?
+loop2-again c = (omega arith, omega arith, filling-more (omega arith) (c .before .before .loop2 .inv .2) (c .identity-cell .ensures))
 
--- src/on_marks.rt:356:9
 add-i : tie.Need-add-i Inv-loop2 μ-loop2 Inv-loop μ-loop
-add-i c = ?
+add-i c = omega arith
 
--- src/on_marks.rt:356:5
 loop-less : tie.Need-loop-less Inv-loop2 μ-loop2 Inv-loop μ-loop
-loop-less c = ?
+loop-less c = omega arith
 
--- src/on_marks.rt:356:5
 loop-again : tie.Need-loop-again Inv-loop2 μ-loop2 Inv-loop μ-loop
-loop-again c = ?
+loop-again c =
+    let v = c .before .loop2 .inv in
+    (omega arith, filling-row (v .2) (v .1) (c .loop2-test .left))
 
--- src/on_marks.rt:347:1
 returns : tie.Need-returns Inv-loop2 μ-loop2 Inv-loop μ-loop
-returns c = ?
+unfolding identity
+returns c = cc (le-antisymm (c .before .loop .inv .0) (c .loop-test .left))
 
 pub identity-spec : {M : Type 1} → statement M
 identity-spec =

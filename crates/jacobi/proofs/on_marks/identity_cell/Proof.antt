@@ -1,25 +1,23 @@
+-- `jacobi::on_marks::identity_cell` meets its contract.
+use lib.Ieee.{ofBits}
+use borrow.Author.Tests.{eq-eqb, ne-eqb}
 use borrow.Author.Needs.{needs}
 use Rattle.jacobi.proofs.on_marks.identity_cell.Statement.{statement}
 use Rattle.jacobi.proofs.on_marks.identity_cell.Tie as tie
-use Rattle.jacobi.proofs.on_marks.identity_cell.Reads as reads
-use Rattle.jacobi.proofs.on_marks.identity_cell.Lts as lts
-use Rattle.arithmetic.proofs.step.given.Reads as given-reads
 
--- src/on_marks.rt:342:9
 given-requires : tie.Need-given-requires
 given-requires c κs = search needs
 
--- src/on_marks.rt:342:9
 returns : tie.Need-returns
-returns c = ?
+unfolding ofBits
+returns c = rw (eq-eqb _ _ (c .before .if1 .taken)) (c .given .ensures)
 
--- src/on_marks.rt:344:5
 given-requires-2 : tie.Need-given-requires-2
 given-requires-2 c κs = search needs
 
--- src/on_marks.rt:338:1
 returns-2 : tie.Need-returns-2
-returns-2 c = ?
+unfolding ofBits
+returns-2 c = rw (ne-eqb _ _ (c .before .if1 .left)) (c .given2 .ensures)
 
 pub identity-cell-spec : {M : Type 1} → statement M
 identity-cell-spec = tie.close (tie.spec given-requires returns given-requires-2 returns-2)

@@ -1,76 +1,74 @@
+-- `jacobi::on_marks::mirrored` meets its contract.
+use Prim.Native.Nat.{_≤_, _<_, _-_, _+_}
+use native.Mathlib.Nat.{le-antisymm}
+use mathlib.Core.Path.{_≡_, refl}
+use lib.Ieee.{ofBits}
+use Rattle.algebra.specs.Kind.{marks, nil}
+use Rattle.algebra.specs.Table.{table, blank}
+use Rattle.algebra.specs.Jacobi.{mirrored}
+use Rattle.jacobi.specs.Starts.{mirroredCell}
+use Rattle.algebra.proofs.TableLaws.{Filling, table-none, filling-none, filling-more, filling-row}
+use native.Mathlib.Omega.{arith}
 use Rattle.jacobi.proofs.on_marks.mirrored.Statement.{statement}
 use Rattle.jacobi.proofs.on_marks.mirrored.Tie as tie
-use Rattle.jacobi.proofs.on_marks.mirrored.Reads as reads
-use Rattle.jacobi.proofs.on_marks.mirrored.Lts as lts
-use Rattle.jacobi.proofs.on_marks.mirrored_cell.Reads as mirrored-cell-reads
 
 abbrev Inv-loop2 : tie.InvT-loop2
-Inv-loop2 m n out₀ i j₀ out j = ?
+Inv-loop2 m n out₀ i j₀ out j = (i < n) × (j ≤ n) × Filling (nil marks) 6 6 (mirroredCell marks m) n i j out₀ out
 
 abbrev μ-loop2 : tie.MeasureT-loop2
-μ-loop2 m n out₀ i j₀ out j = ?
+μ-loop2 m n out₀ i j₀ out j = n - j
 
 abbrev Inv-loop : tie.InvT-loop
-Inv-loop m n out₀ i₀ out i = ?
+Inv-loop m n out₀ i₀ out i = (i ≤ n) × (out ≡ table (nil marks) 6 6 i n (mirroredCell marks m))
 
 abbrev μ-loop : tie.MeasureT-loop
-μ-loop m n out₀ i₀ out i = ?
+μ-loop m n out₀ i₀ out i = n - i
 
--- src/on_marks.rt:330:5
 loop-holds : tie.Need-loop-holds Inv-loop2 μ-loop2 Inv-loop μ-loop
-loop-holds c = ?
+unfolding blank ofBits
+loop-holds c = (omega arith, table-none _ _ _ _ _ _ refl)
 
--- src/on_marks.rt:331:9
 loop2-holds : tie.Need-loop2-holds Inv-loop2 μ-loop2 Inv-loop μ-loop
-loop2-holds c = ?
+loop2-holds c = (omega arith, omega arith, filling-none (omega arith) (c .before .loop .inv .1))
 
--- src/on_marks.rt:332:25
 mirrored-cell-requires : tie.Need-mirrored-cell-requires Inv-loop2 μ-loop2 Inv-loop μ-loop
-mirrored-cell-requires c κs = ?
+mirrored-cell-requires c κs = omega arith
 
--- src/on_marks.rt:332:13
 mul-t11 : tie.Need-mul-t11 Inv-loop2 μ-loop2 Inv-loop μ-loop
-mul-t11 c = ?
+mul-t11 c = omega arith
 
--- src/on_marks.rt:332:13
 mul-t14 : tie.Need-mul-t14 Inv-loop2 μ-loop2 Inv-loop μ-loop
-mul-t14 c = ?
+mul-t14 c = omega arith
 
--- src/on_marks.rt:332:13
 index-1-out : tie.Need-index-1-out Inv-loop2 μ-loop2 Inv-loop μ-loop
-index-1-out c = ?
+index-1-out c = omega arith
 
--- src/on_marks.rt:332:13
 index-2-out : tie.Need-index-2-out Inv-loop2 μ-loop2 Inv-loop μ-loop
-index-2-out c = ?
+index-2-out c = omega arith
 
--- src/on_marks.rt:331:13
 add-j : tie.Need-add-j Inv-loop2 μ-loop2 Inv-loop μ-loop
-add-j c = ?
+add-j c = omega arith
 
--- src/on_marks.rt:331:9
 loop2-less : tie.Need-loop2-less Inv-loop2 μ-loop2 Inv-loop μ-loop
-loop2-less c = ?
+loop2-less c = omega arith
 
--- src/on_marks.rt:331:9
 loop2-again : tie.Need-loop2-again Inv-loop2 μ-loop2 Inv-loop μ-loop
-loop2-again c = ?
+loop2-again c = (omega arith, omega arith, filling-more (omega arith) (c .before .before .loop2 .inv .2) (c .mirrored-cell .ensures))
 
--- src/on_marks.rt:330:9
 add-i : tie.Need-add-i Inv-loop2 μ-loop2 Inv-loop μ-loop
-add-i c = ?
+add-i c = omega arith
 
--- src/on_marks.rt:330:5
 loop-less : tie.Need-loop-less Inv-loop2 μ-loop2 Inv-loop μ-loop
-loop-less c = ?
+loop-less c = omega arith
 
--- src/on_marks.rt:330:5
 loop-again : tie.Need-loop-again Inv-loop2 μ-loop2 Inv-loop μ-loop
-loop-again c = ?
+loop-again c =
+    let v = c .before .loop2 .inv in
+    (omega arith, filling-row (v .2) (v .1) (c .loop2-test .left))
 
--- src/on_marks.rt:321:1
 returns : tie.Need-returns Inv-loop2 μ-loop2 Inv-loop μ-loop
-returns c = ?
+unfolding mirrored
+returns c = cc (le-antisymm (c .before .loop .inv .0) (c .loop-test .left))
 
 pub mirrored-spec : {M : Type 1} → statement M
 mirrored-spec =

@@ -1,54 +1,51 @@
+-- `jacobi::on_marks::turn_columns` meets its contract.
+use Prim.Native.Nat.{_≤_, _<_, _-_, _+_}
+use mathlib.Core.Path.{_≡_, refl, ap}
+use Rattle.algebra.specs.Kind.{marks}
+use Rattle.algebra.specs.Jacobi.{turnColumns}
+use Rattle.algebra.proofs.FoldLaws.{fold-start, fold-next, fold-end}
+use native.Mathlib.Omega.{arith}
 use Rattle.jacobi.proofs.on_marks.turn_columns.Statement.{statement}
 use Rattle.jacobi.proofs.on_marks.turn_columns.Tie as tie
-use Rattle.jacobi.proofs.on_marks.turn_columns.Reads as reads
-use Rattle.jacobi.proofs.on_marks.turn_columns.Lts as lts
-use Rattle.jacobi.proofs.on_marks.turn_row.Reads as turn-row-reads
 
 abbrev Inv-loop : tie.InvT-loop
-Inv-loop n p q c s m out₀ i₀ out i = ?
+Inv-loop n p q c s m out₀ i₀ out i = (i ≤ n) × (out ≡ turnColumns marks i p q c s m)
 
 abbrev μ-loop : tie.MeasureT-loop
-μ-loop n p q c s m out₀ i₀ out i = ?
+μ-loop n p q c s m out₀ i₀ out i = n - i
 
--- src/on_marks.rt:89:5
 loop-holds : tie.Need-loop-holds Inv-loop μ-loop
-loop-holds c = ?
+unfolding turnColumns
+loop-holds c = (omega arith, fold-start _ _ _)
 
--- src/on_marks.rt:90:27
 mul-turn-row : tie.Need-mul-turn-row Inv-loop μ-loop
-mul-turn-row c = ?
+mul-turn-row c = omega arith
 
--- src/on_marks.rt:90:27
 array-copy-out-turn-row : tie.Need-array-copy-out-turn-row Inv-loop μ-loop
-array-copy-out-turn-row c = ?
+array-copy-out-turn-row c = omega arith
 
--- src/on_marks.rt:90:18
 turn-row-requires : tie.Need-turn-row-requires Inv-loop μ-loop
-turn-row-requires c κs = ?
+turn-row-requires c κs = omega arith
 
--- src/on_marks.rt:90:9
 mul-out : tie.Need-mul-out Inv-loop μ-loop
-mul-out c = ?
+mul-out c = omega arith
 
--- src/on_marks.rt:90:9
 array-set-from-out : tie.Need-array-set-from-out Inv-loop μ-loop
-array-set-from-out c = ?
+array-set-from-out c = omega arith
 
--- src/on_marks.rt:89:9
 add-i : tie.Need-add-i Inv-loop μ-loop
-add-i c = ?
+add-i c = omega arith
 
--- src/on_marks.rt:89:5
 loop-less : tie.Need-loop-less Inv-loop μ-loop
-loop-less c = ?
+loop-less c = omega arith
 
--- src/on_marks.rt:89:5
 loop-again : tie.Need-loop-again Inv-loop μ-loop
-loop-again c = ?
+unfolding turnColumns
+loop-again c = (omega arith, fold-next _ _ _ _ _ _ (omega arith) (c .before .before .before .loop .inv .1) (rw (c .turn-row .ensures)))
 
--- src/on_marks.rt:77:1
 returns : tie.Need-returns Inv-loop μ-loop
-returns c = ?
+unfolding turnColumns
+returns c = fold-end _ _ _ _ _ _ (c .before .loop .inv .0) (c .loop-test .left) (c .before .loop .inv .1)
 
 pub turn-columns-spec : {M : Type 1} → statement M
 turn-columns-spec =

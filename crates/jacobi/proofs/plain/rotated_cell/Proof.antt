@@ -1,4 +1,5 @@
 -- `jacobi::plain::rotated_cell` meets its contract.
+use mathlib.Core.Path.{_≡_, refl}
 use lib.Ieee.{ofBits}
 use Rattle.algebra.specs.Kind.{floats}
 use Rattle.jacobi.proofs.Cells.{first-diagonal, first-cleared, first-mirror, second-diagonal, second-cleared, second-mirror, elsewhere}
@@ -31,11 +32,11 @@ index-2-result-2 : tie.Need-index-2-result-2
 index-2-result-2 c = search needs
 
 returns : tie.Need-returns
-returns c = first-diagonal floats _ _ _ _ _ _ _ (c .before .before .before .if1 .taken) (c .before .before .if2 .taken)
+returns c = first-diagonal floats _ _ _ _ _ _ _ _ _ refl refl (c .before .before .before .if1 .taken) (c .before .before .if2 .taken)
 
 returns-2 : tie.Need-returns-2
 unfolding ofBits
-returns-2 c = first-cleared floats _ _ _ _ _ _ _ (c .before .before .if1 .taken) (c .before .if2 .left) (c .if3 .taken)
+returns-2 c = first-cleared floats _ _ _ _ _ _ _ _ refl (c .before .before .if1 .taken) (c .before .if2 .left) (c .if3 .taken)
 
 mul-result-5 : tie.Need-mul-result-5
 mul-result-5 c = search needs
@@ -77,11 +78,11 @@ index-2-result-5 : tie.Need-index-2-result-5
 index-2-result-5 c = search needs
 
 returns-4 : tie.Need-returns-4
-returns-4 c = second-diagonal floats _ _ _ _ _ _ _ (c .before .before .before .before .if1 .left) (c .before .before .before .if4 .taken) (c .before .before .if5 .taken)
+returns-4 c = second-diagonal floats _ _ _ _ _ _ _ _ _ refl refl (c .before .before .before .before .if1 .left) (c .before .before .before .if4 .taken) (c .before .before .if5 .taken)
 
 returns-5 : tie.Need-returns-5
 unfolding ofBits
-returns-5 c = second-cleared floats _ _ _ _ _ _ _ (c .before .before .before .if1 .left) (c .before .before .if4 .taken) (c .before .if5 .left) (c .if6 .taken)
+returns-5 c = second-cleared floats _ _ _ _ _ _ _ _ refl (c .before .before .before .if1 .left) (c .before .before .if4 .taken) (c .before .if5 .left) (c .if6 .taken)
 
 mul-result-11 : tie.Need-mul-result-11
 mul-result-11 c = search needs

@@ -1,7 +1,6 @@
 -- `jacobi::plain::turn_row` meets its contract.
-use mathlib.Core.Path.{_≡_, refl}
-use lib.Ieee.{ofBits}
-use Rattle.algebra.specs.Jacobi.{turnRow}
+use Rattle.algebra.specs.Kind.{floats}
+use Rattle.jacobi.proofs.Rotations.{turn-row-is}
 use borrow.Author.Needs.{needs}
 use Rattle.jacobi.proofs.plain.turn_row.Statement.{statement}
 use Rattle.jacobi.proofs.plain.turn_row.Tie as tie
@@ -49,8 +48,7 @@ array-write-out-2 : tie.Need-array-write-out-2
 array-write-out-2 c = search needs
 
 returns : tie.Need-returns
-unfolding turnRow ofBits
-returns c = cc
+returns c = turn-row-is floats _ _ _ _ _ _ _ (c .before .turned-first .ensures) (c .turned-second .ensures)
 
 pub turn-row-spec : {M : Type 1} → statement M
 turn-row-spec =
