@@ -12,12 +12,12 @@ use arithmetic::Marked;
 use arithmetic::plain::is_zero;
 use arithmetic::plain::sign;
 use arithmetic::step::add;
-use arithmetic::step::sub;
-use arithmetic::step::mul;
-use arithmetic::step::div;
-use arithmetic::step::square_root;
-use arithmetic::step::given;
 use arithmetic::step::also;
+use arithmetic::step::div;
+use arithmetic::step::given;
+use arithmetic::step::mul;
+use arithmetic::step::square_root;
+use arithmetic::step::sub;
 use arithmetic::step::unsigned;
 
 // z: the difference of the diagonal cells over twice the cell beside them.

@@ -7,8 +7,8 @@ ghost use Rattle.algebra.specs.Kind.{floats, nil};
 ghost use Rattle.algebra.specs.Product.{at, identity};
 ghost use Rattle.jacobi.specs.Starts.{mirroredCell, identityCell};
 ghost use Rattle.algebra.specs.Jacobi.{State, ratio, tangent, cosine, sine, turnedFirst, turnedSecond, turnRow, turnColumns, rotatedCell, rotated, squared, bound, rotateTested, rotate, rowTo, sweepTo, sweepsTo, mirrored, jacobi};
-use arithmetic::plain::magnitude;
 use arithmetic::plain::is_zero;
+use arithmetic::plain::magnitude;
 use arithmetic::plain::sign;
 use arithmetic::root::sqrt;
 
@@ -65,14 +65,7 @@ pub fn turn_row(row: [f64; 6], p: usize, q: usize, c: f64, s: f64) -> [f64; 6]
     out
 }
 
-pub fn turn_columns(
-    m: [[f64; 6]; 6],
-    n: usize,
-    p: usize,
-    q: usize,
-    c: f64,
-    s: f64,
-) -> [[f64; 6]; 6]
+pub fn turn_columns(m: [[f64; 6]; 6], n: usize, p: usize, q: usize, c: f64, s: f64) -> [[f64; 6]; 6]
     requires { ⌜ (n ≤ 6) × (p < 6) × (q < 6) ⌝ }
     ensures { λ r. ⌜ r ≡ turnColumns floats n p q c s m ⌝ }
 {

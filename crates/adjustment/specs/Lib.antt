@@ -1,0 +1,6 @@
+-- Document 01, "kr_vcov_adj.rs": the covariance adjustment. Definitions alone.
+pub mod Cutoffs
+pub mod Blocks
+pub mod Covariance
+pub mod Information
+pub mod Adjusted

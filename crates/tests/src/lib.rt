@@ -1,0 +1,15 @@
+// The contrast tests: the contrast basis, the Kenward–Roger test and its per-coefficient run (kr_modcomp, kenward_roger).
+
+// A number, or none where the Rust has NaN: every F and df.
+pub enum Number {
+    Is(f64),
+    None,
+}
+
+// The result of one test.
+pub struct Entry {
+    pub f: Number,
+    pub df: Number,
+    pub rank: u8,
+    pub inside: bool,
+}
