@@ -3,3 +3,4 @@ pub mod FoldLaws
 pub mod TableLaws
 pub mod EliminationLaws
 pub mod JacobiCount
+pub mod ValueLaws
