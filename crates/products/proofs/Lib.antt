@@ -1,2 +1,3 @@
--- The laws of the small products, over both kinds of number.
+-- The laws of the small products, over both kinds of number, and of the way between the two.
 pub mod LoopLaws
+pub mod SmallLaws
