@@ -6,9 +6,9 @@ use native.Mathlib.Decide.{decLt}
 use mathlib.Core.Path.{_≡_, refl, sym, ap, _∙_}
 use mathlib.Core.Bool.{Bool, true, false, cond, _||_, true≢false}
 use mathlib.Core.List.{List, []}
-use mathlib.Core.Logic.{_⊎_, inl, inr}
+use mathlib.Core.Logic.{inl}
 use lib.ListN.{getD, set, length, length-set}
-use lib.Seq.{getD-set-same, getD-set-other, set-getD}
+use lib.Seq.{getD-set-same, getD-set-other}
 use Rattle.arithmetic.specs.Numbers.{isZero, isLarger}
 use Rattle.algebra.specs.Fold.{fold}
 use Rattle.algebra.specs.Kind.{Arith}
@@ -78,7 +78,7 @@ module _ {A : Type 0} (N : Arith A) where
   column-pivot n w c m h = column-row n w c c m (omega arith) ∙ swap-first c (pivotRow N n c m) m h
 
   -- ---- a zero on the diagonal of the first k columns
-  abbrev pub zeroOnDiagonal : ℕ → List (List A) → Bool
+  abbrev zeroOnDiagonal : ℕ → List (List A) → Bool
   zeroOnDiagonal k m = fold 0 k (λ c z. z || isZero (N .value (at N m c c))) false
 
   -- one column more adds the test of its pivot
@@ -140,7 +140,8 @@ module _ {A : Type 0} (N : Arith A) where
       (λ k a b s r. rw fold-more (beside-next n w k (length m) s _ b h r))
 
   -- the run that stops in the column of a zero pivot is refused where the run that goes on has a zero on its diagonal at the end
-  pub refused-diagonal : (n w : ℕ) (m : List (List A)) → n ≤ length m → stopping N n n w m .refused ≡ zeroOnDiagonal n (eliminateTo N n n w m)
+  pub refused-diagonal : (n w : ℕ) (m : List (List A)) → n ≤ length m
+      → stopping N n n w m .refused ≡ fold 0 n (λ c z. z || isZero (N .value (at N (eliminateTo N n n w m) c c))) false
   refused-diagonal n w m h = beside n w m h .told
 
   -- and where it is not refused, the two runs end with the same matrix

@@ -1,19 +1,26 @@
 -- What the functions of the two modules share: one step of an elimination, for any kind of number.
-use Prim.Native.Nat.{ℕ, _+_, _-_, _≤_, _<_}
-use native.Mathlib.Omega.{arith}
-use mathlib.Core.Path.{_≡_, refl, sym, ap, _∙_}
-use mathlib.Core.Bool.{Bool, true, false, cond, _||_}
-use mathlib.Core.List.{List, []}
-use lib.Dec.{ltb, eqb}
-use lib.ListN.{getD, length}
+use Prim.Native.Nat.{ℕ, _+_, _≤_, _<_}
+use mathlib.Core.Path.{_≡_, sym}
+use mathlib.Core.Bool.{Bool, cond}
+use mathlib.Core.List.{List}
+use lib.Dec.{ltb}
+use lib.ListN.{length}
 use borrow.Author.Tests.{lt-ltb, le-ltb, eq-eqb, ne-eqb}
 use Rattle.arithmetic.specs.Numbers.{isLarger, one}
 use Rattle.algebra.specs.Kind.{Arith, nil}
 use Rattle.algebra.specs.Product.{at}
-use Rattle.algebra.specs.Elimination.{larger, pivotRow, factor, lessBy, lessRow, eliminateTo, backTo, joined, solution, refused, stopping}
+use Rattle.algebra.specs.Elimination.{larger, pivotRow, factor, lessBy, lessRow, eliminateTo, backTo, joined, solution, refused}
 use Rattle.algebra.proofs.TableLaws.{length-table}
 use Rattle.algebra.proofs.EliminationLaws.{pivot-range, refused-diagonal}
 use Rattle.elimination.specs.Parts.{singular, joinedCell, identityCell}
+
+-- a cell of A and B side by side, x of A or y of B
+module _ {A : Type 0} where
+  pub joined-left : (n j : ℕ) (x y : A) → j < n → x ≡ cond (ltb j n) x y
+  joined-left n j x y h = rw (lt-ltb j n h)
+
+  pub joined-right : (n j : ℕ) (x y : A) → n ≤ j → y ≡ cond (ltb j n) x y
+  joined-right n j x y h = rw (le-ltb j n h)
 
 module _ {A : Type 0} (N : Arith A) where
   -- the larger of two rows, by the test t
@@ -30,13 +37,7 @@ module _ {A : Type 0} (N : Arith A) where
   pub lessRow-is : (w c : ℕ) (pivots lower q : List A) (f : A) → f ≡ factor N c pivots lower → q ≡ lessBy N w c f pivots lower → q ≡ lessRow N w c pivots lower
   lessRow-is w c pivots lower q f e d = rw (← e) d
 
-  -- a cell of A and B side by side, and one of the identity
-  pub joined-left : (n j : ℕ) (x y : A) → j < n → x ≡ cond (ltb j n) x y
-  joined-left n j x y h = rw (lt-ltb j n h)
-
-  pub joined-right : (n j : ℕ) (x y : A) → n ≤ j → y ≡ cond (ltb j n) x y
-  joined-right n j x y h = rw (le-ltb j n h)
-
+  -- a cell of the identity
   pub identity-on : (i j : ℕ) → i ≡ j → N .of one ≡ identityCell N i j
   identity-on i j h = rw (eq-eqb i j h)
 

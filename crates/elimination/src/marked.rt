@@ -21,7 +21,8 @@ fn larger(m: [[Marked; 12]; 6], c: usize, r: usize, best: usize) -> usize
 {
     let x = m[r][c];
     let y = m[best][c];
-    if is_larger(x.value, y.value) { r } else { best }
+    let replaced = is_larger(x.value, y.value);
+    if replaced { r } else { best }
 }
 
 // The row of the pivot of column c, among the rows c to n - 1.

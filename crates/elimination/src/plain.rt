@@ -14,11 +14,8 @@ fn larger(m: [[f64; 12]; 6], c: usize, r: usize, best: usize) -> usize
     requires { ⌜ (c < 12) × (r < 6) × (best < 6) ⌝ }
     ensures { λ q. ⌜ q ≡ larger floats m c r best ⌝ }
 {
-    if is_larger(m[r][c], m[best][c]) {
-        r
-    } else {
-        best
-    }
+    let replaced = is_larger(m[r][c], m[best][c]);
+    if replaced { r } else { best }
 }
 
 // The row of the pivot of column c, among the rows c to n - 1.

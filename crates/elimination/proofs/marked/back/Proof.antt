@@ -1,17 +1,14 @@
 -- `elimination::marked::back` meets its contract.
-use Prim.Native.Nat.{_≤_, _<_, _-_, _+_}
-use mathlib.Core.Path.{_≡_, refl, ap}
+use Prim.Native.Nat.{_≤_, _-_}
+use mathlib.Core.Path.{_≡_}
 use lib.Ieee.{ofBits}
+use native.Mathlib.Omega.{arith}
 use Rattle.algebra.specs.Kind.{marks}
 use Rattle.algebra.specs.Table.{blank}
 use Rattle.algebra.specs.Elimination.{backTo}
 use Rattle.algebra.proofs.FoldLaws.{fold-start, fold-next, fold-end}
-use native.Mathlib.Omega.{arith}
 use Rattle.elimination.proofs.marked.back.Statement.{statement}
 use Rattle.elimination.proofs.marked.back.Tie as tie
-use Rattle.elimination.proofs.marked.back.Reads as reads
-use Rattle.elimination.proofs.marked.back.Lts as lts
-use Rattle.elimination.proofs.marked.back_row.Reads as back-row-reads
 
 abbrev Inv-loop : tie.InvT-loop
 Inv-loop m n cols x₀ d₀ x d = (d ≤ n) × (x ≡ backTo marks d 6 6 n cols m)

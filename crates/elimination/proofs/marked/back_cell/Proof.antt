@@ -1,13 +1,8 @@
 -- `elimination::marked::back_cell` meets its contract.
-use mathlib.Core.Path.{refl}
-use Rattle.algebra.specs.Elimination.{backCell}
 use borrow.Author.Needs.{needs}
+use Rattle.algebra.specs.Elimination.{backCell}
 use Rattle.elimination.proofs.marked.back_cell.Statement.{statement}
 use Rattle.elimination.proofs.marked.back_cell.Tie as tie
-use Rattle.elimination.proofs.marked.back_cell.Reads as reads
-use Rattle.elimination.proofs.marked.back_cell.Lts as lts
-use Rattle.arithmetic.proofs.step.div.Reads as div-reads
-use Rattle.elimination.proofs.marked.back_sum.Reads as back-sum-reads
 
 back-sum-requires : tie.Need-back-sum-requires
 back-sum-requires c κs = search needs

@@ -1,17 +1,13 @@
 -- `elimination::marked::back_sum` meets its contract.
-use Prim.Native.Nat.{_≤_, _<_, _-_, _+_}
-use mathlib.Core.Path.{_≡_, refl}
+use Prim.Native.Nat.{_≤_, _-_, _+_}
+use mathlib.Core.Path.{_≡_}
+use borrow.Author.Needs.{needs}
+use native.Mathlib.Omega.{arith}
 use Rattle.algebra.specs.Kind.{marks}
 use Rattle.algebra.specs.Elimination.{backSum}
 use Rattle.algebra.proofs.FoldLaws.{fold-start, fold-next, fold-end}
-use borrow.Author.Needs.{needs}
-use native.Mathlib.Omega.{arith}
 use Rattle.elimination.proofs.marked.back_sum.Statement.{statement}
 use Rattle.elimination.proofs.marked.back_sum.Tie as tie
-use Rattle.elimination.proofs.marked.back_sum.Reads as reads
-use Rattle.elimination.proofs.marked.back_sum.Lts as lts
-use Rattle.arithmetic.proofs.step.mul.Reads as mul-reads
-use Rattle.arithmetic.proofs.step.sub.Reads as sub-reads
 
 abbrev Inv-loop : tie.InvT-loop
 Inv-loop n i k m x sum₀ j₀ sum j = (i + 1 ≤ j) × (j ≤ n) × (sum ≡ backSum marks n j m x i k)
@@ -79,7 +75,9 @@ loop-less c = omega arith
 
 loop-again : tie.Need-loop-again Inv-loop μ-loop
 unfolding backSum
-loop-again c = (omega arith, omega arith, fold-next _ _ _ _ _ _ (omega arith) (c .before .before .before .before .before .loop .inv .2) (rw (c .sub .ensures, c .before .mul .ensures)))
+loop-again c =
+    let v = c .before .before .before .before .before .loop .inv in
+    (omega arith, omega arith, fold-next _ _ _ _ _ _ (omega arith) (v .2) (rw (c .sub .ensures, c .before .mul .ensures)))
 
 returns : tie.Need-returns Inv-loop μ-loop
 unfolding backSum

@@ -1,12 +1,8 @@
 -- `elimination::marked::factor` meets its contract.
-use mathlib.Core.Path.{refl}
-use Rattle.algebra.specs.Elimination.{factor}
 use borrow.Author.Needs.{needs}
+use Rattle.algebra.specs.Elimination.{factor}
 use Rattle.elimination.proofs.marked.factor.Statement.{statement}
 use Rattle.elimination.proofs.marked.factor.Tie as tie
-use Rattle.elimination.proofs.marked.factor.Reads as reads
-use Rattle.elimination.proofs.marked.factor.Lts as lts
-use Rattle.arithmetic.proofs.step.div.Reads as div-reads
 
 mul-div : tie.Need-mul-div
 mul-div c = search needs

@@ -1,20 +1,17 @@
 -- `elimination::marked::identity` meets its contract.
-use Prim.Native.Nat.{_≤_, _<_, _-_, _+_}
+use Prim.Native.Nat.{_≤_, _<_, _-_}
 use native.Mathlib.Nat.{le-antisymm}
-use mathlib.Core.Path.{_≡_, refl, ap}
+use mathlib.Core.Path.{_≡_, refl}
 use lib.Ieee.{ofBits}
+use borrow.Author.Needs.{needs}
+use native.Mathlib.Omega.{arith}
 use Rattle.algebra.specs.Kind.{marks, nil}
 use Rattle.algebra.specs.Table.{table, blank}
 use Rattle.algebra.specs.Product.{identity}
 use Rattle.algebra.proofs.TableLaws.{table-none, Filling, filling-none, filling-more, filling-row}
 use Rattle.elimination.specs.Parts.{identityCell}
-use borrow.Author.Needs.{needs}
-use native.Mathlib.Omega.{arith}
 use Rattle.elimination.proofs.marked.identity.Statement.{statement}
 use Rattle.elimination.proofs.marked.identity.Tie as tie
-use Rattle.elimination.proofs.marked.identity.Reads as reads
-use Rattle.elimination.proofs.marked.identity.Lts as lts
-use Rattle.elimination.proofs.marked.identity_cell.Reads as identity-cell-reads
 
 abbrev Inv-loop2 : tie.InvT-loop2
 Inv-loop2 n m₀ i j₀ m j = (i < n) × (j ≤ n) × Filling (nil marks) 6 6 (identityCell marks) n i j m₀ m

@@ -1,14 +1,11 @@
 -- `elimination::marked::identity_cell` meets its contract.
 use mathlib.Core.Path.{_∙_}
 use lib.Ieee.{ofBits}
+use borrow.Author.Needs.{needs}
 use Rattle.algebra.specs.Kind.{marks}
 use Rattle.elimination.proofs.Steps.{identity-on, identity-off}
-use borrow.Author.Needs.{needs}
 use Rattle.elimination.proofs.marked.identity_cell.Statement.{statement}
 use Rattle.elimination.proofs.marked.identity_cell.Tie as tie
-use Rattle.elimination.proofs.marked.identity_cell.Reads as reads
-use Rattle.elimination.proofs.marked.identity_cell.Lts as lts
-use Rattle.arithmetic.proofs.step.given.Reads as given-reads
 
 given-requires : tie.Need-given-requires
 given-requires c κs = search needs

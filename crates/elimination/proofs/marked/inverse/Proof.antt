@@ -2,10 +2,6 @@
 use borrow.Author.Needs.{needs}
 use Rattle.elimination.proofs.marked.inverse.Statement.{statement}
 use Rattle.elimination.proofs.marked.inverse.Tie as tie
-use Rattle.elimination.proofs.marked.inverse.Reads as reads
-use Rattle.elimination.proofs.marked.inverse.Lts as lts
-use Rattle.elimination.proofs.marked.identity.Reads as identity-reads
-use Rattle.elimination.proofs.marked.solve.Reads as solve-reads
 
 identity-requires : tie.Need-identity-requires
 identity-requires c κs = search needs

@@ -1,22 +1,20 @@
 -- `elimination::marked::joined` meets its contract.
 use Prim.Native.Nat.{_≤_, _<_, _-_, _+_}
 use native.Mathlib.Nat.{le-antisymm}
-use mathlib.Core.Path.{_≡_, refl, ap}
+use mathlib.Core.Path.{_≡_, refl}
 use lib.Ieee.{ofBits}
+use native.Mathlib.Omega.{arith}
 use Rattle.algebra.specs.Kind.{marks, nil}
 use Rattle.algebra.specs.Table.{table, blank}
 use Rattle.algebra.specs.Elimination.{joined}
 use Rattle.algebra.proofs.TableLaws.{table-none, Filling, filling-none, filling-more, filling-row}
 use Rattle.elimination.specs.Parts.{joinedCell}
-use native.Mathlib.Omega.{arith}
 use Rattle.elimination.proofs.marked.joined.Statement.{statement}
 use Rattle.elimination.proofs.marked.joined.Tie as tie
-use Rattle.elimination.proofs.marked.joined.Reads as reads
-use Rattle.elimination.proofs.marked.joined.Lts as lts
-use Rattle.elimination.proofs.marked.joined_cell.Reads as joined-cell-reads
 
 abbrev Inv-loop2 : tie.InvT-loop2
-Inv-loop2 a b n cols m₀ i j₀ j-end m j = (i < n) × (j ≤ n + cols) × (j-end ≡ n + cols) × Filling (nil marks) 6 12 (joinedCell marks n a b) (n + cols) i j m₀ m
+Inv-loop2 a b n cols m₀ i j₀ j-end m j =
+    (i < n) × (j ≤ n + cols) × (j-end ≡ n + cols) × Filling (nil marks) 6 12 (joinedCell marks n a b) (n + cols) i j m₀ m
 
 abbrev μ-loop2 : tie.MeasureT-loop2
 μ-loop2 a b n cols m₀ i j₀ j-end m j = n + cols - j

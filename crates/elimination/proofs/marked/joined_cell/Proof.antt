@@ -1,11 +1,8 @@
 -- `elimination::marked::joined_cell` meets its contract.
-use Rattle.algebra.specs.Kind.{marks}
-use Rattle.elimination.proofs.Steps.{joined-left, joined-right}
 use borrow.Author.Needs.{needs}
+use Rattle.elimination.proofs.Steps.{joined-left, joined-right}
 use Rattle.elimination.proofs.marked.joined_cell.Statement.{statement}
 use Rattle.elimination.proofs.marked.joined_cell.Tie as tie
-use Rattle.elimination.proofs.marked.joined_cell.Reads as reads
-use Rattle.elimination.proofs.marked.joined_cell.Lts as lts
 
 mul-result : tie.Need-mul-result
 mul-result c = search needs
@@ -32,10 +29,10 @@ index-2-result-2 : tie.Need-index-2-result-2
 index-2-result-2 c = search needs
 
 returns : tie.Need-returns
-returns c = joined-left marks _ _ _ _ (c .before .if1 .taken)
+returns c = joined-left _ _ _ _ (c .before .if1 .taken)
 
 returns-2 : tie.Need-returns-2
-returns-2 c = joined-right marks _ _ _ _ (c .before .if1 .left)
+returns-2 c = joined-right _ _ _ _ (c .before .if1 .left)
 
 pub joined-cell-spec : {M : Type 1} → statement M
 joined-cell-spec =

@@ -1,15 +1,11 @@
 -- `elimination::marked::larger` meets its contract.
-use mathlib.Core.Path.{refl}
+use mathlib.Core.Path.{refl, sym, _∙_}
 use mathlib.Core.Bool.{true, false}
-use Rattle.elimination.proofs.Steps.{larger-is}
-use Rattle.algebra.specs.Kind.{marks}
-use mathlib.Core.Path.{sym, _∙_}
 use borrow.Author.Needs.{needs}
+use Rattle.algebra.specs.Kind.{marks}
+use Rattle.elimination.proofs.Steps.{larger-is}
 use Rattle.elimination.proofs.marked.larger.Statement.{statement}
 use Rattle.elimination.proofs.marked.larger.Tie as tie
-use Rattle.elimination.proofs.marked.larger.Reads as reads
-use Rattle.elimination.proofs.marked.larger.Lts as lts
-use Rattle.arithmetic.proofs.plain.is_larger.Reads as is-larger-reads
 
 mul-x : tie.Need-mul-x
 mul-x c = search needs

@@ -1,17 +1,13 @@
 -- `elimination::marked::less_by` meets its contract.
-use Prim.Native.Nat.{_≤_, _<_, _-_, _+_}
-use mathlib.Core.Path.{_≡_, refl}
+use Prim.Native.Nat.{_≤_, _-_, _+_}
+use mathlib.Core.Path.{_≡_}
+use borrow.Author.Needs.{needs}
+use native.Mathlib.Omega.{arith}
 use Rattle.algebra.specs.Kind.{marks}
 use Rattle.algebra.specs.Elimination.{lessBy}
 use Rattle.algebra.proofs.FoldLaws.{fold-start, fold-next, fold-end}
-use borrow.Author.Needs.{needs}
-use native.Mathlib.Omega.{arith}
 use Rattle.elimination.proofs.marked.less_by.Statement.{statement}
 use Rattle.elimination.proofs.marked.less_by.Tie as tie
-use Rattle.elimination.proofs.marked.less_by.Reads as reads
-use Rattle.elimination.proofs.marked.less_by.Lts as lts
-use Rattle.arithmetic.proofs.step.mul.Reads as mul-reads
-use Rattle.arithmetic.proofs.step.sub.Reads as sub-reads
 
 abbrev Inv-loop : tie.InvT-loop
 Inv-loop w c f pivots lower out₀ j₀ out j = (c + 1 ≤ j) × (j ≤ w) × (out ≡ lessBy marks j c f pivots lower)
@@ -58,7 +54,9 @@ loop-less c = omega arith
 
 loop-again : tie.Need-loop-again Inv-loop μ-loop
 unfolding lessBy
-loop-again c = (omega arith, omega arith, fold-next _ _ _ _ _ _ (omega arith) (c .before .before .before .before .before .loop .inv .2) (rw (c .sub .ensures, c .before .before .mul .ensures)))
+loop-again c =
+    let v = c .before .before .before .before .before .loop .inv in
+    (omega arith, omega arith, fold-next _ _ _ _ _ _ (omega arith) (v .2) (rw (c .sub .ensures, c .before .before .mul .ensures)))
 
 returns : tie.Need-returns Inv-loop μ-loop
 unfolding lessBy

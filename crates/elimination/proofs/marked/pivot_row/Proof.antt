@@ -1,16 +1,13 @@
 -- `elimination::marked::pivot_row` meets its contract.
-use Prim.Native.Nat.{_≤_, _<_, _-_, _+_}
+use Prim.Native.Nat.{_≤_, _-_, _+_}
 use mathlib.Core.Path.{_≡_}
+use native.Mathlib.Omega.{arith}
 use Rattle.algebra.specs.Kind.{marks}
 use Rattle.algebra.specs.Elimination.{pivotRow}
 use Rattle.algebra.proofs.FoldLaws.{fold-start, fold-next, fold-end}
 use Rattle.elimination.proofs.Steps.{pivot-below}
-use native.Mathlib.Omega.{arith}
 use Rattle.elimination.proofs.marked.pivot_row.Statement.{statement}
 use Rattle.elimination.proofs.marked.pivot_row.Tie as tie
-use Rattle.elimination.proofs.marked.pivot_row.Reads as reads
-use Rattle.elimination.proofs.marked.pivot_row.Lts as lts
-use Rattle.elimination.proofs.marked.larger.Reads as larger-reads
 
 abbrev Inv-loop : tie.InvT-loop
 Inv-loop m n c best₀ r₀ best r = (c + 1 ≤ r) × (r ≤ n) × (best ≡ pivotRow marks r c m)

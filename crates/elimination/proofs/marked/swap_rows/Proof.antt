@@ -1,11 +1,9 @@
 -- `elimination::marked::swap_rows` meets its contract.
 use mathlib.Core.Path.{refl}
-use Rattle.algebra.specs.Elimination.{swapRows}
 use borrow.Author.Needs.{needs}
+use Rattle.algebra.specs.Elimination.{swapRows}
 use Rattle.elimination.proofs.marked.swap_rows.Statement.{statement}
 use Rattle.elimination.proofs.marked.swap_rows.Tie as tie
-use Rattle.elimination.proofs.marked.swap_rows.Reads as reads
-use Rattle.elimination.proofs.marked.swap_rows.Lts as lts
 
 mul-out : tie.Need-mul-out
 mul-out c = search needs

@@ -1,12 +1,8 @@
 -- `elimination::plain::back_cell` meets its contract.
-use mathlib.Core.Path.{refl}
-use Rattle.algebra.specs.Elimination.{backCell}
 use borrow.Author.Needs.{needs}
+use Rattle.algebra.specs.Elimination.{backCell}
 use Rattle.elimination.proofs.plain.back_cell.Statement.{statement}
 use Rattle.elimination.proofs.plain.back_cell.Tie as tie
-use Rattle.elimination.proofs.plain.back_cell.Reads as reads
-use Rattle.elimination.proofs.plain.back_cell.Lts as lts
-use Rattle.elimination.proofs.plain.back_sum.Reads as back-sum-reads
 
 back-sum-requires : tie.Need-back-sum-requires
 back-sum-requires c κs = search needs

@@ -1,17 +1,14 @@
 -- `elimination::plain::back_row` meets its contract.
-use Prim.Native.Nat.{_≤_, _<_, _-_, _+_}
-use mathlib.Core.Path.{_≡_, refl}
+use Prim.Native.Nat.{_≤_, _-_}
+use mathlib.Core.Path.{_≡_}
 use lib.Ieee.{ofBits}
+use native.Mathlib.Omega.{arith}
 use Rattle.algebra.specs.Kind.{floats, nil}
 use Rattle.algebra.specs.Table.{row}
 use Rattle.algebra.specs.Elimination.{backCell}
 use Rattle.algebra.proofs.FoldLaws.{fold-start, fold-next, fold-end}
-use native.Mathlib.Omega.{arith}
 use Rattle.elimination.proofs.plain.back_row.Statement.{statement}
 use Rattle.elimination.proofs.plain.back_row.Tie as tie
-use Rattle.elimination.proofs.plain.back_row.Reads as reads
-use Rattle.elimination.proofs.plain.back_row.Lts as lts
-use Rattle.elimination.proofs.plain.back_cell.Reads as back-cell-reads
 
 abbrev Inv-loop : tie.InvT-loop
 Inv-loop m x n cols i out₀ k₀ out k = (k ≤ cols) × (out ≡ row (nil floats) 6 k (backCell floats n m x i))

@@ -1,14 +1,12 @@
 -- `elimination::plain::back_sum` meets its contract.
-use Prim.Native.Nat.{_≤_, _<_, _-_, _+_}
+use Prim.Native.Nat.{_≤_, _-_, _+_}
 use mathlib.Core.Path.{_≡_, refl}
+use native.Mathlib.Omega.{arith}
 use Rattle.algebra.specs.Kind.{floats}
 use Rattle.algebra.specs.Elimination.{backSum}
 use Rattle.algebra.proofs.FoldLaws.{fold-start, fold-next, fold-end}
-use native.Mathlib.Omega.{arith}
 use Rattle.elimination.proofs.plain.back_sum.Statement.{statement}
 use Rattle.elimination.proofs.plain.back_sum.Tie as tie
-use Rattle.elimination.proofs.plain.back_sum.Reads as reads
-use Rattle.elimination.proofs.plain.back_sum.Lts as lts
 
 abbrev Inv-loop : tie.InvT-loop
 Inv-loop n i k m x sum₀ j₀ sum j = (i + 1 ≤ j) × (j ≤ n) × (sum ≡ backSum floats n j m x i k)

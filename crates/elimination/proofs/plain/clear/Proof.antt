@@ -1,17 +1,13 @@
 -- `elimination::plain::clear` meets its contract.
-use Prim.Native.Nat.{_≤_, _<_, _-_, _+_}
-use mathlib.Core.Path.{_≡_, refl, ap}
+use Prim.Native.Nat.{_≤_, _-_, _+_}
+use mathlib.Core.Path.{_≡_}
+use native.Mathlib.Omega.{arith}
 use Rattle.algebra.specs.Kind.{floats}
 use Rattle.algebra.specs.Elimination.{cleared}
 use Rattle.algebra.proofs.FoldLaws.{fold-start, fold-next, fold-end}
 use Rattle.elimination.proofs.Steps.{lessRow-is}
-use native.Mathlib.Omega.{arith}
 use Rattle.elimination.proofs.plain.clear.Statement.{statement}
 use Rattle.elimination.proofs.plain.clear.Tie as tie
-use Rattle.elimination.proofs.plain.clear.Reads as reads
-use Rattle.elimination.proofs.plain.clear.Lts as lts
-use Rattle.elimination.proofs.plain.factor.Reads as factor-reads
-use Rattle.elimination.proofs.plain.less_by.Reads as less-by-reads
 
 abbrev Inv-loop : tie.InvT-loop
 Inv-loop n w c m out₀ r₀ out r = (c + 1 ≤ r) × (r ≤ n) × (out ≡ cleared floats r w c m)
@@ -70,7 +66,10 @@ loop-less c = omega arith
 
 loop-again : tie.Need-loop-again Inv-loop μ-loop
 unfolding cleared
-loop-again c = (omega arith, omega arith, fold-next _ _ _ _ _ _ (omega arith) (c .before .before .before .before .before .before .before .loop .inv .2) (rw (lessRow-is floats _ _ _ _ _ _ (c .before .before .before .factor .ensures) (c .less-by .ensures))))
+loop-again c =
+    let v = c .before .before .before .before .before .before .before .loop .inv in
+    let e = lessRow-is floats _ _ _ _ _ _ (c .before .before .before .factor .ensures) (c .less-by .ensures) in
+    (omega arith, omega arith, fold-next _ _ _ _ _ _ (omega arith) (v .2) (rw e))
 
 returns : tie.Need-returns Inv-loop μ-loop
 unfolding cleared

@@ -1,15 +1,12 @@
 -- `elimination::plain::eliminate` meets its contract.
-use Prim.Native.Nat.{_≤_, _<_, _-_, _+_}
-use mathlib.Core.Path.{_≡_, refl, ap}
+use Prim.Native.Nat.{_≤_, _-_}
+use mathlib.Core.Path.{_≡_}
+use native.Mathlib.Omega.{arith}
 use Rattle.algebra.specs.Kind.{floats}
 use Rattle.algebra.specs.Elimination.{eliminateTo}
 use Rattle.algebra.proofs.FoldLaws.{fold-start, fold-next, fold-end}
-use native.Mathlib.Omega.{arith}
 use Rattle.elimination.proofs.plain.eliminate.Statement.{statement}
 use Rattle.elimination.proofs.plain.eliminate.Tie as tie
-use Rattle.elimination.proofs.plain.eliminate.Reads as reads
-use Rattle.elimination.proofs.plain.eliminate.Lts as lts
-use Rattle.elimination.proofs.plain.eliminate_column.Reads as eliminate-column-reads
 
 abbrev Inv-loop : tie.InvT-loop
 Inv-loop n w out₀ c₀ out c = (c ≤ n) × (out ≡ eliminateTo floats c n w out₀)

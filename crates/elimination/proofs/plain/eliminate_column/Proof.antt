@@ -1,18 +1,11 @@
 -- `elimination::plain::eliminate_column` meets its contract.
-use Prim.Native.Nat.{_≤_, _<_}
-use mathlib.Core.Path.{_≡_, refl, ap}
+use native.Mathlib.Omega.{arith}
+use borrow.Author.Needs.{needs}
 use Rattle.algebra.specs.Kind.{floats}
 use Rattle.algebra.specs.Elimination.{eliminateColumn}
 use Rattle.elimination.proofs.Steps.{pivot-below}
-use native.Mathlib.Omega.{arith}
-use borrow.Author.Needs.{needs}
 use Rattle.elimination.proofs.plain.eliminate_column.Statement.{statement}
 use Rattle.elimination.proofs.plain.eliminate_column.Tie as tie
-use Rattle.elimination.proofs.plain.eliminate_column.Reads as reads
-use Rattle.elimination.proofs.plain.eliminate_column.Lts as lts
-use Rattle.elimination.proofs.plain.clear.Reads as clear-reads
-use Rattle.elimination.proofs.plain.pivot_row.Reads as pivot-row-reads
-use Rattle.elimination.proofs.plain.swap_rows.Reads as swap-rows-reads
 
 pivot-row-requires : tie.Need-pivot-row-requires
 pivot-row-requires c κs = search needs

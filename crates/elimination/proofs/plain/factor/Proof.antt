@@ -1,11 +1,9 @@
 -- `elimination::plain::factor` meets its contract.
 use mathlib.Core.Path.{refl}
-use Rattle.algebra.specs.Elimination.{factor}
 use borrow.Author.Needs.{needs}
+use Rattle.algebra.specs.Elimination.{factor}
 use Rattle.elimination.proofs.plain.factor.Statement.{statement}
 use Rattle.elimination.proofs.plain.factor.Tie as tie
-use Rattle.elimination.proofs.plain.factor.Reads as reads
-use Rattle.elimination.proofs.plain.factor.Lts as lts
 
 mul-result : tie.Need-mul-result
 mul-result c = search needs

@@ -4,8 +4,6 @@ use Rattle.algebra.specs.Kind.{floats}
 use Rattle.elimination.proofs.Steps.{identity-on, identity-off}
 use Rattle.elimination.proofs.plain.identity_cell.Statement.{statement}
 use Rattle.elimination.proofs.plain.identity_cell.Tie as tie
-use Rattle.elimination.proofs.plain.identity_cell.Reads as reads
-use Rattle.elimination.proofs.plain.identity_cell.Lts as lts
 
 returns : tie.Need-returns
 unfolding ofBits

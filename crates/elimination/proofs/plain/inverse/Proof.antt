@@ -2,10 +2,6 @@
 use borrow.Author.Needs.{needs}
 use Rattle.elimination.proofs.plain.inverse.Statement.{statement}
 use Rattle.elimination.proofs.plain.inverse.Tie as tie
-use Rattle.elimination.proofs.plain.inverse.Reads as reads
-use Rattle.elimination.proofs.plain.inverse.Lts as lts
-use Rattle.elimination.proofs.plain.identity.Reads as identity-reads
-use Rattle.elimination.proofs.plain.solve.Reads as solve-reads
 
 identity-requires : tie.Need-identity-requires
 identity-requires c κs = search needs

@@ -1,16 +1,13 @@
 -- `elimination::plain::is_singular` meets its contract.
-use Prim.Native.Nat.{_≤_, _<_, _-_, _+_}
-use mathlib.Core.Path.{_≡_, refl}
+use Prim.Native.Nat.{_≤_, _-_}
+use mathlib.Core.Path.{_≡_}
+use borrow.Author.Needs.{needs}
+use native.Mathlib.Omega.{arith}
 use Rattle.algebra.specs.Kind.{floats}
 use Rattle.algebra.proofs.FoldLaws.{fold-start, fold-next, fold-end}
 use Rattle.elimination.specs.Parts.{singular}
-use borrow.Author.Needs.{needs}
-use native.Mathlib.Omega.{arith}
 use Rattle.elimination.proofs.plain.is_singular.Statement.{statement}
 use Rattle.elimination.proofs.plain.is_singular.Tie as tie
-use Rattle.elimination.proofs.plain.is_singular.Reads as reads
-use Rattle.elimination.proofs.plain.is_singular.Lts as lts
-use Rattle.arithmetic.proofs.plain.is_zero.Reads as is-zero-reads
 
 abbrev Inv-loop : tie.InvT-loop
 Inv-loop n m zero₀ c₀ zero c = (c ≤ n) × (zero ≡ singular floats c m)

@@ -1,15 +1,11 @@
 -- `elimination::plain::larger` meets its contract.
-use mathlib.Core.Path.{refl}
+use mathlib.Core.Path.{refl, sym, _∙_}
 use mathlib.Core.Bool.{true, false}
-use Rattle.elimination.proofs.Steps.{larger-is}
-use Rattle.algebra.specs.Kind.{floats}
-use mathlib.Core.Path.{sym, _∙_}
 use borrow.Author.Needs.{needs}
+use Rattle.algebra.specs.Kind.{floats}
+use Rattle.elimination.proofs.Steps.{larger-is}
 use Rattle.elimination.proofs.plain.larger.Statement.{statement}
 use Rattle.elimination.proofs.plain.larger.Tie as tie
-use Rattle.elimination.proofs.plain.larger.Reads as reads
-use Rattle.elimination.proofs.plain.larger.Lts as lts
-use Rattle.arithmetic.proofs.plain.is_larger.Reads as is-larger-reads
 
 mul-is-larger : tie.Need-mul-is-larger
 mul-is-larger c = search needs

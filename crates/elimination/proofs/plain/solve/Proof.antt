@@ -1,15 +1,9 @@
 -- `elimination::plain::solve` meets its contract.
+use borrow.Author.Needs.{needs}
 use Rattle.algebra.specs.Kind.{floats}
 use Rattle.elimination.proofs.Steps.{solution-is, refused-is}
-use borrow.Author.Needs.{needs}
 use Rattle.elimination.proofs.plain.solve.Statement.{statement}
 use Rattle.elimination.proofs.plain.solve.Tie as tie
-use Rattle.elimination.proofs.plain.solve.Reads as reads
-use Rattle.elimination.proofs.plain.solve.Lts as lts
-use Rattle.elimination.proofs.plain.back.Reads as back-reads
-use Rattle.elimination.proofs.plain.eliminate.Reads as eliminate-reads
-use Rattle.elimination.proofs.plain.is_singular.Reads as is-singular-reads
-use Rattle.elimination.proofs.plain.joined.Reads as joined-reads
 
 joined-requires : tie.Need-joined-requires
 joined-requires c κs = search needs
@@ -27,7 +21,11 @@ back-requires : tie.Need-back-requires
 back-requires c κs = search needs
 
 returns : tie.Need-returns
-returns c = (solution-is floats _ _ _ _ _ _ _ _ _ _ (c .before .before .before .joined .ensures) (c .before .before .eliminate .ensures) (c .back .ensures), refused-is floats _ _ _ _ _ _ _ _ _ (c .before .before .before .before .pre .0) (c .before .before .before .joined .ensures) (c .before .before .eliminate .ensures) (c .before .is-singular .ensures))
+returns c =
+    let start = c .before .before .before .joined .ensures in
+    let done = c .before .before .eliminate .ensures in
+    let n = c .before .before .before .before .pre .0 in
+    (solution-is floats _ _ _ _ _ _ _ _ _ _ start done (c .back .ensures), refused-is floats _ _ _ _ _ _ _ _ _ n start done (c .before .is-singular .ensures))
 
 pub solve-spec : {M : Type 1} → statement M
 solve-spec =
