@@ -1,6 +1,6 @@
 -- The cells of a rotated matrix by where they stand, for any kind of number.
 use Prim.Native.Nat.{ℕ}
-use mathlib.Core.Path.{_≡_, refl}
+use mathlib.Core.Path.{_≡_}
 use mathlib.Core.List.{List}
 use borrow.Author.Tests.{eq-eqb, ne-eqb}
 use Rattle.algebra.specs.Kind.{Arith, nil}

@@ -2,15 +2,14 @@
 use Prim.Native.Nat.{ℕ, _+_, _*_, _≤_}
 use native.Mathlib.Omega.{arith}
 use native.Mathlib.Nat.{mul-le-mul-left}
-use mathlib.Core.Path.{_≡_, refl}
-use mathlib.Core.Bool.{Bool, true, false}
+use mathlib.Core.Path.{_≡_}
+use mathlib.Core.Bool.{true, false}
 use mathlib.Core.List.{List}
 use lib.ListN.{getD, set}
 use lib.Ieee.{Float, lt}
 use Rattle.algebra.specs.Kind.{Arith, nil}
-use Rattle.algebra.specs.Table.{table}
 use Rattle.algebra.specs.Product.{at, identity}
-use Rattle.algebra.specs.Jacobi.{State, ratio, tangent, cosine, sine, turnedFirst, turnedSecond, turnRow, turnColumns, rotatedCell, rotated, squared, bound, rotateTested, rowTo, sweepTo, sweepsTo, mirrored, jacobi}
+use Rattle.algebra.specs.Jacobi.{State, ratio, tangent, cosine, sine, turnedFirst, turnedSecond, turnRow, turnColumns, rotated, squared, bound, rotateTested, rowTo, sweepTo, sweepsTo, mirrored, jacobi}
 use Rattle.algebra.proofs.JacobiCount.{pairs-small, row-count, sweep-count, sweeps-count, jacobi-at-most}
 
 -- a turned row, from its two new cells

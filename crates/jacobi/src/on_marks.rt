@@ -1,4 +1,5 @@
-// Jacobi's rotations on marked numbers. The products of the rotation test are marked steps too; the number `seen` counts their marks.
+// Jacobi's rotations on marked numbers. The matrix and the vectors travel as one value, `both`. The products of the rotation test are marked steps too:
+// `inside` is the mark of the state's `seen`, which counts theirs, and whose value stays +0.
 ghost use mathlib.Core.Path.{_≡_};
 ghost use Prim.Native.Nat.{_+_, _<_, _≤_};
 ghost use mathlib.Core.List.{[], _∷_};
@@ -12,7 +13,10 @@ use arithmetic::Marked;
 use arithmetic::plain::is_zero;
 use arithmetic::plain::sign;
 use arithmetic::step::add;
+<<<<<<< HEAD
 use arithmetic::step::also;
+=======
+>>>>>>> e95846b (jacobi: tidy, edits that must be refused)
 use arithmetic::step::div;
 use arithmetic::step::given;
 use arithmetic::step::mul;

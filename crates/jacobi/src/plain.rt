@@ -12,7 +12,7 @@ use arithmetic::plain::magnitude;
 use arithmetic::plain::sign;
 use arithmetic::root::sqrt;
 
-// z, half the cotangent's double angle: the diagonal cells' difference over twice the cell beside them.
+// z: the difference of the diagonal cells over twice the cell beside them.
 pub fn ratio(aa: f64, bb: f64, ab: f64) -> f64
     ensures { λ r. ⌜ r ≡ ratio floats aa bb ab ⌝ }
 {
@@ -184,6 +184,7 @@ pub fn rotate_tested(
     ensures { λ r. ⌜ record { a = now (a .exit); v = now (v .exit); count = r; seen = plusZero } ≡ rotateTested floats limit 6 6 n p q (record { a = now (a .entry); v = now (v .entry); count = count; seen = plusZero }) ⌝ }
 {
     let m = *a;
+    let more = count + 1;
     if bound(m, p, q, limit) < squared(m, p, q) {
         let t = tangent_at(m, p, q);
         let c = cosine(t);
@@ -193,7 +194,7 @@ pub fn rotate_tested(
         let turned = turn_columns(old, n, p, q, c, s);
         *a = b;
         *v = turned;
-        return count + 1;
+        return more;
     }
     count
 }

@@ -1,6 +1,4 @@
 -- `jacobi::on_marks::bound` meets its contract.
-use mathlib.Core.Path.{_≡_, refl}
-use lib.Ieee.{ofBits}
 use Rattle.algebra.specs.Jacobi.{bound}
 use borrow.Author.Needs.{needs}
 use Rattle.jacobi.proofs.on_marks.bound.Statement.{statement}
@@ -40,7 +38,7 @@ mul-requires-2 : tie.Need-mul-requires-2
 mul-requires-2 c κs = search needs
 
 returns : tie.Need-returns
-unfolding bound ofBits
+unfolding bound
 returns c = cc
 
 pub bound-spec : {M : Type 1} → statement M

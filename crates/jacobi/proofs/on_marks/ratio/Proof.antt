@@ -1,5 +1,4 @@
 -- `jacobi::on_marks::ratio` meets its contract.
-use mathlib.Core.Path.{_≡_, refl}
 use lib.Ieee.{ofBits}
 use Rattle.algebra.specs.Jacobi.{ratio}
 use borrow.Author.Needs.{needs}

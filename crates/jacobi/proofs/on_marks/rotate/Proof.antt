@@ -1,5 +1,5 @@
 -- `jacobi::on_marks::rotate` meets its contract.
-use mathlib.Core.Path.{_≡_, refl, sym, _∙_}
+use mathlib.Core.Path.{sym, _∙_}
 use Rattle.algebra.specs.Jacobi.{rotate}
 use borrow.Author.Needs.{needs}
 use Rattle.jacobi.proofs.on_marks.rotate.Statement.{statement}

@@ -1,5 +1,5 @@
 -- `jacobi::on_marks::rotate_tested` meets its contract.
-use mathlib.Core.Path.{_≡_, refl}
+use mathlib.Core.Path.{refl}
 use Rattle.arithmetic.specs.Marks.{also}
 use Rattle.algebra.specs.Kind.{marks}
 use Rattle.jacobi.proofs.Rotations.{tested-yes, tested-no}

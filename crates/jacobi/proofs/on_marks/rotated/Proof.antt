@@ -1,5 +1,4 @@
 -- `jacobi::on_marks::rotated` meets its contract.
-use mathlib.Core.Path.{_≡_}
 use Rattle.algebra.specs.Jacobi.{rotated}
 use borrow.Author.Needs.{needs}
 use Rattle.jacobi.proofs.on_marks.rotated.Statement.{statement}

@@ -1,6 +1,4 @@
 -- `jacobi::on_marks::sine` meets its contract.
-use mathlib.Core.Path.{_≡_, refl}
-use lib.Ieee.{ofBits}
 use Rattle.algebra.specs.Jacobi.{sine}
 use borrow.Author.Needs.{needs}
 use Rattle.jacobi.proofs.on_marks.sine.Statement.{statement}
@@ -10,7 +8,7 @@ mul-requires : tie.Need-mul-requires
 mul-requires c κs = search needs
 
 returns : tie.Need-returns
-unfolding sine ofBits
+unfolding sine
 returns c = cc
 
 pub sine-spec : {M : Type 1} → statement M

@@ -1,6 +1,4 @@
 -- `jacobi::on_marks::squared` meets its contract.
-use mathlib.Core.Path.{_≡_, refl}
-use lib.Ieee.{ofBits}
 use Rattle.algebra.specs.Jacobi.{squared}
 use borrow.Author.Needs.{needs}
 use Rattle.jacobi.proofs.on_marks.squared.Statement.{statement}
@@ -34,7 +32,7 @@ mul-requires : tie.Need-mul-requires
 mul-requires c κs = search needs
 
 returns : tie.Need-returns
-unfolding squared ofBits
+unfolding squared
 returns c = cc
 
 pub squared-spec : {M : Type 1} → statement M

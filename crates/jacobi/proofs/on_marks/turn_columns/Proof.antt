@@ -1,6 +1,6 @@
 -- `jacobi::on_marks::turn_columns` meets its contract.
-use Prim.Native.Nat.{_≤_, _<_, _-_, _+_}
-use mathlib.Core.Path.{_≡_, refl, ap}
+use Prim.Native.Nat.{_≤_, _-_}
+use mathlib.Core.Path.{_≡_}
 use Rattle.algebra.specs.Kind.{marks}
 use Rattle.algebra.specs.Jacobi.{turnColumns}
 use Rattle.algebra.proofs.FoldLaws.{fold-start, fold-next, fold-end}

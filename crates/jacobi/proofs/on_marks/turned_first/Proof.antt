@@ -1,6 +1,4 @@
 -- `jacobi::on_marks::turned_first` meets its contract.
-use mathlib.Core.Path.{_≡_, refl}
-use lib.Ieee.{ofBits}
 use Rattle.algebra.specs.Jacobi.{turnedFirst}
 use borrow.Author.Needs.{needs}
 use Rattle.jacobi.proofs.on_marks.turned_first.Statement.{statement}
@@ -16,7 +14,7 @@ sub-requires : tie.Need-sub-requires
 sub-requires c κs = search needs
 
 returns : tie.Need-returns
-unfolding turnedFirst ofBits
+unfolding turnedFirst
 returns c = cc
 
 pub turned-first-spec : {M : Type 1} → statement M

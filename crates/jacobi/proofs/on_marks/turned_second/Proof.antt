@@ -1,6 +1,4 @@
 -- `jacobi::on_marks::turned_second` meets its contract.
-use mathlib.Core.Path.{_≡_, refl}
-use lib.Ieee.{ofBits}
 use Rattle.algebra.specs.Jacobi.{turnedSecond}
 use borrow.Author.Needs.{needs}
 use Rattle.jacobi.proofs.on_marks.turned_second.Statement.{statement}
@@ -16,7 +14,7 @@ add-requires : tie.Need-add-requires
 add-requires c κs = search needs
 
 returns : tie.Need-returns
-unfolding turnedSecond ofBits
+unfolding turnedSecond
 returns c = cc
 
 pub turned-second-spec : {M : Type 1} → statement M

@@ -1,6 +1,5 @@
 -- `jacobi::plain::bound` meets its contract.
-use mathlib.Core.Path.{_≡_, refl}
-use lib.Ieee.{ofBits}
+use mathlib.Core.Path.{refl}
 use Rattle.algebra.specs.Jacobi.{bound}
 use borrow.Author.Needs.{needs}
 use Rattle.jacobi.proofs.plain.bound.Statement.{statement}
@@ -31,7 +30,7 @@ index-2-result-2 : tie.Need-index-2-result-2
 index-2-result-2 c = search needs
 
 returns : tie.Need-returns
-unfolding bound ofBits
+unfolding bound
 returns c = refl
 
 pub bound-spec : {M : Type 1} → statement M

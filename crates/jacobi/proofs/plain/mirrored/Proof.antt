@@ -1,5 +1,5 @@
 -- `jacobi::plain::mirrored` meets its contract.
-use Prim.Native.Nat.{_≤_, _<_, _-_, _+_}
+use Prim.Native.Nat.{_≤_, _<_, _-_}
 use native.Mathlib.Nat.{le-antisymm}
 use mathlib.Core.Path.{_≡_, refl}
 use lib.Ieee.{ofBits}

@@ -1,5 +1,5 @@
 -- `jacobi::plain::ratio` meets its contract.
-use mathlib.Core.Path.{_≡_, refl}
+use mathlib.Core.Path.{refl}
 use lib.Ieee.{ofBits}
 use Rattle.algebra.specs.Jacobi.{ratio}
 use Rattle.jacobi.proofs.plain.ratio.Statement.{statement}

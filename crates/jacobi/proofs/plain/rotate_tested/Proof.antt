@@ -1,10 +1,13 @@
 -- `jacobi::plain::rotate_tested` meets its contract.
-use mathlib.Core.Path.{_≡_, refl}
+use mathlib.Core.Path.{refl}
 use Rattle.algebra.specs.Kind.{floats}
 use Rattle.jacobi.proofs.Rotations.{tested-yes, tested-no}
 use borrow.Author.Needs.{needs}
 use Rattle.jacobi.proofs.plain.rotate_tested.Statement.{statement}
 use Rattle.jacobi.proofs.plain.rotate_tested.Tie as tie
+
+add-more : tie.Need-add-more
+add-more c = search needs
 
 bound-requires : tie.Need-bound-requires
 bound-requires c κs = search needs
@@ -27,9 +30,6 @@ rotated-requires c κs = search needs
 turn-columns-requires : tie.Need-turn-columns-requires
 turn-columns-requires c κs = search needs
 
-add-result : tie.Need-add-result
-add-result c = search needs
-
 returns : tie.Need-returns
 returns c =
     let b = c .before .before .before .before .before .before in
@@ -43,6 +43,7 @@ pub rotate-tested-spec : {M : Type 1} → statement M
 rotate-tested-spec =
     tie.close
     (tie.spec
+    add-more
     bound-requires
     squared-requires
     tangent-at-requires
@@ -50,6 +51,5 @@ rotate-tested-spec =
     sine-requires
     rotated-requires
     turn-columns-requires
-    add-result
     returns
     returns-2)

@@ -1,5 +1,4 @@
 -- `jacobi::plain::rotated` meets its contract.
-use mathlib.Core.Path.{_≡_}
 use Rattle.algebra.specs.Jacobi.{rotated}
 use borrow.Author.Needs.{needs}
 use Rattle.jacobi.proofs.plain.rotated.Statement.{statement}

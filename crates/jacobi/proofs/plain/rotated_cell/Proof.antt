@@ -1,5 +1,5 @@
 -- `jacobi::plain::rotated_cell` meets its contract.
-use mathlib.Core.Path.{_≡_, refl}
+use mathlib.Core.Path.{refl}
 use lib.Ieee.{ofBits}
 use Rattle.algebra.specs.Kind.{floats}
 use Rattle.jacobi.proofs.Cells.{first-diagonal, first-cleared, first-mirror, second-diagonal, second-cleared, second-mirror, elsewhere}

@@ -1,7 +1,7 @@
 -- `jacobi::plain::rotated_cells` meets its contract.
-use Prim.Native.Nat.{_≤_, _<_, _-_, _+_}
+use Prim.Native.Nat.{_≤_, _<_, _-_}
 use native.Mathlib.Nat.{le-antisymm}
-use mathlib.Core.Path.{_≡_, refl, ap, _∙_, sym}
+use mathlib.Core.Path.{_≡_, refl}
 use lib.Ieee.{ofBits}
 use Rattle.algebra.specs.Kind.{floats, nil}
 use Rattle.algebra.specs.Table.{table, blank}

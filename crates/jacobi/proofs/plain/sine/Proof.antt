@@ -1,12 +1,11 @@
 -- `jacobi::plain::sine` meets its contract.
-use mathlib.Core.Path.{_≡_, refl}
-use lib.Ieee.{ofBits}
+use mathlib.Core.Path.{refl}
 use Rattle.algebra.specs.Jacobi.{sine}
 use Rattle.jacobi.proofs.plain.sine.Statement.{statement}
 use Rattle.jacobi.proofs.plain.sine.Tie as tie
 
 returns : tie.Need-returns
-unfolding sine ofBits
+unfolding sine
 returns c = refl
 
 pub sine-spec : {M : Type 1} → statement M

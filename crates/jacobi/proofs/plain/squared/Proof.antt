@@ -1,6 +1,5 @@
 -- `jacobi::plain::squared` meets its contract.
-use mathlib.Core.Path.{_≡_, refl}
-use lib.Ieee.{ofBits}
+use mathlib.Core.Path.{refl}
 use Rattle.algebra.specs.Jacobi.{squared}
 use borrow.Author.Needs.{needs}
 use Rattle.jacobi.proofs.plain.squared.Statement.{statement}
@@ -31,7 +30,7 @@ index-2-result-2 : tie.Need-index-2-result-2
 index-2-result-2 c = search needs
 
 returns : tie.Need-returns
-unfolding squared ofBits
+unfolding squared
 returns c = refl
 
 pub squared-spec : {M : Type 1} → statement M

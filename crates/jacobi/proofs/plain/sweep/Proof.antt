@@ -1,9 +1,9 @@
 -- `jacobi::plain::sweep` meets its contract.
-use Prim.Native.Nat.{_≤_, _<_, _-_, _+_}
-use mathlib.Core.Path.{_≡_, refl}
+use Prim.Native.Nat.{_≤_, _-_}
+use mathlib.Core.Path.{_≡_}
 use Rattle.arithmetic.specs.Numbers.{plusZero}
 use Rattle.algebra.specs.Kind.{floats}
-use Rattle.algebra.specs.Jacobi.{State, sweepTo}
+use Rattle.algebra.specs.Jacobi.{sweepTo}
 use Rattle.algebra.proofs.FoldLaws.{fold-start, fold-next, fold-end}
 use Rattle.jacobi.proofs.Rotations.{sweep-limit}
 use native.Mathlib.Omega.{arith}

@@ -1,9 +1,9 @@
 -- `jacobi::plain::sweeps` meets its contract.
-use Prim.Native.Nat.{_≤_, _<_, _-_, _+_}
-use mathlib.Core.Path.{_≡_, refl}
+use Prim.Native.Nat.{_≤_, _-_}
+use mathlib.Core.Path.{_≡_}
 use Rattle.arithmetic.specs.Numbers.{plusZero}
 use Rattle.algebra.specs.Kind.{floats}
-use Rattle.algebra.specs.Jacobi.{State, sweepsTo}
+use Rattle.algebra.specs.Jacobi.{sweepsTo}
 use Rattle.algebra.proofs.FoldLaws.{fold-start, fold-next, fold-end}
 use Rattle.jacobi.proofs.Rotations.{sweeps-limit}
 use native.Mathlib.Omega.{arith}

@@ -1,5 +1,4 @@
 -- `jacobi::plain::tangent` meets its contract.
-use mathlib.Core.Path.{_≡_, refl}
 use lib.Ieee.{ofBits}
 use Rattle.algebra.specs.Jacobi.{tangent}
 use borrow.Author.Needs.{needs}

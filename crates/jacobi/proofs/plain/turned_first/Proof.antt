@@ -1,12 +1,11 @@
 -- `jacobi::plain::turned_first` meets its contract.
-use mathlib.Core.Path.{_≡_, refl}
-use lib.Ieee.{ofBits}
+use mathlib.Core.Path.{refl}
 use Rattle.algebra.specs.Jacobi.{turnedFirst}
 use Rattle.jacobi.proofs.plain.turned_first.Statement.{statement}
 use Rattle.jacobi.proofs.plain.turned_first.Tie as tie
 
 returns : tie.Need-returns
-unfolding turnedFirst ofBits
+unfolding turnedFirst
 returns c = refl
 
 pub turned-first-spec : {M : Type 1} → statement M

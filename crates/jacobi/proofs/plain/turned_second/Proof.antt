@@ -1,12 +1,11 @@
 -- `jacobi::plain::turned_second` meets its contract.
-use mathlib.Core.Path.{_≡_, refl}
-use lib.Ieee.{ofBits}
+use mathlib.Core.Path.{refl}
 use Rattle.algebra.specs.Jacobi.{turnedSecond}
 use Rattle.jacobi.proofs.plain.turned_second.Statement.{statement}
 use Rattle.jacobi.proofs.plain.turned_second.Tie as tie
 
 returns : tie.Need-returns
-unfolding turnedSecond ofBits
+unfolding turnedSecond
 returns c = refl
 
 pub turned-second-spec : {M : Type 1} → statement M
