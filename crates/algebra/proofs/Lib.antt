@@ -4,3 +4,5 @@ pub mod TableLaws
 pub mod EliminationLaws
 pub mod JacobiCount
 pub mod ValueLaws
+pub mod MovingCells
+pub mod MovingProducts
