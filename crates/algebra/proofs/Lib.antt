@@ -6,3 +6,5 @@ pub mod JacobiCount
 pub mod ValueLaws
 pub mod MovingCells
 pub mod MovingProducts
+pub mod MovingTurns
+pub mod MovingJacobi

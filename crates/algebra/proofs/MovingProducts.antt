@@ -1,7 +1,6 @@
 -- Sums and products of matrices of marked numbers: what they take in bears as much as they do, and they move as their operands do.
 use Prim.Native.Nat.{ℕ, _≤_, _<_}
 use native.Mathlib.Omega.{arith}
-use mathlib.Core.Path.{_≡_, refl}
 use mathlib.Core.Bool.{Bool, true, false, cond}
 use mathlib.Core.List.{List}
 use lib.Dec.{eqb}
@@ -15,7 +14,7 @@ use Rattle.algebra.specs.Fold.{fold}
 use Rattle.algebra.specs.Kind.{marks, nil}
 use Rattle.algebra.specs.Product.{at, sum, cell, product, transpose, sumCells, likeCells, trace, plusCells, minusCells, timesNumber, overNumber, identity}
 use Rattle.algebra.proofs.FoldLaws.{fold-both}
-use Rattle.algebra.proofs.MovingCells.{BearsCells, MovesCells, first-bears, step-bears, nil-moves, constant-moves, table-moves, table-bears}
+use Rattle.algebra.proofs.MovingCells.{MovesCells, first-bears, step-bears, nil-moves, constant-moves, table-moves, table-bears}
 
 abbrev Matrix : Type 0
 Matrix = List (List Marked)
