@@ -8,3 +8,4 @@ pub mod MovingCells
 pub mod MovingProducts
 pub mod MovingTurns
 pub mod MovingJacobi
+pub mod MovingColumns

@@ -1,0 +1,215 @@
+-- Elimination, for every kind of number: what stands in the cells of the matrix with a column eliminated, when the run that stops is refused, and X by its own rows.
+use Prim.Native.Nat.{ℕ, zero, suc, _+_, _-_, _≤_, _<_}
+use native.Mathlib.Omega.{arith}
+use native.Mathlib.Decide.{ℕ-discrete, decLe}
+use mathlib.Core.Path.{_≡_, refl, sym, ap, _∙_}
+use mathlib.Core.Bool.{Bool, true, false, cond, _||_, true≢false}
+use mathlib.Core.List.{List, []}
+use mathlib.Core.Logic.{inl, inr}
+use lib.ListN.{getD, set, length, length-set, replicate, length-replicate}
+use lib.Seq.{getD-set-same, getD-set-other}
+use Rattle.arithmetic.specs.Numbers.{isLarger}
+use Rattle.algebra.specs.Fold.{fold}
+use Rattle.algebra.specs.Table.{row, blank}
+use Rattle.algebra.specs.Kind.{Arith, nil}
+use Rattle.algebra.specs.Product.{at}
+use Rattle.algebra.specs.Elimination.{Stopping, larger, pivotRow, swapRows, factor, lessBy, lessRow, cleared, eliminateColumn, eliminateTo, zeroPivot, columnOrStop, stopping, backSum, backCell, backTo}
+use Rattle.algebra.proofs.FoldLaws.{fold-more, fold-none, fold-keeps, fold-steps, fold-ext, span-at, span-other, length-span}
+use Rattle.algebra.proofs.TableLaws.{row-at}
+use Rattle.algebra.proofs.MovingCells.{Place, first, second, other, place, Sized, cond-both}
+
+-- rows i and j change places: the row that stands at k afterwards
+unfoldable pub origin : {i j k : ℕ} → Place i j k → ℕ
+origin {i} {j} {k} (first _) = j
+origin {i} {j} {k} (second _) = i
+origin {i} {j} {k} (other _ _) = k
+
+origin-below : {i j k n : ℕ} → i < n → j < n → k < n → (x : Place i j k) → origin x < n
+unfolding origin
+origin-below hi hj hk (first _) = hj
+origin-below hi hj hk (second _) = hi
+origin-below hi hj hk (other _ _) = hk
+
+-- p is one of c, .., n - 1
+pub record Among (c n p : ℕ) : Type 0 where
+  pub low : c ≤ p
+  pub high : p < n
+
+module _ {A : Type 0} (N : Arith A) where
+  -- ---- rows i and j change places
+  module _ (i j : ℕ) (m : List (List A)) (hi : i < length m) (hj : j < length m) where
+    swap-second : getD (swapRows N i j m) j [] ≡ getD m i []
+    unfolding swapRows
+    swap-second = getD-set-same (set m i (getD m j [])) j (getD m i []) [] (omega (arith, length-set m i (getD m j [])))
+
+    swap-first : getD (swapRows N i j m) i [] ≡ getD m j []
+    unfolding swapRows
+    swap-first = go (ℕ-discrete i j)
+      where
+        go : Dec (i ≡ j) → getD (set (set m i (getD m j [])) j (getD m i [])) i [] ≡ getD m j []
+        go (yes e) = rw e (getD-set-same (set m j (getD m j [])) j (getD m j []) [] (omega (arith, length-set m j (getD m j []))))
+        go (no e) = getD-set-other (set m i (getD m j [])) j i (getD m i []) [] e ∙ getD-set-same m i (getD m j []) [] hi
+
+    pub swap-row : {k : ℕ} (x : Place i j k) → getD (swapRows N i j m) k [] ≡ getD m (origin x) []
+    unfolding swapRows origin
+    swap-row (first e) = rw e swap-first
+    swap-row (second e) = rw e swap-second
+    swap-row {k} (other d e) = getD-set-other (set m i (getD m j [])) j k (getD m i []) [] e ∙ getD-set-other m i k (getD m j []) [] d
+
+  pub swap-sized : (n w i j : ℕ) (m : List (List A)) → Sized n w m → i < n → j < n → Sized n w (swapRows N i j m)
+  unfolding swapRows
+  swap-sized n w i j m z hi hj =
+      let a : i < length m = omega (arith, z .rows) in
+      let b : j < length m = omega (arith, z .rows) in
+      record {
+        rows = simp length-set (z .rows);
+        cells = λ k h. rw (swap-row i j m a b (place i j k)) (z .cells (origin (place i j k)) (origin-below hi hj h (place i j k)));
+      }
+
+  -- ---- the rows below c less their factors times row c
+  module _ (n w c : ℕ) (m : List (List A)) (z : Sized n w m) where
+    pub cleared-above : (i : ℕ) → i ≤ c → getD (cleared N n w c m) i [] ≡ getD m i []
+    unfolding cleared
+    cleared-above i h = span-other (c + 1) n (λ r. lessRow N w c (getD m c []) (getD m r [])) m i [] (inl (omega arith))
+
+    cleared-row : (i : ℕ) → c < i → i < n → getD (cleared N n w c m) i [] ≡ lessRow N w c (getD m c []) (getD m i [])
+    unfolding cleared
+    cleared-row i h l = span-at (c + 1) n (λ r. lessRow N w c (getD m c []) (getD m r [])) m i [] (omega arith) l (z .rows)
+
+    pub cleared-at : (i j : ℕ) → c < i → i < n → c < j → j < w
+        → at N (cleared N n w c m) i j ≡ N .minus (at N m i j) (N .times (N .over (at N m i c) (at N m c c)) (at N m c j))
+    unfolding lessBy factor
+    cleared-at i j h l k o =
+        let y : List A = getD m i [] in
+        ap (λ (x : List A). getD x j (N .void)) (cleared-row i h l)
+        ∙ span-at (c + 1) w (λ j. N .minus (getD y j (N .void)) (N .times (factor N c (getD m c []) y) (at N m c j))) y j (N .void) (omega arith) o (z .cells i l)
+
+    pub cleared-sized : Sized n w (cleared N n w c m)
+    unfolding cleared lessBy
+    cleared-sized = record {
+      rows = omega (arith, length-span (c + 1) n (λ r. lessRow N w c (getD m c []) (getD m r [])) m, z .rows);
+      cells = λ i h. go i h (decLe i c);
+    }
+      where
+        go : (i : ℕ) → i < n → Dec (i ≤ c) → w ≤ length (getD (cleared N n w c m) i [])
+        go i h (yes l) = rw (cleared-above i l) (z .cells i h)
+        go i h (no l) =
+            let y : List A = getD m i [] in
+            rw (cleared-row i (omega arith) h)
+            (omega (
+              arith,
+              z .cells i h,
+              length-span (c + 1) w (λ j. N .minus (getD y j (N .void)) (N .times (factor N c (getD m c []) y) (at N m c j))) y,
+            ))
+
+  -- ---- the pivot's row is one of the rows c to n - 1
+  pub pivot-among : (n c : ℕ) (m : List (List A)) → c < n → Among c n (pivotRow N n c m)
+  unfolding pivotRow larger
+  pivot-among n c m h =
+      fold-keeps (Among c n) (c + 1) n (λ r best. larger N m c r best) c (record { low = omega arith; high = h })
+      (λ r k l b g. cond-both (Among c n) (isLarger (N .value (at N m r c)) (N .value (at N m b c))) r b (record { low = omega arith; high = l }) g)
+
+  -- ---- the eliminated matrix
+  pub eliminate-sized : (n w c : ℕ) (m : List (List A)) → c < n → Sized n w m → Sized n w (eliminateColumn N n w c m)
+  unfolding eliminateColumn
+  eliminate-sized n w c m h z =
+      let p : ℕ = pivotRow N n c m in
+      cleared-sized n w c (swapRows N c p m) (swap-sized n w c p m z h (pivot-among n c m h .high))
+
+  pub eliminateTo-sized : (k n w : ℕ) (m : List (List A)) → k ≤ n → Sized n w m → Sized n w (eliminateTo N k n w m)
+  unfolding eliminateTo
+  eliminateTo-sized k n w m h z =
+      fold-keeps (Sized n w) 0 k (λ c m. eliminateColumn N n w c m) m z (λ c i j b g. eliminate-sized n w c b (omega arith) g)
+
+  pub eliminateTo-more : (k n w : ℕ) (m : List (List A)) → eliminateTo N (k + 1) n w m ≡ eliminateColumn N n w k (eliminateTo N k n w m)
+  unfolding eliminateTo
+  eliminateTo-more k n w m = fold-more 0 k (λ c m. eliminateColumn N n w c m) m (omega arith)
+
+  -- ---- the run that stops: refused where the run that goes on meets a zero pivot; its rows are that run's where it is not refused
+  unfoldable pub metZero : ℕ → ℕ → ℕ → List (List A) → Bool
+  metZero k n w m = fold 0 k (λ c z. z || zeroPivot N n c (eliminateTo N c n w m)) false
+
+  pub record Stopped (k n w : ℕ) (m : List (List A)) (s : Stopping A) : Type 0 where
+    pub met : s .refused ≡ metZero k n w m
+    pub rows : s .refused ≡ false → s .rows ≡ eliminateTo N k n w m
+
+  stopped-none : (n w : ℕ) (m : List (List A)) → Stopped 0 n w m (record { rows = m; refused = false })
+  unfolding metZero eliminateTo fold
+  stopped-none n w m = record { met = refl; rows = λ x. refl }
+
+  metZero-more : (k n w : ℕ) (m : List (List A)) → metZero (k + 1) n w m ≡ (metZero k n w m || zeroPivot N n k (eliminateTo N k n w m))
+  unfolding metZero
+  metZero-more k n w m = fold-more 0 k (λ c z. z || zeroPivot N n c (eliminateTo N c n w m)) false (omega arith)
+
+  stopped-more : (n w : ℕ) (m : List (List A)) (k : ℕ) (s : Stopping A) → Stopped k n w m s → Stopped (k + 1) n w m (columnOrStop N n w k s)
+  unfolding columnOrStop
+  stopped-more n w m k s g = go (s .refused) refl (zeroPivot N n k (s .rows)) refl
+    where
+      -- what is met so far is b, and the pivot's test says d
+      met : (b d : Bool) → s .refused ≡ b → (b ≡ false → zeroPivot N n k (s .rows) ≡ d) → metZero (k + 1) n w m ≡ (b || d)
+      met true d e f = metZero-more k n w m ∙ ap (λ (x : Bool). x || zeroPivot N n k (eliminateTo N k n w m)) (sym (g .met) ∙ e)
+      met false d e f =
+          metZero-more k n w m ∙ ap (λ (x : Bool). x || zeroPivot N n k (eliminateTo N k n w m)) (sym (g .met) ∙ e)
+          ∙ ap (zeroPivot N n k) (sym (g .rows e)) ∙ f refl
+
+      go : (b : Bool) → s .refused ≡ b → (d : Bool) → zeroPivot N n k (s .rows) ≡ d
+          → Stopped (k + 1) n w m (cond b s (cond d (record { rows = s .rows; refused = true }) (record { rows = eliminateColumn N n w k (s .rows); refused = false })))
+      go true e d f = record { met = e ∙ sym (met true d e (λ x. f)); rows = λ x. absurd (true≢false (sym e ∙ x)) }
+      go false e true f = record { met = sym (met false true e (λ x. f)); rows = λ x. absurd (true≢false x) }
+      go false e false f = record {
+        met = sym (met false false e (λ x. f));
+        rows = λ x. ap (eliminateColumn N n w k) (g .rows e) ∙ sym (eliminateTo-more k n w m);
+      }
+
+  pub stopping-stopped : (k n w : ℕ) (m : List (List A)) → Stopped k n w m (stopping N k n w m)
+  unfolding stopping
+  stopping-stopped k n w m =
+      fold-steps (λ k s. Stopped k n w m s) 0 k (λ c s. columnOrStop N n w c s) (record { rows = m; refused = false }) (omega arith) (stopped-none n w m)
+      (λ c i j s g. stopped-more n w m c s g)
+
+  -- ---- X by its own rows: each takes in those below it
+  sum-same : (n hi : ℕ) (m x y : List (List A)) (i k : ℕ) → ((j : ℕ) → i < j → j < hi → at N x j k ≡ at N y j k) → backSum N n hi m x i k ≡ backSum N n hi m y i k
+  unfolding backSum
+  sum-same n hi m x y i k e =
+      fold-ext (i + 1) hi (λ j s. N .minus s (N .times (at N m i j) (at N x j k))) (λ j s. N .minus s (N .times (at N m i j) (at N y j k))) (at N m i (n + k))
+      (λ j l o b. ap (λ (v : A). N .minus b (N .times (at N m i j) v)) (e j (omega arith) o))
+
+  back-same : (n : ℕ) (m x y : List (List A)) (i k : ℕ) → ((j : ℕ) → i < j → j < n → at N x j k ≡ at N y j k) → backCell N n m x i k ≡ backCell N n m y i k
+  unfolding backCell
+  back-same n m x y i k e = ap (λ (v : A). N .over v (at N m i i)) (sum-same n n m x y i k e)
+
+  -- the last d rows of x are those of X
+  record Last (R n cols : ℕ) (m : List (List A)) (d : ℕ) (x : List (List A)) : Type 0 where
+    pub rows : length x ≡ R
+    pub cells : (i k : ℕ) → n ≤ i + d → i < n → k < cols → at N x i k ≡ backCell N n m x i k
+
+  last-more : (R C n cols : ℕ) (m : List (List A)) → n ≤ R → cols ≤ C → (d : ℕ) → d < n → (x : List (List A)) → Last R n cols m d x
+      → Last R n cols m (d + 1) (set x (n - 1 - d) (row (nil N) C cols (backCell N n m x (n - 1 - d))))
+  last-more R C n cols m hr hc d h x g =
+      record { rows = length-set x r y ∙ g .rows; cells = λ i k a b o. go i k a b o (ℕ-discrete i r) }
+    where
+      r : ℕ
+      r = n - 1 - d
+
+      y : List A
+      y = row (nil N) C cols (backCell N n m x r)
+
+      same : (i k : ℕ) → r ≤ i → backCell N n m (set x r y) i k ≡ backCell N n m x i k
+      same i k a =
+          back-same n m (set x r y) x i k
+          (λ j b o. ap (λ (v : List A). getD v k (N .void)) (getD-set-other x r j y [] (λ e. omega arith)))
+
+      go : (i k : ℕ) → n ≤ i + (d + 1) → i < n → k < cols → Dec (i ≡ r) → at N (set x r y) i k ≡ backCell N n m (set x r y) i k
+      go i k a b o (yes e) =
+          rw e (ap (λ (v : List A). getD v k (N .void)) (getD-set-same x r y [] (omega (arith, g .rows)))
+          ∙ row-at (nil N) C cols (backCell N n m x r) k (N .void) o hc ∙ sym (same r k (omega arith)))
+      go i k a b o (no e) =
+          ap (λ (v : List A). getD v k (N .void)) (getD-set-other x r i y [] e) ∙ g .cells i k (omega arith) b o ∙ sym (same i k (omega arith))
+
+  pub back-at : (R C n cols : ℕ) (m : List (List A)) → n ≤ R → cols ≤ C → (i k : ℕ) → i < n → k < cols
+      → at N (backTo N n R C n cols m) i k ≡ backCell N n m (backTo N n R C n cols m) i k
+  unfolding backTo blank
+  back-at R C n cols m hr hc i k h o =
+      fold-steps (Last R n cols m) 0 n (λ d x. set x (n - 1 - d) (row (nil N) C cols (backCell N n m x (n - 1 - d)))) (blank (nil N) R C) (omega arith)
+      (record { rows = length-replicate R (replicate C (nil N)); cells = λ i k a b o. absurd (omega arith) })
+      (λ d a b x g. last-more R C n cols m hr hc d b x g) .cells i k (omega arith) h o
