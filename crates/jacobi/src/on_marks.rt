@@ -13,10 +13,6 @@ use arithmetic::Marked;
 use arithmetic::plain::is_zero;
 use arithmetic::plain::sign;
 use arithmetic::step::add;
-<<<<<<< HEAD
-use arithmetic::step::also;
-=======
->>>>>>> e95846b (jacobi: tidy, edits that must be refused)
 use arithmetic::step::div;
 use arithmetic::step::given;
 use arithmetic::step::mul;
