@@ -1,0 +1,16 @@
+-- `elimination::inverse` meets its contract.
+use borrow.Author.Needs.{needs}
+use Rattle.elimination.proofs.inverse.Statement.{statement}
+use Rattle.elimination.proofs.inverse.Tie as tie
+
+identity-requires : tie.Need-identity-requires
+identity-requires c κs = search needs
+
+solve-requires : tie.Need-solve-requires
+solve-requires c κs = search needs
+
+returns : tie.Need-returns
+returns c = (cc, cc)
+
+pub inverse-spec : {M : Type 1} → statement M
+inverse-spec = tie.close (tie.spec identity-requires solve-requires returns)
