@@ -9,3 +9,4 @@ pub mod MovingProducts
 pub mod MovingTurns
 pub mod MovingJacobi
 pub mod MovingColumns
+pub mod MovingElimination

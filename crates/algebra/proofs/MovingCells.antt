@@ -163,10 +163,3 @@ module _ {t : ℕ} where
   pub table-bears : (R C r c : ℕ) (f : ℕ → ℕ → Marked) → r ≤ R → c ≤ C → (i j : ℕ) → i < r → j < c
       → Bears t (at marks (table (nil marks) R C r c f) i j) → Bears t (f i j)
   table-bears R C r c f hr hc i j h l b = rw (table-at (nil marks) R C r c f i j (marks .void) h l hr hc) at b
-
-  -- fewer rows and columns
-  pub fewer-bear : {r c r' c' : ℕ} {a : List (List Marked)} → r ≤ r' → c ≤ c' → BearsCells t r' c' a → BearsCells t r c a
-  fewer-bear h l b = record { cell = λ i j x y. b .cell i j (omega arith) (omega arith) }
-
-  pub fewer-move : {u : ℤ} {r c r' c' : ℕ} {a a' : List (List Marked)} → r ≤ r' → c ≤ c' → MovesCells t u r' c' a a' → MovesCells t u r c a a'
-  fewer-move h l b = record { cell = λ i j x y. b .cell i j (omega arith) (omega arith) }

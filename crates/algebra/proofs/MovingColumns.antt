@@ -1,11 +1,11 @@
 -- Elimination, for every kind of number: what stands in the cells of the matrix with a column eliminated, when the run that stops is refused, and X by its own rows.
-use Prim.Native.Nat.{ℕ, zero, suc, _+_, _-_, _≤_, _<_}
+use Prim.Native.Nat.{ℕ, zero, _+_, _-_, _≤_, _<_}
 use native.Mathlib.Omega.{arith}
 use native.Mathlib.Decide.{ℕ-discrete, decLe}
 use mathlib.Core.Path.{_≡_, refl, sym, ap, _∙_}
 use mathlib.Core.Bool.{Bool, true, false, cond, _||_, true≢false}
 use mathlib.Core.List.{List, []}
-use mathlib.Core.Logic.{inl, inr}
+use mathlib.Core.Logic.{inl}
 use lib.ListN.{getD, set, length, length-set, replicate, length-replicate}
 use lib.Seq.{getD-set-same, getD-set-other}
 use Rattle.arithmetic.specs.Numbers.{isLarger}
@@ -14,7 +14,7 @@ use Rattle.algebra.specs.Table.{row, blank}
 use Rattle.algebra.specs.Kind.{Arith, nil}
 use Rattle.algebra.specs.Product.{at}
 use Rattle.algebra.specs.Elimination.{Stopping, larger, pivotRow, swapRows, factor, lessBy, lessRow, cleared, eliminateColumn, eliminateTo, zeroPivot, columnOrStop, stopping, backSum, backCell, backTo}
-use Rattle.algebra.proofs.FoldLaws.{fold-more, fold-none, fold-keeps, fold-steps, fold-ext, span-at, span-other, length-span}
+use Rattle.algebra.proofs.FoldLaws.{fold-more, fold-keeps, fold-steps, fold-ext, span-at, span-other, length-span}
 use Rattle.algebra.proofs.TableLaws.{row-at}
 use Rattle.algebra.proofs.MovingCells.{Place, first, second, other, place, Sized, cond-both}
 
@@ -24,16 +24,16 @@ origin {i} {j} {k} (first _) = j
 origin {i} {j} {k} (second _) = i
 origin {i} {j} {k} (other _ _) = k
 
-origin-below : {i j k n : ℕ} → i < n → j < n → k < n → (x : Place i j k) → origin x < n
-unfolding origin
-origin-below hi hj hk (first _) = hj
-origin-below hi hj hk (second _) = hi
-origin-below hi hj hk (other _ _) = hk
-
 -- p is one of c, .., n - 1
 pub record Among (c n p : ℕ) : Type 0 where
   pub low : c ≤ p
   pub high : p < n
+
+pub origin-among : {c n i j k : ℕ} → Among c n i → Among c n j → Among c n k → (x : Place i j k) → Among c n (origin x)
+unfolding origin
+origin-among a b d (first _) = b
+origin-among a b d (second _) = a
+origin-among a b d (other _ _) = d
 
 module _ {A : Type 0} (N : Arith A) where
   -- ---- rows i and j change places
@@ -56,14 +56,23 @@ module _ {A : Type 0} (N : Arith A) where
     swap-row (second e) = rw e swap-second
     swap-row {k} (other d e) = getD-set-other (set m i (getD m j [])) j k (getD m i []) [] e ∙ getD-set-other m i k (getD m j []) [] d
 
+    -- the change undoes itself
+    pub swap-back : {k : ℕ} (x : Place i j k) → getD m k [] ≡ getD (swapRows N i j m) (origin x) []
+    unfolding origin
+    swap-back (first e) = rw e (sym swap-second)
+    swap-back (second e) = rw e (sym swap-first)
+    swap-back (other d e) = sym (swap-row (other d e))
+
   pub swap-sized : (n w i j : ℕ) (m : List (List A)) → Sized n w m → i < n → j < n → Sized n w (swapRows N i j m)
   unfolding swapRows
   swap-sized n w i j m z hi hj =
-      let a : i < length m = omega (arith, z .rows) in
-      let b : j < length m = omega (arith, z .rows) in
+      let a : Among 0 n i = record { low = omega arith; high = hi } in
+      let b : Among 0 n j = record { low = omega arith; high = hj } in
       record {
         rows = simp length-set (z .rows);
-        cells = λ k h. rw (swap-row i j m a b (place i j k)) (z .cells (origin (place i j k)) (origin-below hi hj h (place i j k)));
+        cells = λ k h.
+            rw (swap-row i j m (omega (arith, z .rows)) (omega (arith, z .rows)) (place i j k))
+            (z .cells (origin (place i j k)) (origin-among a b (record { low = omega arith; high = h }) (place i j k) .high));
       }
 
   -- ---- the rows below c less their factors times row c

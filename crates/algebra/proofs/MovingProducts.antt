@@ -14,7 +14,7 @@ use Rattle.algebra.specs.Fold.{fold}
 use Rattle.algebra.specs.Kind.{marks, nil}
 use Rattle.algebra.specs.Product.{at, sum, cell, product, transpose, sumCells, likeCells, trace, plusCells, minusCells, timesNumber, overNumber, identity}
 use Rattle.algebra.proofs.FoldLaws.{fold-both}
-use Rattle.algebra.proofs.MovingCells.{MovesCells, first-bears, step-bears, nil-moves, constant-moves, table-moves, table-bears}
+use Rattle.algebra.proofs.MovingCells.{BearsCells, MovesCells, first-bears, step-bears, nil-moves, constant-moves, table-moves, table-bears}
 
 abbrev Matrix : Type 0
 Matrix = List (List Marked)
@@ -94,6 +94,13 @@ module _ {t : ℕ} where
         → (k : ℕ) → k < n → Bears t (at marks a i k) × Bears t (at marks b k j)
     unfolding product
     product-bears n a b i j h l x = cell-bears n a b i j (table-bears R C r c (cell marks n a b) hr hc i j h l x)
+
+    -- the two matrices, where there is a column to meet each row, or a row to meet each column
+    pub product-left : (n : ℕ) (a b : Matrix) → 0 < c → BearsCells t r c (product marks R C r n c a b) → BearsCells t r n a
+    product-left n a b s x = record { cell = λ i k h l. product-bears n a b i 0 h s (x .cell i 0 h s) k l .0 }
+
+    pub product-right : (n : ℕ) (a b : Matrix) → 0 < r → BearsCells t r c (product marks R C r n c a b) → BearsCells t n c b
+    product-right n a b s x = record { cell = λ k j l h. product-bears n a b 0 j s h (x .cell 0 j s h) k l .1 }
 
     pub product-moves : (u v : ℤ) → natAbs (u +ℤ v) ≤ t → (n : ℕ) (a b a' b' : Matrix) → MovesCells t u r n a a' → MovesCells t v n c b b'
         → MovesCells t (u +ℤ v) r c (product marks R C r n c a b) (product marks R C r n c a' b')
