@@ -8,11 +8,17 @@ use Rattle.arithmetic.specs.declared.Marked.{Marked}
 use Rattle.arithmetic.specs.Marks.{given, also}
 use Rattle.algebra.specs.Table.{table}
 use Rattle.algebra.specs.Kind.{Arith, floats, marks}
-use Rattle.algebra.specs.Product.{at, product}
+use Rattle.algebra.specs.Product.{at, product, transpose}
 use Rattle.algebra.proofs.FoldLaws.{fold-keeps}
 use Rattle.algebra.proofs.TableLaws.{table-at, table-ext}
 use Rattle.algebra.proofs.ValueLaws.{Alike, Like, marks-floats, table-both, product-alike, transpose-alike}
 use Rattle.products.specs.Small.{sandwich, givenCells, values, allMarks}
+
+-- (l m) lᵀ from its two factors
+pub sandwich-is : {A : Type 0} (N : Arith A) (K C q p : ℕ) (l m left turned out : List (List A)) → left ≡ product N K C q p p l m → turned ≡ transpose N K C q p l
+    → out ≡ product N K C q p q left turned → out ≡ sandwich N K C q p l m
+unfolding sandwich
+sandwich-is N K C q p l m left turned out e f g = rw (← e, ← f) g
 
 -- (l m) lᵀ on two kinds of number that are related
 pub sandwich-alike : {A B : Type 0} {R : A → B → Type 0} {N : Arith A} {M : Arith B} (k : Alike R N M) (K C q p : ℕ) {l m : List (List A)} {l′ m′ : List (List B)}

@@ -1,0 +1,21 @@
+-- `jacobi::jacobi` meets its contract.
+use Rattle.algebra.specs.Kind.{floats}
+use Rattle.jacobi.proofs.Rotations.{jacobi-is}
+use borrow.Author.Needs.{needs}
+use Rattle.jacobi.proofs.jacobi.Statement.{statement}
+use Rattle.jacobi.proofs.jacobi.Tie as tie
+
+mirrored-requires : tie.Need-mirrored-requires
+mirrored-requires c κs = search needs
+
+identity-requires : tie.Need-identity-requires
+identity-requires c κs = search needs
+
+sweeps-requires : tie.Need-sweeps-requires
+sweeps-requires c κs = search needs
+
+returns : tie.Need-returns
+returns c = jacobi-is floats _ _ _ _ _ _ _ _ (c .before .before .before .before .mirrored .ensures) (c .before .before .before .identity .ensures) (c .sweeps .ensures) (c .before .before .before .before .before .before .pre)
+
+pub jacobi-spec : {M : Type 1} → statement M
+jacobi-spec = tie.close (tie.spec mirrored-requires identity-requires sweeps-requires returns)

@@ -1,0 +1,13 @@
+-- `products_marked::zeros` meets its contract.
+use mathlib.Core.Path.{refl}
+use lib.Ieee.{ofBits}
+use Rattle.algebra.specs.Table.{blank}
+use Rattle.products_marked.proofs.zeros.Statement.{statement}
+use Rattle.products_marked.proofs.zeros.Tie as tie
+
+returns : tie.Need-returns
+unfolding blank ofBits
+returns c = refl
+
+pub zeros-spec : {M : Type 1} → statement M
+zeros-spec = tie.close (tie.spec returns)

@@ -1,0 +1,253 @@
+// Small matrices of marked numbers, by value: the cells up to the sizes given are in use, and zeros stand past them.
+ghost use mathlib.Core.Path.{_≡_};
+ghost use mathlib.Core.Bool.{cond};
+ghost use lib.Dec.{eqb};
+ghost use Prim.Native.Nat.{_≤_, _<_};
+ghost use Rattle.arithmetic.specs.Numbers.{one};
+ghost use Rattle.algebra.specs.Table.{blank};
+ghost use Rattle.algebra.specs.Kind.{marks, nil};
+ghost use Rattle.algebra.specs.Product.{cell, product, transpose, likeCells, trace, plusCells, minusCells, timesNumber, overNumber, identity};
+ghost use Rattle.products.specs.Small.{sandwich, givenCells, values, allMarks};
+use arithmetic::Marked;
+use arithmetic::step::add;
+use arithmetic::step::also;
+use arithmetic::step::div;
+use arithmetic::step::given;
+use arithmetic::step::mul;
+use arithmetic::step::sub;
+
+// Zeros alone.
+pub fn zeros() -> [[Marked; 6]; 6]
+    ensures { λ r. ⌜ r ≡ blank (nil marks) 6 6 ⌝ }
+{
+    let zero = Marked {
+        value: 0.0,
+        inside: true,
+    };
+    let row = [zero; 6];
+    [row; 6]
+}
+
+// Row i of a times column j of b: from +0, by rising index.
+pub fn cell(a: [[Marked; 6]; 6], b: [[Marked; 6]; 6], inner: usize, i: usize, j: usize) -> Marked
+    requires { ⌜ (inner ≤ 6) × (i < 6) × (j < 6) ⌝ }
+    ensures { λ r. ⌜ r ≡ cell marks inner a b i j ⌝ }
+{
+    let mut sum = Marked {
+        value: 0.0,
+        inside: true,
+    };
+    for k in 0..inner {
+        sum = add(sum, mul(a[i][k], b[k][j]));
+    }
+    sum
+}
+
+// a, of rows by inner, times b, of inner by cols.
+pub fn product(
+    a: [[Marked; 6]; 6],
+    b: [[Marked; 6]; 6],
+    rows: usize,
+    inner: usize,
+    cols: usize,
+) -> [[Marked; 6]; 6]
+    requires { ⌜ (rows ≤ 6) × (inner ≤ 6) × (cols ≤ 6) ⌝ }
+    ensures { λ r. ⌜ r ≡ product marks 6 6 rows inner cols a b ⌝ }
+{
+    let mut out = zeros();
+    for i in 0..rows {
+        for j in 0..cols {
+            out[i][j] = cell(a, b, inner, i, j);
+        }
+    }
+    out
+}
+
+// The rows of a as columns.
+pub fn transpose(a: [[Marked; 6]; 6], rows: usize, cols: usize) -> [[Marked; 6]; 6]
+    requires { ⌜ (rows ≤ 6) × (cols ≤ 6) ⌝ }
+    ensures { λ r. ⌜ r ≡ transpose marks 6 6 rows cols a ⌝ }
+{
+    let mut out = zeros();
+    for i in 0..cols {
+        for j in 0..rows {
+            out[i][j] = a[j][i];
+        }
+    }
+    out
+}
+
+// The sum of the products of like cells, row after row, in one running sum.
+pub fn like_cells(a: [[Marked; 6]; 6], b: [[Marked; 6]; 6], rows: usize, cols: usize) -> Marked
+    requires { ⌜ (rows ≤ 6) × (cols ≤ 6) ⌝ }
+    ensures { λ r. ⌜ r ≡ likeCells marks rows cols a b ⌝ }
+{
+    let mut sum = Marked {
+        value: 0.0,
+        inside: true,
+    };
+    for i in 0..rows {
+        for j in 0..cols {
+            sum = add(sum, mul(a[i][j], b[i][j]));
+        }
+    }
+    sum
+}
+
+// The sum of the diagonal.
+pub fn trace(a: [[Marked; 6]; 6], n: usize) -> Marked
+    requires { ⌜ n ≤ 6 ⌝ }
+    ensures { λ r. ⌜ r ≡ trace marks n a ⌝ }
+{
+    let mut sum = Marked {
+        value: 0.0,
+        inside: true,
+    };
+    for i in 0..n {
+        sum = add(sum, a[i][i]);
+    }
+    sum
+}
+
+// a + b, cell by cell.
+pub fn plus_cells(
+    a: [[Marked; 6]; 6],
+    b: [[Marked; 6]; 6],
+    rows: usize,
+    cols: usize,
+) -> [[Marked; 6]; 6]
+    requires { ⌜ (rows ≤ 6) × (cols ≤ 6) ⌝ }
+    ensures { λ r. ⌜ r ≡ plusCells marks 6 6 rows cols a b ⌝ }
+{
+    let mut out = zeros();
+    for i in 0..rows {
+        for j in 0..cols {
+            out[i][j] = add(a[i][j], b[i][j]);
+        }
+    }
+    out
+}
+
+// a - b, cell by cell.
+pub fn minus_cells(
+    a: [[Marked; 6]; 6],
+    b: [[Marked; 6]; 6],
+    rows: usize,
+    cols: usize,
+) -> [[Marked; 6]; 6]
+    requires { ⌜ (rows ≤ 6) × (cols ≤ 6) ⌝ }
+    ensures { λ r. ⌜ r ≡ minusCells marks 6 6 rows cols a b ⌝ }
+{
+    let mut out = zeros();
+    for i in 0..rows {
+        for j in 0..cols {
+            out[i][j] = sub(a[i][j], b[i][j]);
+        }
+    }
+    out
+}
+
+// Each cell of a times x.
+pub fn times_number(a: [[Marked; 6]; 6], x: Marked, rows: usize, cols: usize) -> [[Marked; 6]; 6]
+    requires { ⌜ (rows ≤ 6) × (cols ≤ 6) ⌝ }
+    ensures { λ r. ⌜ r ≡ timesNumber marks 6 6 rows cols a x ⌝ }
+{
+    let mut out = zeros();
+    for i in 0..rows {
+        for j in 0..cols {
+            out[i][j] = mul(a[i][j], x);
+        }
+    }
+    out
+}
+
+// Each cell of a divided by x.
+pub fn over_number(a: [[Marked; 6]; 6], x: Marked, rows: usize, cols: usize) -> [[Marked; 6]; 6]
+    requires { ⌜ (rows ≤ 6) × (cols ≤ 6) ⌝ }
+    ensures { λ r. ⌜ r ≡ overNumber marks 6 6 rows cols a x ⌝ }
+{
+    let mut out = zeros();
+    for i in 0..rows {
+        for j in 0..cols {
+            out[i][j] = div(a[i][j], x);
+        }
+    }
+    out
+}
+
+// A cell of the identity: 1 on the diagonal.
+pub fn unit_cell(i: usize, j: usize) -> Marked
+    ensures { λ r. ⌜ r ≡ cond (eqb i j) (marks .of one) (nil marks) ⌝ }
+{
+    if i == j {
+        return given(1.0);
+    }
+    given(0.0)
+}
+
+// The identity of n rows.
+pub fn identity(n: usize) -> [[Marked; 6]; 6]
+    requires { ⌜ n ≤ 6 ⌝ }
+    ensures { λ r. ⌜ r ≡ identity marks 6 6 n ⌝ }
+{
+    let mut out = zeros();
+    for i in 0..n {
+        for j in 0..n {
+            out[i][j] = unit_cell(i, j);
+        }
+    }
+    out
+}
+
+// (l m) lᵀ, for l of q rows and p columns.
+pub fn sandwich(l: [[Marked; 6]; 6], m: [[Marked; 6]; 6], q: usize, p: usize) -> [[Marked; 6]; 6]
+    requires { ⌜ (q ≤ 6) × (p ≤ 6) ⌝ }
+    ensures { λ r. ⌜ r ≡ sandwich marks 6 6 q p l m ⌝ }
+{
+    let left = product(l, m, q, p, p);
+    let turned = transpose(l, q, p);
+    product(left, turned, q, p, q)
+}
+
+// Every cell an input: no step led to it.
+pub fn given_cells(a: [[f64; 6]; 6], rows: usize, cols: usize) -> [[Marked; 6]; 6]
+    requires { ⌜ (rows ≤ 6) × (cols ≤ 6) ⌝ }
+    ensures { λ r. ⌜ r ≡ givenCells 6 6 rows cols a ⌝ }
+{
+    let mut out = zeros();
+    for i in 0..rows {
+        for j in 0..cols {
+            out[i][j] = given(a[i][j]);
+        }
+    }
+    out
+}
+
+// The values without their marks.
+pub fn values(a: [[Marked; 6]; 6], rows: usize, cols: usize) -> [[f64; 6]; 6]
+    requires { ⌜ (rows ≤ 6) × (cols ≤ 6) ⌝ }
+    ensures { λ r. ⌜ r ≡ values 6 6 rows cols a ⌝ }
+{
+    let mut out = crate::plain::zeros();
+    for i in 0..rows {
+        for j in 0..cols {
+            let number = a[i][j];
+            out[i][j] = number.value;
+        }
+    }
+    out
+}
+
+// `seen`, with the mark of every cell counted.
+pub fn all_marks(a: [[Marked; 6]; 6], rows: usize, cols: usize, seen: Marked) -> Marked
+    requires { ⌜ (rows ≤ 6) × (cols ≤ 6) ⌝ }
+    ensures { λ r. ⌜ r ≡ allMarks rows cols a seen ⌝ }
+{
+    let mut all = seen;
+    for i in 0..rows {
+        for j in 0..cols {
+            all = also(all, a[i][j]);
+        }
+    }
+    all
+}
