@@ -228,7 +228,7 @@ pub fn values(a: [[Marked; 6]; 6], rows: usize, cols: usize) -> [[f64; 6]; 6]
     requires { ⌜ (rows ≤ 6) × (cols ≤ 6) ⌝ }
     ensures { λ r. ⌜ r ≡ values 6 6 rows cols a ⌝ }
 {
-    let mut out = crate::plain::zeros();
+    let mut out = products::zeros();
     for i in 0..rows {
         for j in 0..cols {
             let number = a[i][j];
