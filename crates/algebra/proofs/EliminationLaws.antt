@@ -1,8 +1,10 @@
 -- Laws of elimination: where the pivot's row lies; what a column leaves as it was; and that the run which stops at a zero pivot is refused
 -- just where the run that goes on has a zero on its diagonal at the end.
-use Prim.Native.Nat.{ℕ, _+_, _≤_, _<_}
+use Prim.Native.Nat.{ℕ, zero, suc, _+_, _≤_, _<_}
 use native.Mathlib.Omega.{arith}
 use native.Mathlib.Decide.{decLt}
+use native.Mathlib.Nat.{le-refl}
+use native.Mathlib.Numerals.{add-one}
 use mathlib.Core.Path.{_≡_, refl, sym, ap, _∙_}
 use mathlib.Core.Bool.{Bool, true, false, cond, _||_, true≢false}
 use mathlib.Core.List.{List, []}
@@ -93,58 +95,73 @@ module _ {A : Type 0} (N : Arith A) where
       (λ c a b z. ap (λ (x : List A). z || isZero (N .value (getD x c (N .void)))) (column-above n w k c m h b)))
       ∙ ap (λ (x : List A). zeroOnDiagonal k m || isZero (N .value (getD x k (N .void)))) (column-pivot n w k m (omega arith))
 
-  -- the stopping run s beside the run e that goes on, after k columns
-  record Beside (k rows : ℕ) (s : Stopping A) (e : List (List A)) : Type 0 where
-    long : length e ≡ rows
-    told : s .refused ≡ zeroOnDiagonal k e
-    same : s .refused ≡ false → s .rows ≡ e
+  pub eliminateTo-more : (k n w : ℕ) (m : List (List A)) → eliminateTo N (k + 1) n w m ≡ eliminateColumn N n w k (eliminateTo N k n w m)
+  unfolding eliminateTo
+  eliminateTo-more k n w m = fold-more 0 k (λ c m. eliminateColumn N n w c m) m (omega arith)
 
-  beside-next : (n w k rows : ℕ) (s : Stopping A) (e : List (List A)) → k < n → n ≤ rows → Beside k rows s e
-      → Beside (k + 1) rows (columnOrStop N n w k s) (eliminateColumn N n w k e)
+  -- ---- the run that stops: refused where the run that goes on meets a zero pivot; its rows are that run's where it is not refused
+  unfoldable pub metZero : ℕ → ℕ → ℕ → List (List A) → Bool
+  metZero k n w m = fold 0 k (λ c z. z || zeroPivot N n c (eliminateTo N c n w m)) false
+
+  pub record Stopped (k n w : ℕ) (m : List (List A)) (s : Stopping A) : Type 0 where
+    pub met : s .refused ≡ metZero k n w m
+    pub rows : s .refused ≡ false → s .rows ≡ eliminateTo N k n w m
+
+  stopped-none : (n w : ℕ) (m : List (List A)) → Stopped 0 n w m (record { rows = m; refused = false })
+  unfolding metZero eliminateTo fold
+  stopped-none n w m = record { met = refl; rows = λ x. refl }
+
+  metZero-more : (k n w : ℕ) (m : List (List A)) → metZero (k + 1) n w m ≡ (metZero k n w m || zeroPivot N n k (eliminateTo N k n w m))
+  unfolding metZero
+  metZero-more k n w m = fold-more 0 k (λ c z. z || zeroPivot N n c (eliminateTo N c n w m)) false (omega arith)
+
+  stopped-more : (n w : ℕ) (m : List (List A)) (k : ℕ) (s : Stopping A) → Stopped k n w m s → Stopped (k + 1) n w m (columnOrStop N n w k s)
   unfolding columnOrStop
-  beside-next n w k rows s e h l r =
-      record {
-        long = length-column n w k e ∙ r .long;
-        told = told-next (s .refused) refl (zeroPivot N n k (s .rows)) refl ∙ sym next;
-        same = same-next (s .refused) refl (zeroPivot N n k (s .rows));
-      }
+  stopped-more n w m k s g = go (s .refused) refl (zeroPivot N n k (s .rows)) refl
     where
-      next : zeroOnDiagonal (k + 1) (eliminateColumn N n w k e) ≡ (s .refused || zeroPivot N n k e)
-      next = diagonal-next n w k e h (omega (arith, r .long)) ∙ ap (λ (z : Bool). z || zeroPivot N n k e) (sym (r .told))
+      -- what is met so far is b, and the pivot's test says d
+      met : (b d : Bool) → s .refused ≡ b → (b ≡ false → zeroPivot N n k (s .rows) ≡ d) → metZero (k + 1) n w m ≡ (b || d)
+      met true d e f = metZero-more k n w m ∙ ap (λ (x : Bool). x || zeroPivot N n k (eliminateTo N k n w m)) (sym (g .met) ∙ e)
+      met false d e f =
+          metZero-more k n w m ∙ ap (λ (x : Bool). x || zeroPivot N n k (eliminateTo N k n w m)) (sym (g .met) ∙ e)
+          ∙ ap (zeroPivot N n k) (sym (g .rows e)) ∙ f refl
 
-      told-next : (b : Bool) → s .refused ≡ b → (z : Bool) → zeroPivot N n k (s .rows) ≡ z
-          → cond b s (cond z (record { rows = s .rows; refused = true }) (record { rows = eliminateColumn N n w k (s .rows); refused = false })) .refused
-          ≡ (s .refused || zeroPivot N n k e)
-      told-next true p z q = rw p
-      told-next false p true q = rw (p, ← r .same p, q)
-      told-next false p false q = rw (p, ← r .same p, q)
+      go : (b : Bool) → s .refused ≡ b → (d : Bool) → zeroPivot N n k (s .rows) ≡ d
+          → Stopped (k + 1) n w m (cond b s (cond d (record { rows = s .rows; refused = true }) (record { rows = eliminateColumn N n w k (s .rows); refused = false })))
+      go true e d f = record { met = e ∙ sym (met true d e (λ x. f)); rows = λ x. absurd (true≢false (sym e ∙ x)) }
+      go false e true f = record { met = sym (met false true e (λ x. f)); rows = λ x. absurd (true≢false x) }
+      go false e false f = record {
+        met = sym (met false false e (λ x. f));
+        rows = λ x. ap (eliminateColumn N n w k) (g .rows e) ∙ sym (eliminateTo-more k n w m);
+      }
 
-      same-next : (b : Bool) → s .refused ≡ b → (z : Bool)
-          → cond b s (cond z (record { rows = s .rows; refused = true }) (record { rows = eliminateColumn N n w k (s .rows); refused = false })) .refused ≡ false
-          → cond b s (cond z (record { rows = s .rows; refused = true }) (record { rows = eliminateColumn N n w k (s .rows); refused = false })) .rows
-          ≡ eliminateColumn N n w k e
-      same-next true p z q = absurd (true≢false (sym p ∙ q))
-      same-next false p true q = absurd (true≢false q)
-      same-next false p false q = ap (eliminateColumn N n w k) (r .same p)
+  pub stopping-stopped : (k n w : ℕ) (m : List (List A)) → Stopped k n w m (stopping N k n w m)
+  unfolding stopping
+  stopping-stopped k n w m =
+      fold-steps (λ k s. Stopped k n w m s) 0 k (λ c s. columnOrStop N n w c s) (record { rows = m; refused = false }) (omega arith) (stopped-none n w m)
+      (λ c i j s g. stopped-more n w m c s g)
 
-  beside : (n w : ℕ) (m : List (List A)) → n ≤ length m → Beside n (length m) (stopping N n n w m) (eliminateTo N n n w m)
-  unfolding stopping eliminateTo
-  beside n w m h =
-      fold-steps (λ k s. Beside k (length m) s (fold 0 k (λ c m. eliminateColumn N n w c m) m)) 0 n (λ c s. columnOrStop N n w c s)
-      (record { rows = m; refused = false }) (omega arith)
-      (record {
-        long = ap length (sym (fold-start 0 (λ c m. eliminateColumn N n w c m) m));
-        told = fold-start 0 _ false;
-        same = λ q. fold-start 0 (λ c m. eliminateColumn N n w c m) m;
-      })
-      (λ k a b s r. rw fold-more (beside-next n w k (length m) s _ b h r))
+  -- after k columns the diagonal holds a zero just where a pivot was zero
+  length-eliminate : (k n w : ℕ) (m : List (List A)) → length (eliminateTo N k n w m) ≡ length m
+  unfolding eliminateTo
+  length-eliminate k n w m = fold-keeps (λ y. length y ≡ length m) 0 k (λ c m. eliminateColumn N n w c m) m refl (λ c i j b q. length-column n w c b ∙ q)
+
+  diagonal-met : (k n w : ℕ) (m : List (List A)) → k ≤ n → n ≤ length m → zeroOnDiagonal k (eliminateTo N k n w m) ≡ metZero k n w m
+  unfolding metZero eliminateTo fold
+  diagonal-met zero n w m h l = refl
+  diagonal-met (suc k) n w m h l =
+      ap (λ (x : ℕ). zeroOnDiagonal x (eliminateTo N x n w m)) (sym (add-one k))
+      ∙ ap (zeroOnDiagonal (k + 1)) (eliminateTo-more k n w m)
+      ∙ diagonal-next n w k (eliminateTo N k n w m) h (omega (arith, length-eliminate k n w m))
+      ∙ ap (λ (z : Bool). z || zeroPivot N n k (eliminateTo N k n w m)) (diagonal-met k n w m (omega arith) l)
+      ∙ sym (metZero-more k n w m)
+      ∙ ap (λ (x : ℕ). metZero x n w m) (add-one k)
 
   -- the run that stops in the column of a zero pivot is refused where the run that goes on has a zero on its diagonal at the end
   pub refused-diagonal : (n w : ℕ) (m : List (List A)) → n ≤ length m
       → stopping N n n w m .refused ≡ fold 0 n (λ c z. z || isZero (N .value (at N (eliminateTo N n n w m) c c))) false
-  refused-diagonal n w m h = beside n w m h .told
+  refused-diagonal n w m h = stopping-stopped n n w m .met ∙ sym (diagonal-met n n w m (le-refl n) h)
 
   -- and where it is not refused, the two runs end with the same matrix
-  pub not-refused-rows : (n w : ℕ) (m : List (List A)) → n ≤ length m → stopping N n n w m .refused ≡ false
-      → stopping N n n w m .rows ≡ eliminateTo N n n w m
-  not-refused-rows n w m h q = beside n w m h .same q
+  pub not-refused-rows : (n w : ℕ) (m : List (List A)) → stopping N n n w m .refused ≡ false → stopping N n n w m .rows ≡ eliminateTo N n n w m
+  not-refused-rows n w m q = stopping-stopped n n w m .rows q

@@ -1,4 +1,4 @@
--- Elimination, for every kind of number: what stands in the cells of the matrix with a column eliminated, when the run that stops is refused, and X by its own rows.
+-- Elimination, for every kind of number: what stands in the cells of the matrix with a column eliminated, and X by its own rows.
 use Prim.Native.Nat.{ℕ, zero, _+_, _-_, _≤_, _<_}
 use native.Mathlib.Omega.{arith}
 use native.Mathlib.Decide.{ℕ-discrete, decLe}
@@ -8,14 +8,14 @@ use mathlib.Core.List.{List, []}
 use mathlib.Core.Logic.{inl}
 use lib.ListN.{getD, set, length, length-set, replicate, length-replicate}
 use lib.Seq.{getD-set-same, getD-set-other}
-use Rattle.arithmetic.specs.Numbers.{isLarger}
 use Rattle.algebra.specs.Fold.{fold}
 use Rattle.algebra.specs.Table.{row, blank}
 use Rattle.algebra.specs.Kind.{Arith, nil}
 use Rattle.algebra.specs.Product.{at}
-use Rattle.algebra.specs.Elimination.{Stopping, larger, pivotRow, swapRows, factor, lessBy, lessRow, cleared, eliminateColumn, eliminateTo, zeroPivot, columnOrStop, stopping, backSum, backCell, backTo}
+use Rattle.algebra.specs.Elimination.{pivotRow, swapRows, factor, lessBy, lessRow, cleared, eliminateColumn, eliminateTo, backSum, backCell, backTo}
 use Rattle.algebra.proofs.FoldLaws.{fold-more, fold-keeps, fold-steps, fold-ext, span-at, span-other, length-span}
 use Rattle.algebra.proofs.TableLaws.{row-at}
+use Rattle.algebra.proofs.EliminationLaws.{pivot-range}
 use Rattle.algebra.proofs.MovingCells.{Place, first, second, other, place, Sized, cond-both}
 
 -- rows i and j change places: the row that stands at k afterwards
@@ -113,10 +113,7 @@ module _ {A : Type 0} (N : Arith A) where
 
   -- ---- the pivot's row is one of the rows c to n - 1
   pub pivot-among : (n c : ℕ) (m : List (List A)) → c < n → Among c n (pivotRow N n c m)
-  unfolding pivotRow larger
-  pivot-among n c m h =
-      fold-keeps (Among c n) (c + 1) n (λ r best. larger N m c r best) c (record { low = omega arith; high = h })
-      (λ r k l b g. cond-both (Among c n) (isLarger (N .value (at N m r c)) (N .value (at N m b c))) r b (record { low = omega arith; high = l }) g)
+  pivot-among n c m h = let r = pivot-range N n c m h in record { low = r .0; high = r .1 }
 
   -- ---- the eliminated matrix
   pub eliminate-sized : (n w c : ℕ) (m : List (List A)) → c < n → Sized n w m → Sized n w (eliminateColumn N n w c m)
@@ -129,52 +126,6 @@ module _ {A : Type 0} (N : Arith A) where
   unfolding eliminateTo
   eliminateTo-sized k n w m h z =
       fold-keeps (Sized n w) 0 k (λ c m. eliminateColumn N n w c m) m z (λ c i j b g. eliminate-sized n w c b (omega arith) g)
-
-  pub eliminateTo-more : (k n w : ℕ) (m : List (List A)) → eliminateTo N (k + 1) n w m ≡ eliminateColumn N n w k (eliminateTo N k n w m)
-  unfolding eliminateTo
-  eliminateTo-more k n w m = fold-more 0 k (λ c m. eliminateColumn N n w c m) m (omega arith)
-
-  -- ---- the run that stops: refused where the run that goes on meets a zero pivot; its rows are that run's where it is not refused
-  unfoldable pub metZero : ℕ → ℕ → ℕ → List (List A) → Bool
-  metZero k n w m = fold 0 k (λ c z. z || zeroPivot N n c (eliminateTo N c n w m)) false
-
-  pub record Stopped (k n w : ℕ) (m : List (List A)) (s : Stopping A) : Type 0 where
-    pub met : s .refused ≡ metZero k n w m
-    pub rows : s .refused ≡ false → s .rows ≡ eliminateTo N k n w m
-
-  stopped-none : (n w : ℕ) (m : List (List A)) → Stopped 0 n w m (record { rows = m; refused = false })
-  unfolding metZero eliminateTo fold
-  stopped-none n w m = record { met = refl; rows = λ x. refl }
-
-  metZero-more : (k n w : ℕ) (m : List (List A)) → metZero (k + 1) n w m ≡ (metZero k n w m || zeroPivot N n k (eliminateTo N k n w m))
-  unfolding metZero
-  metZero-more k n w m = fold-more 0 k (λ c z. z || zeroPivot N n c (eliminateTo N c n w m)) false (omega arith)
-
-  stopped-more : (n w : ℕ) (m : List (List A)) (k : ℕ) (s : Stopping A) → Stopped k n w m s → Stopped (k + 1) n w m (columnOrStop N n w k s)
-  unfolding columnOrStop
-  stopped-more n w m k s g = go (s .refused) refl (zeroPivot N n k (s .rows)) refl
-    where
-      -- what is met so far is b, and the pivot's test says d
-      met : (b d : Bool) → s .refused ≡ b → (b ≡ false → zeroPivot N n k (s .rows) ≡ d) → metZero (k + 1) n w m ≡ (b || d)
-      met true d e f = metZero-more k n w m ∙ ap (λ (x : Bool). x || zeroPivot N n k (eliminateTo N k n w m)) (sym (g .met) ∙ e)
-      met false d e f =
-          metZero-more k n w m ∙ ap (λ (x : Bool). x || zeroPivot N n k (eliminateTo N k n w m)) (sym (g .met) ∙ e)
-          ∙ ap (zeroPivot N n k) (sym (g .rows e)) ∙ f refl
-
-      go : (b : Bool) → s .refused ≡ b → (d : Bool) → zeroPivot N n k (s .rows) ≡ d
-          → Stopped (k + 1) n w m (cond b s (cond d (record { rows = s .rows; refused = true }) (record { rows = eliminateColumn N n w k (s .rows); refused = false })))
-      go true e d f = record { met = e ∙ sym (met true d e (λ x. f)); rows = λ x. absurd (true≢false (sym e ∙ x)) }
-      go false e true f = record { met = sym (met false true e (λ x. f)); rows = λ x. absurd (true≢false x) }
-      go false e false f = record {
-        met = sym (met false false e (λ x. f));
-        rows = λ x. ap (eliminateColumn N n w k) (g .rows e) ∙ sym (eliminateTo-more k n w m);
-      }
-
-  pub stopping-stopped : (k n w : ℕ) (m : List (List A)) → Stopped k n w m (stopping N k n w m)
-  unfolding stopping
-  stopping-stopped k n w m =
-      fold-steps (λ k s. Stopped k n w m s) 0 k (λ c s. columnOrStop N n w c s) (record { rows = m; refused = false }) (omega arith) (stopped-none n w m)
-      (λ c i j s g. stopped-more n w m c s g)
 
   -- ---- X by its own rows: each takes in those below it
   sum-same : (n hi : ℕ) (m x y : List (List A)) (i k : ℕ) → ((j : ℕ) → i < j → j < hi → at N x j k ≡ at N y j k) → backSum N n hi m x i k ≡ backSum N n hi m y i k

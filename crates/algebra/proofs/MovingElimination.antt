@@ -23,7 +23,8 @@ use Rattle.algebra.proofs.FoldLaws.{fold-both, fold-ext}
 use Rattle.algebra.proofs.TableLaws.{table-at}
 use Rattle.algebra.proofs.MovingCells.{fold-back, fold-in-step, first-bears, step-bears, Place, first, second, other, place, Sized, table-sized, BearsCells, MovesCells, moves-by, still-times, alike-over, cond-both, zero-agrees, larger-agrees}
 use Rattle.algebra.proofs.MovingProducts.{identity-moves}
-use Rattle.algebra.proofs.MovingColumns.{origin, Among, origin-among, swap-row, swap-back, swap-sized, cleared-above, cleared-at, pivot-among, eliminate-sized, eliminateTo-sized, metZero, stopping-stopped, back-at}
+use Rattle.algebra.proofs.EliminationLaws.{pivot-range, eliminateTo-more, metZero, stopping-stopped}
+use Rattle.algebra.proofs.MovingColumns.{origin, Among, origin-among, swap-row, swap-back, swap-sized, cleared-above, cleared-at, pivot-among, eliminate-sized, eliminateTo-sized, back-at}
 
 abbrev Matrix : Type 0
 Matrix = List (List Marked)
