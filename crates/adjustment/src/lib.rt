@@ -1,4 +1,7 @@
 // The Kenward–Roger covariance adjustment (kr_vcov_adj).
+pub mod adjusted;
+pub mod information;
+pub mod small_numbers;
 
 // The lab's small numbers, which go by value through every function that looks at one: a2 and d; V0 and V2; the divisor of div; qρ − 1; df near 2;
 // the smallest eigenvalue of IE; what joins its diagonal; the factor of the rotation test; the cap of a component's df.

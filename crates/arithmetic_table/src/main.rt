@@ -5,41 +5,12 @@ ghost use mathlib.Core.Path.{_≡_};
 ghost use Prim.Native.Nat.{_+_, _<_, _≤_};
 ghost use lib.ListN.{length};
 
-// The value of a hexadecimal digit; 0 for any other byte.
-fn digit(b: u8) -> u64
-    ensures { λ r. ⌜ r < 16 ⌝ }
-{
-    if 48 <= b {
-        if b <= 57 {
-            return (b - 48) as u64;
-        }
-    }
-    if 97 <= b {
-        if b <= 102 {
-            return (b - 87) as u64;
-        }
-    }
-    0
-}
-
-// Sixteen digits from a place on.
-fn word_at(line: &[u8], at: usize) -> u64
-    requires { ⌜ at + 16 ≤ length (now line) ⌝ }
-{
-    let mut word: u64 = 0;
-    for i in 0..16usize {
-        let d = digit(line[at + i]);
-        word = (word % 1152921504606846976) * 16 + d;
-    }
-    word
-}
-
 // The operand at a place, with its mark.
 fn operand(line: &[u8], at: usize, mark: usize) -> Marked
     requires { ⌜ (at + 16 ≤ length (now line)) × (mark < length (now line)) ⌝ }
 {
     Marked {
-        value: arithmetic::plain::of_bits(word_at(line, at)),
+        value: arithmetic::plain::of_bits(bits_text::word_at(line, at)),
         inside: line[mark] == 49,
     }
 }
@@ -74,34 +45,12 @@ fn print_line(line: &[u8])
     let r = step(line);
     io::write_all(1, &line[..41]);
     io::write_all(1, b" ");
-    print_word(arithmetic::plain::to_bits(r.value));
+    bits_text::print_word(arithmetic::plain::to_bits(r.value));
     if r.inside {
         io::write_all(1, b" inside\n");
     } else {
         io::write_all(1, b" outside\n");
     }
-}
-
-// The hexadecimal digit of a number below 16.
-fn letter(d: u64) -> u8
-    requires { ⌜ d < 16 ⌝ }
-{
-    if d < 10 {
-        (48 + d) as u8
-    } else {
-        (87 + d) as u8
-    }
-}
-
-// Sixteen digits, the leading one first.
-fn print_word(word: u64) {
-    let mut text = [48u8; 16];
-    let mut rest = word;
-    for i in 0..16usize {
-        text[15 - i] = letter(rest % 16);
-        rest = rest / 16;
-    }
-    io::write_all(1, &text);
 }
 
 // The lines of a table, whole ones alone.

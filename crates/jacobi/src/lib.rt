@@ -1,11 +1,13 @@
 // Jacobi's rotations on plain numbers. No mark is kept, so the state's `seen` stays +0.
 ghost use mathlib.Core.Path.{_≡_};
 ghost use Prim.Native.Nat.{_+_, _<_, _≤_};
+ghost use mathlib.Core.List.{[], _∷_};
 ghost use Rattle.arithmetic.specs.Numbers.{plusZero};
 ghost use Rattle.algebra.specs.Table.{table};
 ghost use Rattle.algebra.specs.Kind.{floats, nil};
 ghost use Rattle.algebra.specs.Product.{at, identity};
 ghost use Rattle.jacobi.specs.Starts.{mirroredCell, identityCell};
+ghost use Rattle.jacobi.specs.States.{plainState};
 ghost use Rattle.algebra.specs.Jacobi.{State, ratio, tangent, cosine, sine, turnedFirst, turnedSecond, turnRow, turnColumns, rotatedCell, rotated, squared, bound, rotateTested, rotate, rowTo, sweepTo, sweepsTo, mirrored, jacobi};
 use arithmetic::plain::is_zero;
 use arithmetic::plain::magnitude;
@@ -314,7 +316,7 @@ pub fn identity(n: usize) -> [[f64; 6]; 6]
 }
 
 // `a` holds the matrix, and then the rotated one, whose diagonal is the answer; `v` is overwritten with the vectors, in columns. Returns the rotations made.
-pub fn jacobi(a: &mut [[f64; 6]; 6], v: &mut [[f64; 6]; 6], n: usize, limit: f64) -> usize
+fn jacobi_in_place(a: &mut [[f64; 6]; 6], v: &mut [[f64; 6]; 6], n: usize, limit: f64) -> usize
     requires { ⌜ n ≤ 6 ⌝ }
     ensures { λ r. ⌜ (record { a = now (a .exit); v = now (v .exit); count = r; seen = plusZero } ≡ jacobi floats limit 6 6 n (now (a .entry))) × (r ≤ 450) ⌝ }
 {
@@ -324,4 +326,25 @@ pub fn jacobi(a: &mut [[f64; 6]; 6], v: &mut [[f64; 6]; 6], n: usize, limit: f64
     *a = start;
     *v = unit;
     sweeps(a, v, n, limit)
+}
+
+// Two matrices in one value.
+fn both_of(a: [[f64; 6]; 6], v: [[f64; 6]; 6]) -> [[[f64; 6]; 6]; 2]
+    ensures { λ r. ⌜ r ≡ (a ∷ v ∷ []) ⌝ }
+{
+    let mut both = [a; 2];
+    both[1] = v;
+    both
+}
+
+// Returns the rotated matrix, whose diagonal is the answer, and the vectors, in columns. `count` becomes the number of rotations made.
+pub fn jacobi(m: [[f64; 6]; 6], n: usize, limit: f64, count: &mut usize) -> [[[f64; 6]; 6]; 2]
+    requires { ⌜ n ≤ 6 ⌝ }
+    ensures { λ r. ⌜ (plainState r (now (count .exit)) ≡ jacobi floats limit 6 6 n m) × (now (count .exit) ≤ 450) ⌝ }
+{
+    let mut a = m;
+    let mut v = m;
+    let made = jacobi_in_place(&mut a, &mut v, n, limit);
+    *count = made;
+    both_of(a, v)
 }

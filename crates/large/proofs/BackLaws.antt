@@ -15,7 +15,8 @@ use Rattle.algebra.specs.Product.{at}
 use Rattle.algebra.specs.Elimination.{backSum, backCell, backTo}
 use Rattle.algebra.proofs.FoldLaws.{fold-more, fold-none, fold-ext, fold-keeps, length-span}
 use Rattle.algebra.proofs.TableLaws.{row-at}
-use Rattle.large.specs.Slab.{rowsAt, putRow, putRows, knownLess, backOver, Holds, Apart}
+use Rattle.large.specs.Slab.{rowsAt, putRow, putRows, Holds, Apart}
+use Rattle.large.specs.Steps.{knownLess, backOver}
 use Rattle.large.proofs.SlabLaws.{row-in, row-fits, place-row, putRow-is, putRow-at, row-ahead, row-over, apart-ne, Shape, rowsAt-at, frame}
 use Rattle.large.proofs.InPlace.{read-at, read-now, shape-set, set-step, put-turn}
 

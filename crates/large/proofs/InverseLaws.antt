@@ -14,9 +14,12 @@ use borrow.Author.Tests.{lt-ltb, le-ltb, eq-eqb, ne-eqb}
 use Rattle.arithmetic.specs.Numbers.{plusZero, one}
 use Rattle.algebra.specs.Kind.{floats}
 use Rattle.algebra.specs.Product.{at, identity}
-use Rattle.algebra.specs.Elimination.{backTo, eliminateTo, joined, solution, inverse}
-use Rattle.algebra.proofs.TableLaws.{table-at}
-use Rattle.large.specs.Slab.{rowsAt, putRow, putRows, joinedCell, zeroOnDiagonal, Holds, Apart}
+use Rattle.algebra.specs.Elimination.{backTo, eliminateTo, joined, solution, inverse, inverseRefused, refused}
+use native.Mathlib.Nat.{le-of-eq}
+use Rattle.algebra.proofs.TableLaws.{table-at, length-table}
+use Rattle.algebra.proofs.EliminationLaws.{refused-diagonal}
+use Rattle.large.specs.Slab.{rowsAt, putRow, putRows, zeroOnDiagonal, Holds, Apart}
+use Rattle.large.specs.Steps.{joinedCell}
 use Rattle.large.proofs.SlabLaws.{putRow-is, putRow-at, putRow-other, length-putRow, fill-apart, rowsAt-at, Shape, shape-table}
 use Rattle.large.proofs.InPlace.{same?, read-now, put-turn}
 use Rattle.large.proofs.EliminationLaws.{shape-eliminate}
@@ -102,14 +105,18 @@ invert-done t d s a n l xs ys zs us h ey ez eu =
     eu ∙ ap (λ (x : List (List Float)). putRows t d n n (backTo floats n n n n n x) zs) (eliminated-rows s a n k xs zs h q w)
     ∙ ap (λ (x : List Float). putRows t d n n (backTo floats n n n n n (eliminateTo floats n n (n + n) k)) x) w
 
+-- a zero on the diagonal at the end, just where the run that stops is refused
 pub singular-done : (s a n : ℕ) (l : List (List Float)) (xs ys zs : List Float) (z : Bool) → Holds s a n (n + n) (length xs)
     → ys ≡ putRows s a n (n + n) (joined floats n (n + n) n n l (identity floats n n n)) xs
     → zs ≡ putRows s a n (n + n) (eliminateTo floats n n (n + n) (rowsAt s a n (n + n) ys)) ys → z ≡ zeroOnDiagonal n (rowsAt s a n (n + n) zs)
-    → z ≡ zeroOnDiagonal n (eliminateTo floats n n (n + n) (joined floats n (n + n) n n l (identity floats n n n)))
+    → z ≡ inverseRefused floats n (n + n) n n l
+unfolding refused zeroOnDiagonal joined
 singular-done s a n l xs ys zs z h ey ez e =
     let k : List (List Float) = joined floats n (n + n) n n l (identity floats n n n) in
     let q : Shape n (n + n) k = shape-joined n l (identity floats n n n) in
+    let m : n ≤ length k = le-of-eq (sym (length-table plusZero n (n + n) n (n + n) _)) in
     e ∙ ap (λ (x : List (List Float)). zeroOnDiagonal n x) (eliminated-rows s a n k xs zs h q (eliminated s a n k xs ys zs h q ey ez))
+    ∙ sym (refused-diagonal floats n (n + n) k m)
 
 pub join-apart : {e b n : ℕ} → Apart e (n + n) b n → Apart e n b n
 join-apart {e} {b} {n} h = record { apart = ⊎-elim (λ u. inl (omega arith)) (λ u. inr (omega arith)) (h .apart) }

@@ -14,14 +14,15 @@ use Rattle.algebra.specs.Kind.{floats}
 use Rattle.algebra.specs.Product.{at, sum, cell, product, transpose}
 use Rattle.algebra.proofs.FoldLaws.{fold-ext, fold-more}
 use Rattle.algebra.proofs.TableLaws.{table-at}
-use Rattle.large.specs.Slab.{rowsAt, putRow, putRows, gained, gainedTo, gramOf, Holds, Apart}
+use Rattle.large.specs.Slab.{rowsAt, putRow, putRows, gained, gramOf, Holds, Apart}
+use Rattle.large.specs.Steps.{gainedTo}
 use Rattle.large.proofs.SlabLaws.{row-in, putRow-is, putRow-at, row-ahead, row-over, apart-ne, rowsAt-at, fill-own, fill-apart}
 
 -- no row yet
-pub gain-none : (d c p u o q t : ℕ) (xs : List Float) → d + c ≤ length xs
-    → xs ≡ putRow d c (λ j. gainedTo 0 xs p u o q t (getD xs (d + j) nan) j) xs
+pub gain-none : (d c p u o q t : ℕ) (ws bs xs : List Float) → d + c ≤ length xs
+    → xs ≡ putRow d c (λ j. gainedTo 0 ws p u o bs q t (getD xs (d + j) nan) j) xs
 unfolding gainedTo fold
-gain-none d c p u o q t xs h = putRow-is d c (λ j. getD xs (d + j) nan) xs xs h refl (λ j l. refl) (λ x o. refl)
+gain-none d c p u o q t ws bs xs h = putRow-is d c (λ j. getD xs (d + j) nan) xs xs h refl (λ j l. refl) (λ x o. refl)
 
 -- a cell of a matrix that is apart from the row
 pub apart-cell : {d c p n u : ℕ} (g : ℕ → Float) (xs ys : List Float) → Apart d c p (n * u) → ys ≡ putRow d c g xs → (k o : ℕ) → k < n → o < u
@@ -46,23 +47,23 @@ terms-more T x h d c k xs ys zs hl ey ez hh =
 -- one more row
 pub gain-more : (x : ℕ → Float) (d c p u o q t n k a b : ℕ) (f : Float) (xs ys zs : List Float) → d + c ≤ length xs → Apart d c p (n * u) → Apart d c q (n * t)
     → k < n → o < u → c ≤ t → a ≡ p + k * u → b ≡ q + k * t → f ≡ getD ys (a + o) nan
-    → ys ≡ putRow d c (λ j. gainedTo k xs p u o q t (x j) j) xs
+    → ys ≡ putRow d c (λ j. gainedTo k xs p u o xs q t (x j) j) xs
     → zs ≡ putRow d c (λ j. floats .plus (getD ys (d + j) nan) (floats .times f (getD ys (b + j) nan))) ys
-    → zs ≡ putRow d c (λ j. gainedTo (k + 1) xs p u o q t (x j) j) xs
+    → zs ≡ putRow d c (λ j. gainedTo (k + 1) xs p u o xs q t (x j) j) xs
 unfolding gainedTo
 gain-more x d c p u o q t n k a b f xs ys zs hl hp hq hk ho hc ea eb ef ey ez =
     terms-more (λ k j. floats .times (getD xs (p + k * u + o) nan) (getD xs (q + k * t + j) nan)) x (λ j. floats .times f (getD ys (b + j) nan)) d c k xs ys zs hl ey ez
     (λ j l.
     let left : f ≡ getD xs (p + k * u + o) nan =
-    ef ∙ ap (λ (x : ℕ). getD ys (x + o) nan) ea ∙ apart-cell (λ j. gainedTo k xs p u o q t (x j) j) xs ys hp ey k o hk ho in
+    ef ∙ ap (λ (x : ℕ). getD ys (x + o) nan) ea ∙ apart-cell (λ j. gainedTo k xs p u o xs q t (x j) j) xs ys hp ey k o hk ho in
     let right : getD ys (b + j) nan ≡ getD xs (q + k * t + j) nan =
-    ap (λ (x : ℕ). getD ys (x + j) nan) eb ∙ apart-cell (λ j. gainedTo k xs p u o q t (x j) j) xs ys hq ey k j hk (omega arith) in
+    ap (λ (x : ℕ). getD ys (x + j) nan) eb ∙ apart-cell (λ j. gainedTo k xs p u o xs q t (x j) j) xs ys hq ey k j hk (omega arith) in
     rw (left, right))
 
-pub gain-end : (d c p u o q t k n : ℕ) (xs : List Float) {ys : List Float} → k ≤ n → n ≤ k
-    → ys ≡ putRow d c (λ j. gainedTo k xs p u o q t (getD xs (d + j) nan) j) xs → ys ≡ putRow d c (λ j. gainedTo n xs p u o q t (getD xs (d + j) nan) j) xs
-gain-end d c p u o q t k n xs h l e =
-    e ∙ ap (λ (m : ℕ). putRow d c (λ j. gainedTo m xs p u o q t (getD xs (d + j) nan) j) xs) (le-antisymm h l)
+pub gain-end : (d c p u o q t k n : ℕ) (ws bs xs ys : List Float) → k ≤ n → n ≤ k
+    → ys ≡ putRow d c (λ j. gainedTo k ws p u o bs q t (getD xs (d + j) nan) j) xs → ys ≡ putRow d c (λ j. gainedTo n ws p u o bs q t (getD xs (d + j) nan) j) xs
+gain-end d c p u o q t k n ws bs xs ys h l e =
+    e ∙ ap (λ (m : ℕ). putRow d c (λ j. gainedTo m ws p u o bs q t (getD xs (d + j) nan) j) xs) (le-antisymm h l)
 
 -- a row that is apart from a matrix is apart from each of its rows
 pub row-apart-of : {d c q n t e : ℕ} → Apart d c q (n * t) → (k b : ℕ) → k < n → e ≤ t → b ≡ q + k * t → Apart d c b e
@@ -85,11 +86,11 @@ row-holds h = record { wide = omega arith; fits = omega arith }
 
 -- the gains of a row that was cleared first
 pub gain-cleared : (d c p u o q t n : ℕ) (xs ys zs : List Float) → d + c ≤ length xs → Apart d c p (n * u) → Apart d c q (n * t) → o < u → c ≤ t
-    → ys ≡ putRow d c (λ j. plusZero) xs → zs ≡ putRow d c (λ j. gainedTo n ys p u o q t (getD ys (d + j) nan) j) ys
-    → zs ≡ putRow d c (gainedTo n xs p u o q t plusZero) xs
+    → ys ≡ putRow d c (λ j. plusZero) xs → zs ≡ putRow d c (λ j. gainedTo n ys p u o ys q t (getD ys (d + j) nan) j) ys
+    → zs ≡ putRow d c (gainedTo n xs p u o xs q t plusZero) xs
 unfolding gainedTo
 gain-cleared d c p u o q t n xs ys zs hl hp hq ho hc ey ez =
-    row-over d c (λ j. plusZero) (λ j. gainedTo n ys p u o q t (getD ys (d + j) nan) j) (gainedTo n xs p u o q t plusZero) xs ys zs hl ey ez
+    row-over d c (λ j. plusZero) (λ j. gainedTo n ys p u o ys q t (getD ys (d + j) nan) j) (gainedTo n xs p u o xs q t plusZero) xs ys zs hl ey ez
     (λ j l.
     let own : getD ys (d + j) nan ≡ plusZero = ap (λ (zs : List Float). getD zs (d + j) nan) ey ∙ putRow-at d c (λ j. plusZero) xs j l hl in
     rw own
@@ -99,13 +100,13 @@ gain-cleared d c p u o q t n xs ys zs hl hp hq ho hc ey ez =
     (λ k lo hk y. rw (apart-cell (λ j. plusZero) xs ys hp ey k o hk ho, apart-cell (λ j. plusZero) xs ys hq ey k j hk (omega arith)))))
 
 -- gains from +0 are a sum
-pub gained-sum : (f : ℕ → Float) (n : ℕ) (ys : List Float) (p u o q t j : ℕ)
-    → ((k : ℕ) → k < n → floats .times (getD ys (p + k * u + o) nan) (getD ys (q + k * t + j) nan) ≡ f k)
-    → gainedTo n ys p u o q t plusZero j ≡ sum floats n f
+pub gained-sum : (f : ℕ → Float) (n : ℕ) (ws : List Float) (p u o : ℕ) (bs : List Float) (q t j : ℕ)
+    → ((k : ℕ) → k < n → floats .times (getD ws (p + k * u + o) nan) (getD bs (q + k * t + j) nan) ≡ f k)
+    → gainedTo n ws p u o bs q t plusZero j ≡ sum floats n f
 unfolding gainedTo sum
-gained-sum f n ys p u o q t j h =
+gained-sum f n ws p u o bs q t j h =
     fold-ext 0 n
-    (λ k y. floats .plus y (floats .times (getD ys (p + k * u + o) nan) (getD ys (q + k * t + j) nan)))
+    (λ k y. floats .plus y (floats .times (getD ws (p + k * u + o) nan) (getD bs (q + k * t + j) nan)))
     (λ k y. floats .plus y (f k)) plusZero (λ k lo hk y. ap (λ (z : Float). floats .plus y z) (h k hk))
 
 -- The cells of the results.
@@ -128,9 +129,9 @@ gained-at r c d f p i j hi hj =
 -- row i of a product, where the rows before it stand
 pub product-row : (m : List (List Float)) (s d t p u q r n c i b : ℕ) (xs ys : List Float) → Apart d (r * s) p (r * t) → Apart d (r * s) q (n * u)
     → c ≤ s → n ≤ t → c ≤ u → i < r → b ≡ p + i * t → ys ≡ putRows s d i c m xs → (j : ℕ) → j < c
-    → gainedTo n ys b 1 0 q u plusZero j ≡ at floats (product floats r c r n c (rowsAt t p r n xs) (rowsAt u q n c xs)) i j
+    → gainedTo n ys b 1 0 ys q u plusZero j ≡ at floats (product floats r c r n c (rowsAt t p r n xs) (rowsAt u q n c xs)) i j
 product-row m s d t p u q r n c i b xs ys hp hq hs ht hu hi eb ey j hj =
-    gained-sum (λ k. floats .times (at floats (rowsAt t p r n xs) i k) (at floats (rowsAt u q n c xs) k j)) n ys b 1 0 q u j
+    gained-sum (λ k. floats .times (at floats (rowsAt t p r n xs) i k) (at floats (rowsAt u q n c xs) k j)) n ys b 1 0 ys q u j
     (λ k hk.
     let e : b + k * 1 + 0 ≡ p + i * t + k = omega arith in
     rw (
@@ -144,11 +145,11 @@ product-row m s d t p u q r n c i b xs ys hp hq hs ht hu hi eb ey j hj =
 
 -- row i of xᵀ x, where the rows before it stand
 pub gram-row : (m : List (List Float)) (s d t p n c i : ℕ) (xs ys : List Float) → Apart d (c * s) p (n * t) → c ≤ s → c ≤ t → i < c
-    → ys ≡ putRows s d i c m xs → (j : ℕ) → j < c → gainedTo n ys p t i p t plusZero j ≡ at floats (gramOf n c (rowsAt t p n c xs)) i j
+    → ys ≡ putRows s d i c m xs → (j : ℕ) → j < c → gainedTo n ys p t i ys p t plusZero j ≡ at floats (gramOf n c (rowsAt t p n c xs)) i j
 unfolding gramOf transpose
 gram-row m s d t p n c i xs ys hp hs ht hi ey j hj =
     let x : List (List Float) = rowsAt t p n c xs in
-    gained-sum (λ k. floats .times (at floats (transpose floats c n n c x) i k) (at floats x k j)) n ys p t i p t j
+    gained-sum (λ k. floats .times (at floats (transpose floats c n n c x) i k) (at floats x k j)) n ys p t i ys p t j
     (λ k hk.
     rw (
       fill-apart s d c i c t p n c m xs ys hp (omega arith) hs ht ey k i hk hi,

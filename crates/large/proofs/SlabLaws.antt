@@ -23,10 +23,6 @@ use Rattle.large.specs.Slab.{rowsAt, putRow, putRows, Holds, Apart}
 pub row-in : (s r c i : ℕ) → i < r → c ≤ s → i * s + c ≤ r * s
 row-in s r c i h l = omega (arith, suc-mul i s, mul-le-mul-right s h)
 
--- the rows before row i end where it starts
-pub rows-le : (s i r : ℕ) → i ≤ r → i * s ≤ r * s
-rows-le s i r h = mul-le-mul-right s h
-
 -- a place has one row and one column
 pub place-row : (s i j k l : ℕ) → j < s → l < s → i * s + j ≡ k * s + l → i ≡ k
 place-row s i j k l hj hl e = go (decLt i k) (decLt k i)

@@ -8,8 +8,9 @@ ghost use lib.Ieee.{nan};
 ghost use Rattle.arithmetic.specs.Numbers.{plusZero, one};
 ghost use Rattle.algebra.specs.Kind.{floats};
 ghost use Rattle.algebra.specs.Product.{identity};
-ghost use Rattle.algebra.specs.Elimination.{backCell, backTo, eliminateTo, joined, inverse};
-ghost use Rattle.large.specs.Slab.{rowsAt, putRow, putRows, knownLess, backOver, joinedCell, zeroOnDiagonal, Holds, Apart};
+ghost use Rattle.algebra.specs.Elimination.{backCell, backTo, eliminateTo, joined, inverse, inverseRefused};
+ghost use Rattle.large.specs.Slab.{rowsAt, putRow, putRows, Holds, Apart};
+ghost use Rattle.large.specs.Steps.{knownLess, backOver, joinedCell};
 use crate::rows::start;
 
 // Row i of the matrix X at d loses the known terms by rising index: cell j of the row at p times row j of X.
@@ -102,7 +103,7 @@ pub fn invert(
     requires { ⌜ Holds t d n n (length (now work)) × Holds s a n (n + n) (length (now work)) × Holds u p n n (length (now work)) ⌝ }
     requires { ⌜ Apart d (n * t) a (n * s) × Apart a (n * s) p (n * u) ⌝ }
     ensures { λ z. ⌜ now (work .exit) ≡ putRows t d n n (inverse floats n (n + n) n n (rowsAt u p n n (now (work .entry)))) (putRows s a n (n + n) (eliminateTo floats n n (n + n) (joined floats n (n + n) n n (rowsAt u p n n (now (work .entry))) (identity floats n n n))) (now (work .entry))) ⌝ }
-    ensures { λ z. ⌜ z ≡ zeroOnDiagonal n (eliminateTo floats n n (n + n) (joined floats n (n + n) n n (rowsAt u p n n (now (work .entry))) (identity floats n n n))) ⌝ }
+    ensures { λ z. ⌜ z ≡ inverseRefused floats n (n + n) n n (rowsAt u p n n (now (work .entry))) ⌝ }
 {
     join(work, a, s, p, u, n);
     crate::solve::eliminate(work, a, s, n, n + n);

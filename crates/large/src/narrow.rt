@@ -6,7 +6,8 @@ ghost use lib.Ieee.{nan};
 ghost use Rattle.arithmetic.specs.Numbers.{plusZero};
 ghost use Rattle.algebra.specs.Kind.{floats};
 ghost use Rattle.algebra.specs.Product.{product, sumCells, at};
-ghost use Rattle.large.specs.Slab.{rowsAt, putRow, putRows, gainedBy, crossed, Holds};
+ghost use Rattle.large.specs.Slab.{rowsAt, putRow, putRows, Holds};
+ghost use Rattle.large.specs.Steps.{gainedTo, crossed};
 use crate::rows::start;
 
 // The row at d of one slice gains f times the row at q of another.
@@ -32,7 +33,7 @@ pub fn gain_all(
     c: usize,
 )
     requires { ⌜ (d + c ≤ length (now out)) × (p + n ≤ length (now work)) × Holds u q n c (length (now x)) ⌝ }
-    ensures { λ e. ⌜ now (out .exit) ≡ putRow d c (λ j. gainedBy n (now (work .entry)) p (now (x .entry)) q u (getD (now (out .entry)) (d + j) nan) j) (now (out .entry)) ⌝ }
+    ensures { λ e. ⌜ now (out .exit) ≡ putRow d c (λ j. gainedTo n (now (work .entry)) p 1 0 (now (x .entry)) q u (getD (now (out .entry)) (d + j) nan) j) (now (out .entry)) ⌝ }
 {
     for k in 0..n {
         let b = start(q, u, k, n, c, x.len());
@@ -54,7 +55,7 @@ pub fn narrow_row(
     c: usize,
 )
     requires { ⌜ (d + c ≤ length (now out)) × (p + n ≤ length (now work)) × Holds u q n c (length (now x)) ⌝ }
-    ensures { λ e. ⌜ now (out .exit) ≡ putRow d c (gainedBy n (now (work .entry)) p (now (x .entry)) q u plusZero) (now (out .entry)) ⌝ }
+    ensures { λ e. ⌜ now (out .exit) ≡ putRow d c (gainedTo n (now (work .entry)) p 1 0 (now (x .entry)) q u plusZero) (now (out .entry)) ⌝ }
 {
     crate::rows::clear_row(out, d, c);
     gain_all(out, d, work, p, x, q, u, n, c);

@@ -5,7 +5,8 @@ ghost use lib.ListN.{length, getD};
 ghost use lib.Ieee.{nan};
 ghost use Rattle.arithmetic.specs.Numbers.{plusZero};
 ghost use Rattle.algebra.specs.Kind.{floats};
-ghost use Rattle.large.specs.Slab.{putRow, gainedTo, Holds, Apart};
+ghost use Rattle.large.specs.Slab.{putRow, Holds, Apart};
+ghost use Rattle.large.specs.Steps.{gainedTo};
 
 // Where row i starts, of the r rows of c columns of the matrix at a, in a slice of len.
 pub fn start(a: usize, s: usize, i: usize, r: usize, c: usize, len: usize) -> usize
@@ -77,7 +78,7 @@ pub fn gain_rows(
 )
     requires { ⌜ (d + c ≤ length (now work)) × Holds u p n (o + 1) (length (now work)) × Holds t q n c (length (now work)) ⌝ }
     requires { ⌜ Apart d c p (n * u) × Apart d c q (n * t) ⌝ }
-    ensures { λ e. ⌜ now (work .exit) ≡ putRow d c (λ j. gainedTo n (now (work .entry)) p u o q t (getD (now (work .entry)) (d + j) nan) j) (now (work .entry)) ⌝ }
+    ensures { λ e. ⌜ now (work .exit) ≡ putRow d c (λ j. gainedTo n (now (work .entry)) p u o (now (work .entry)) q t (getD (now (work .entry)) (d + j) nan) j) (now (work .entry)) ⌝ }
 {
     for k in 0..n {
         let a = start(p, u, k, n, o + 1, work.len());
@@ -101,7 +102,7 @@ pub fn product_row(
 )
     requires { ⌜ (d + c ≤ length (now work)) × Holds u p n (o + 1) (length (now work)) × Holds t q n c (length (now work)) ⌝ }
     requires { ⌜ Apart d c p (n * u) × Apart d c q (n * t) ⌝ }
-    ensures { λ e. ⌜ now (work .exit) ≡ putRow d c (gainedTo n (now (work .entry)) p u o q t plusZero) (now (work .entry)) ⌝ }
+    ensures { λ e. ⌜ now (work .exit) ≡ putRow d c (gainedTo n (now (work .entry)) p u o (now (work .entry)) q t plusZero) (now (work .entry)) ⌝ }
 {
     clear_row(work, d, c);
     gain_rows(work, d, p, u, o, q, t, n, c);

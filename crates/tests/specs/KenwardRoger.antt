@@ -4,7 +4,7 @@ use Prim.Native.Nat.{ℕ, _+_}
 use mathlib.Core.Bool.{Bool, true, false, cond, _&&_, _||_}
 use mathlib.Core.List.{List, []}
 use lib.Dec.{eqb}
-use lib.ListN.{getD, replicate}
+use lib.ListN.{getD, replicate, set}
 use lib.Ieee.{Float, nan, lt}
 use Rattle.arithmetic.specs.declared.Marked.{Marked}
 use Rattle.arithmetic.specs.Numbers.{plusZero, one, isFinite}
@@ -81,6 +81,56 @@ waldOneGiven v = isFinite (v .value) && lt plusZero (v .value)
 unfoldable pub waldMany : ℕ → MarkedRows → MarkedRows → Marked
 waldMany q ld y = sum marks q (λ i. markedMul (at marks ld i 0) (at marks y i 0))
 
+-- ---- the parts of one test, from the matrices at hand: what the functions that make it up answer. Their joints are those of `tested`, below.
+-- what a test starts from, and a basis, from their parts
+abbrev pub scaledOf : ℕ → ℕ → MarkedRows → MarkedRows → List MarkedRows → Rows → Scaled
+scaledOf p N phi phiA ps w = record { p = p; matrices = N; phi = phi; phiA = phiA; ps = ps; w = w }
+
+abbrev pub basisOf : Rows → ℕ → Marked → Basis
+basisOf rows q seen = record { rows = rows; rank = q; seen = seen }
+
+-- Wald with its mark, from LD, v = LΦ_ALᵀ and Y; +0 where it is none
+unfoldable pub waldOf : ℕ → MarkedRows → MarkedRows → MarkedRows → Marked
+waldOf q ld v y = cond (eqb q 1) (cond (waldOneGiven (at marks v 0 0)) (waldOne (at marks ld 0 0) (at marks v 0 0)) (given plusZero)) (waldMany q ld y)
+
+-- Wald as a number or none, from v and its marked number
+unfoldable pub waldNumberOf : ℕ → MarkedRows → Marked → Number
+waldNumberOf q v wald = cond (eqb q 1 && cond (waldOneGiven (at marks v 0 0)) false true) None (numberOf (wald .value))
+
+-- the marks of D, A, A⁻¹L, ΘΦ and the u_i, after what was seen before
+unfoldable pub thetaSeen : ℕ → ℕ → ℕ → MarkedRows → MarkedRows → MarkedRows → MarkedRows → List MarkedRows → Marked → Marked
+thetaSeen N p q d a x tp us seen = uSeen N p us (allMarks p p tp (allMarks q p x (allMarks q q a (allMarks p 1 d seen))))
+
+-- then those of LD, v, Y where it is used, and Wald
+unfoldable pub waldSeen : ℕ → MarkedRows → MarkedRows → MarkedRows → Marked → Marked → Marked
+waldSeen q ld v y wald seen = let s4 : Marked = allMarks q q v (allMarks q 1 ld seen) in also (cond (eqb q 1) s4 (allMarks q 1 y s4)) wald
+
+-- the entry, from the u_i, Wald and what was seen
+unfoldable pub entryOf : Cutoffs → ℕ → ℕ → ℕ → Rows → List MarkedRows → Number → Marked → Entry
+entryOf c N p q w us wald seen =
+    let vs : List Rows = uValues N p us in
+    record {
+      f = fOf q (scalingOf c q (a1Of N p w vs) (a2Of N p w vs)) wald;
+      df = dfOf c q (a1Of N p w vs) (a2Of N p w vs);
+      rank = q;
+      inside = seen .inside;
+    }
+
+-- the entry, from the u_i, LD, v, Y and what was seen before these
+unfoldable pub waldEntry : Cutoffs → ℕ → ℕ → ℕ → Rows → List MarkedRows → MarkedRows → MarkedRows → MarkedRows → Marked → Entry
+waldEntry c N p q w us ld v y seen =
+    let wald : Marked = waldOf q ld v y in
+    entryOf c N p q w us (waldNumberOf q v wald) (waldSeen q ld v y wald seen)
+
+-- the entry, from L, D, LD, v, Y and what was seen of the basis and the scaling
+unfoldable pub thetaEntry : Cutoffs → ℕ → ℕ → ℕ → Rows → MarkedRows → List MarkedRows → MarkedRows → MarkedRows → MarkedRows → MarkedRows → MarkedRows → Marked → Entry
+thetaEntry c N p q w phi ps l d ld v y seen =
+    let a : MarkedRows = sandwich marks 6 6 q p l phi in
+    let x : MarkedRows = solution marks 6 12 6 q p a l in
+    let tp : MarkedRows = product marks 6 6 p p p (thetaOf p q l x) phi in
+    let us : List MarkedRows = uStack N p tp ps phi in
+    waldEntry c N p q w us ld v y (thetaSeen N p q d a x tp us seen)
+
 -- ---- one test, whole: what it has seen, whether a zero pivot refuses it (10), and its entry
 pub record Tested : Type 0 where
   pub refused : Bool
@@ -155,3 +205,25 @@ coefficientTest c s beta i = tested c s beta (replicate 6 plusZero) (contrastBas
 
 unfoldable pub contrastTest : Cutoffs → Scaled → List Float → List Float → ℕ → Rows → Tested
 contrastTest c s beta betaH rows l = tested c s beta betaH (contrastBasis rows (s .p) l)
+
+-- an entry that is not in use: no F, no df, rank 0, not inside
+abbrev pub noEntry : Entry
+noEntry = record { f = None; df = None; rank = 0; inside = false }
+
+-- seven entries, coefficients 0 to 5 and the contrast, and whether a zero pivot in any of their tests refuses the run
+pub record Run : Type 0 where
+  pub refused : Bool
+  pub entries : List Entry
+
+-- the run with one test more, in entry i
+unfoldable pub withTest : ℕ → Tested → Run → Run
+withTest i t r = record { refused = r .refused || t .refused; entries = set (r .entries) i (t .entry) }
+
+-- the first k coefficients
+unfoldable pub coefficientsTo : ℕ → Cutoffs → Scaled → List Float → Run
+coefficientsTo k c s beta = fold 0 k (λ i r. withTest i (coefficientTest c s beta i) r) (record { refused = false; entries = replicate 7 noEntry })
+
+-- "The run tests each coefficient alone (β_H = 0), then the contrast if given"; no contrast has no rows
+unfoldable pub runOf : Cutoffs → Scaled → List Float → List Float → ℕ → Rows → Run
+runOf c s beta betaH rows l =
+    let r : Run = coefficientsTo (s .p) c s beta in cond (eqb rows 0) r (withTest 6 (contrastTest c s beta betaH rows l) r)

@@ -1,4 +1,9 @@
 // The contrast tests: the contrast basis, the Kenward–Roger test and its per-coefficient run (kr_modcomp, kenward_roger).
+pub mod basis;
+pub mod kenward_roger;
+pub mod moments;
+pub mod order;
+pub mod run;
 
 // A number, or none where the Rust has NaN: every F and df.
 pub enum Number {

@@ -1,21 +1,22 @@
 -- `jacobi::jacobi` meets its contract.
-use Rattle.algebra.specs.Kind.{floats}
-use Rattle.jacobi.proofs.Rotations.{jacobi-is}
+use mathlib.Core.Path.{ap, _∙_}
+use mathlib.Core.List.{List}
+use lib.Ieee.{Float}
+use Rattle.jacobi.specs.States.{plainState}
 use borrow.Author.Needs.{needs}
 use Rattle.jacobi.proofs.jacobi.Statement.{statement}
 use Rattle.jacobi.proofs.jacobi.Tie as tie
 
-mirrored-requires : tie.Need-mirrored-requires
-mirrored-requires c κs = search needs
+jacobi-in-place-requires : tie.Need-jacobi-in-place-requires
+jacobi-in-place-requires c κs = search needs
 
-identity-requires : tie.Need-identity-requires
-identity-requires c κs = search needs
-
-sweeps-requires : tie.Need-sweeps-requires
-sweeps-requires c κs = search needs
+both-of-requires : tie.Need-both-of-requires
+both-of-requires c κs = search needs
 
 returns : tie.Need-returns
-returns c = jacobi-is floats _ _ _ _ _ _ _ _ (c .before .before .before .before .mirrored .ensures) (c .before .before .before .identity .ensures) (c .sweeps .ensures) (c .before .before .before .before .before .before .pre)
+returns c =
+    let made = c .before .before .jacobi-in-place in
+    (ap (λ (b : List (List (List Float))). plainState b (made .result)) (c .both-of .ensures) ∙ made .ensures .0, made .ensures .1)
 
 pub jacobi-spec : {M : Type 1} → statement M
-jacobi-spec = tie.close (tie.spec mirrored-requires identity-requires sweeps-requires returns)
+jacobi-spec = tie.close (tie.spec jacobi-in-place-requires both-of-requires returns)

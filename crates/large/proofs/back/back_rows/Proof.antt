@@ -2,7 +2,8 @@
 use Prim.Native.Nat.{_≤_, _-_, _+_}
 use mathlib.Core.Path.{_≡_, refl, _∙_}
 use lib.ListN.{length}
-use Rattle.large.specs.Slab.{rowsAt, putRows, backOver}
+use Rattle.large.specs.Slab.{rowsAt, putRows}
+use Rattle.large.specs.Steps.{backOver}
 use Rattle.large.proofs.SlabLaws.{shape-rowsAt}
 use Rattle.large.proofs.InPlace.{turn-none, turn-end}
 use Rattle.large.proofs.BackLaws.{back-more}

@@ -3,7 +3,8 @@ use Prim.Native.Nat.{_≤_, _-_, _+_}
 use mathlib.Core.Path.{_≡_, refl, _∙_}
 use lib.ListN.{length}
 use Rattle.algebra.proofs.FoldLaws.{fold-start, fold-end}
-use Rattle.large.specs.Slab.{putRows, rowsAt, joinedCell}
+use Rattle.large.specs.Slab.{putRows, rowsAt}
+use Rattle.large.specs.Steps.{joinedCell}
 use Rattle.large.proofs.SlabLaws.{fill-more, rows-apart-at}
 use Rattle.algebra.specs.Kind.{floats}
 use Rattle.algebra.specs.Product.{identity}

@@ -3,7 +3,8 @@ use Prim.Native.Nat.{_≤_, _-_, _+_, _*_}
 use mathlib.Core.Path.{_≡_, refl, _∙_}
 use lib.ListN.{length, getD}
 use lib.Ieee.{nan}
-use Rattle.large.specs.Slab.{putRow, knownLess}
+use Rattle.large.specs.Slab.{putRow}
+use Rattle.large.specs.Steps.{knownLess}
 use Rattle.large.proofs.SlabLaws.{row-fits}
 use Rattle.large.proofs.EliminationLaws.{rows-below}
 use Rattle.large.proofs.BackLaws.{known-none, known-more, known-end}

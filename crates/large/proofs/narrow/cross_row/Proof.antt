@@ -2,7 +2,8 @@
 use Prim.Native.Nat.{_≤_, _-_}
 use mathlib.Core.Path.{_≡_}
 use Rattle.algebra.proofs.FoldLaws.{fold-start, fold-next, fold-end}
-use Rattle.large.specs.Slab.{rowsAt, crossed}
+use Rattle.large.specs.Slab.{rowsAt}
+use Rattle.large.specs.Steps.{crossed}
 use Rattle.large.proofs.InPlace.{read-at}
 use native.Mathlib.Omega.{arith}
 use Rattle.large.proofs.narrow.cross_row.Statement.{statement}

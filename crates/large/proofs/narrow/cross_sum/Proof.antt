@@ -5,7 +5,8 @@ use lib.Ieee.{ofBits}
 use Rattle.algebra.specs.Kind.{floats}
 use Rattle.algebra.specs.Product.{at, sumCells}
 use Rattle.algebra.proofs.FoldLaws.{fold-start, fold-next, fold-end}
-use Rattle.large.specs.Slab.{rowsAt, crossed}
+use Rattle.large.specs.Slab.{rowsAt}
+use Rattle.large.specs.Steps.{crossed}
 use native.Mathlib.Omega.{arith}
 use Rattle.large.proofs.narrow.cross_sum.Statement.{statement}
 use Rattle.large.proofs.narrow.cross_sum.Tie as tie

@@ -3,20 +3,22 @@ use Prim.Native.Nat.{_≤_, _-_, _+_}
 use mathlib.Core.Path.{_≡_, refl, _∙_}
 use lib.ListN.{length, getD}
 use lib.Ieee.{nan}
-use Rattle.large.specs.Slab.{putRow, gainedBy}
-use Rattle.large.proofs.NarrowLaws.{by-none, by-more, by-end}
+use Rattle.large.specs.Slab.{putRow}
+use Rattle.large.specs.Steps.{gainedTo}
+use Rattle.large.proofs.ProductLaws.{gain-none, gain-end}
+use Rattle.large.proofs.NarrowLaws.{by-more}
 use native.Mathlib.Omega.{arith}
 use Rattle.large.proofs.narrow.gain_all.Statement.{statement}
 use Rattle.large.proofs.narrow.gain_all.Tie as tie
 
 abbrev Inv-loop : tie.InvT-loop
-Inv-loop out₀ d work p x q u n c k₀ out k = (k ≤ n) × (length out ≡ length out₀) × (out ≡ putRow d c (λ j. gainedBy k work p x q u (getD out₀ (d + j) nan) j) out₀)
+Inv-loop out₀ d work p x q u n c k₀ out k = (k ≤ n) × (length out ≡ length out₀) × (out ≡ putRow d c (λ j. gainedTo k work p 1 0 x q u (getD out₀ (d + j) nan) j) out₀)
 
 abbrev μ-loop : tie.MeasureT-loop
 μ-loop out₀ d work p x q u n c k₀ out k = n - k
 
 loop-holds : tie.Need-loop-holds Inv-loop μ-loop
-loop-holds c = (omega arith, refl, by-none _ _ _ _ _ _ _ _ (omega arith))
+loop-holds c = (omega arith, refl, gain-none _ _ _ _ _ _ _ _ _ _ (omega arith))
 
 start-requires : tie.Need-start-requires Inv-loop μ-loop
 start-requires c κs = omega arith
@@ -53,7 +55,7 @@ same-length : tie.Need-same-length Inv-loop μ-loop
 same-length c = c .before .loop .inv .1
 
 returns : tie.Need-returns Inv-loop μ-loop
-returns c = by-end _ _ _ _ _ _ _ _ _ (c .before .before .before .before .before .args .out .now) _ (c .before .loop .inv .0) (c .loop-test .left) (c .before .loop .inv .2)
+returns c = gain-end _ _ _ _ _ _ _ _ _ _ _ (c .before .before .before .before .before .args .out .now) _ (c .before .loop .inv .0) (c .loop-test .left) (c .before .loop .inv .2)
 
 pub gain-all-spec : {M : Type 1} → statement M
 gain-all-spec =

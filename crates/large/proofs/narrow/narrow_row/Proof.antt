@@ -14,7 +14,7 @@ same-length : tie.Need-same-length
 same-length c = search needs
 
 returns : tie.Need-returns
-returns c = by-cleared _ _ _ _ _ _ _ _ _ _ _ (c .before .before .before .before .before .before .before .before .before .before .before .pre .0) (c .before .before .before .before .before .before .clear-row .ensures) (c .before .before .gain-all .ensures)
+returns c = by-cleared _ _ _ _ _ _ _ _ _ _ _ _ _ (c .before .before .before .before .before .before .before .before .before .before .before .pre .0) (c .before .before .before .before .before .before .clear-row .ensures) (c .before .before .gain-all .ensures)
 
 pub narrow-row-spec : {M : Type 1} → statement M
 narrow-row-spec = tie.close (tie.spec clear-row-requires gain-all-requires same-length returns)

@@ -3,7 +3,8 @@ use Prim.Native.Nat.{_≤_, _-_}
 use mathlib.Core.Path.{_≡_, refl, _∙_}
 use lib.ListN.{length}
 use Rattle.algebra.proofs.FoldLaws.{fold-start, fold-end}
-use Rattle.large.specs.Slab.{putRows, rowsAt, gainedBy}
+use Rattle.large.specs.Slab.{putRows, rowsAt}
+use Rattle.large.specs.Steps.{gainedTo}
 use Rattle.large.proofs.SlabLaws.{fill-more}
 use Rattle.arithmetic.specs.Numbers.{plusZero}
 use Rattle.algebra.specs.Kind.{floats}
@@ -43,7 +44,7 @@ loop-again c =
     let v = c .before .before .before .before .before .before .before .loop .inv in (
       omega arith,
       c .before .before .narrow-row .kept .0 ∙ v .1,
-      fill-more _ _ _ _ _ _ (gainedBy (c .before .before .before .before .before .before .before .before .before .before .before .args .n) (c .before .before .before .before .before .before .before .before .before .before .before .args .work .now) (c .before .before .before .before .start2 .result) (c .before .before .before .before .before .before .before .before .before .before .before .args .x .now) (c .before .before .before .before .before .before .before .before .before .before .before .args .q) (c .before .before .before .before .before .before .before .before .before .before .before .args .u) plusZero) _ _ _
+      fill-more _ _ _ _ _ _ (gainedTo (c .before .before .before .before .before .before .before .before .before .before .before .args .n) (c .before .before .before .before .before .before .before .before .before .before .before .args .work .now) (c .before .before .before .before .start2 .result) 1 0 (c .before .before .before .before .before .before .before .before .before .before .before .args .x .now) (c .before .before .before .before .before .before .before .before .before .before .before .args .q) (c .before .before .before .before .before .before .before .before .before .before .before .args .u) plusZero) _ _ _
           (c .before .before .before .before .before .start .ensures .0) (v .2) (c .before .before .narrow-row .ensures)
           (λ j l. narrow-row _ _ _ _ _ _ _ _ _ _ _ (c .before .before .before .before .before .before .loop-test .taken) (c .before .before .before .before .start2 .ensures .0) j l),
     )

@@ -3,20 +3,21 @@ use Prim.Native.Nat.{_≤_, _-_, _+_}
 use mathlib.Core.Path.{_≡_, refl, _∙_}
 use lib.ListN.{length, getD}
 use lib.Ieee.{nan}
-use Rattle.large.specs.Slab.{putRow, gainedTo}
+use Rattle.large.specs.Slab.{putRow}
+use Rattle.large.specs.Steps.{gainedTo}
 use Rattle.large.proofs.ProductLaws.{row-apart-of, gain-none, gain-more, gain-end}
 use native.Mathlib.Omega.{arith}
 use Rattle.large.proofs.rows.gain_rows.Statement.{statement}
 use Rattle.large.proofs.rows.gain_rows.Tie as tie
 
 abbrev Inv-loop : tie.InvT-loop
-Inv-loop work₀ d p u o q t n c k₀ work k = (k ≤ n) × (length work ≡ length work₀) × (work ≡ putRow d c (λ j. gainedTo k work₀ p u o q t (getD work₀ (d + j) nan) j) work₀)
+Inv-loop work₀ d p u o q t n c k₀ work k = (k ≤ n) × (length work ≡ length work₀) × (work ≡ putRow d c (λ j. gainedTo k work₀ p u o work₀ q t (getD work₀ (d + j) nan) j) work₀)
 
 abbrev μ-loop : tie.MeasureT-loop
 μ-loop work₀ d p u o q t n c k₀ work k = n - k
 
 loop-holds : tie.Need-loop-holds Inv-loop μ-loop
-loop-holds c = (omega arith, refl, gain-none _ _ _ _ _ _ _ _ (omega arith))
+loop-holds c = (omega arith, refl, gain-none _ _ _ _ _ _ _ _ _ _ (omega arith))
 
 add-start : tie.Need-add-start Inv-loop μ-loop
 add-start c = omega arith
@@ -61,7 +62,7 @@ same-length : tie.Need-same-length Inv-loop μ-loop
 same-length c = c .before .loop .inv .1
 
 returns : tie.Need-returns Inv-loop μ-loop
-returns c = gain-end _ _ _ _ _ _ _ _ _ _ (c .before .loop .inv .0) (c .loop-test .left) (c .before .loop .inv .2)
+returns c = gain-end _ _ _ _ _ _ _ _ _ _ _ (c .before .before .before .args .work .now) _ (c .before .loop .inv .0) (c .loop-test .left) (c .before .loop .inv .2)
 
 pub gain-rows-spec : {M : Type 1} → statement M
 gain-rows-spec =

@@ -3,7 +3,8 @@ use Prim.Native.Nat.{_≤_, _-_}
 use mathlib.Core.Path.{_≡_, refl, _∙_}
 use lib.ListN.{length}
 use Rattle.algebra.proofs.FoldLaws.{fold-start, fold-end}
-use Rattle.large.specs.Slab.{putRows, rowsAt, gainedTo, gramOf}
+use Rattle.large.specs.Slab.{putRows, rowsAt, gramOf}
+use Rattle.large.specs.Steps.{gainedTo}
 use Rattle.large.proofs.SlabLaws.{fill-more}
 use Rattle.arithmetic.specs.Numbers.{plusZero}
 use Rattle.large.proofs.ProductLaws.{row-apart-whole, gram-row}
@@ -43,7 +44,7 @@ loop-again c =
     let g = (c .before .before .before .before .before .before .before .before .pre) in (
       omega arith,
       c .before .before .product-row .kept .0 ∙ v .1,
-      fill-more _ _ _ _ _ _ (gainedTo (c .before .before .before .before .before .before .before .before .args .n) (c .before .before .before .before .before .before .loop .work) (c .before .before .before .before .before .before .before .before .args .p) (c .before .before .before .before .before .before .before .before .args .t) (c .before .before .before .before .before .before .loop .i) (c .before .before .before .before .before .before .before .before .args .p) (c .before .before .before .before .before .before .before .before .args .t) plusZero) _ _ _
+      fill-more _ _ _ _ _ _ (gainedTo (c .before .before .before .before .before .before .before .before .args .n) (c .before .before .before .before .before .before .loop .work) (c .before .before .before .before .before .before .before .before .args .p) (c .before .before .before .before .before .before .before .before .args .t) (c .before .before .before .before .before .before .loop .i) (c .before .before .before .before .before .before .loop .work) (c .before .before .before .before .before .before .before .before .args .p) (c .before .before .before .before .before .before .before .before .args .t) plusZero) _ _ _
           (c .before .before .before .before .start .ensures .0) (v .2) (c .before .before .product-row .ensures)
           (λ j l. gram-row _ _ _ _ _ _ _ _ _ _ (g .2) (g .0 .wide) (g .1 .wide) (c .before .before .before .before .before .loop-test .taken) (v .2) j l),
     )

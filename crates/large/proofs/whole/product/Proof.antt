@@ -3,7 +3,8 @@ use Prim.Native.Nat.{_≤_, _-_}
 use mathlib.Core.Path.{_≡_, refl, _∙_}
 use lib.ListN.{length}
 use Rattle.algebra.proofs.FoldLaws.{fold-start, fold-end}
-use Rattle.large.specs.Slab.{putRows, rowsAt, gainedTo}
+use Rattle.large.specs.Slab.{putRows, rowsAt}
+use Rattle.large.specs.Steps.{gainedTo}
 use Rattle.large.proofs.SlabLaws.{fill-more, rows-apart-at}
 use Rattle.arithmetic.specs.Numbers.{plusZero}
 use Rattle.algebra.specs.Kind.{floats}
@@ -51,7 +52,7 @@ loop-again c =
     let g = (c .before .before .before .before .before .before .before .before .before .pre) in (
       omega arith,
       c .before .before .product-row .kept .0 ∙ v .1,
-      fill-more _ _ _ _ _ _ (gainedTo (c .before .before .before .before .before .before .before .before .before .args .n) (c .before .before .before .before .before .before .before .loop .work) (c .before .before .before .before .start2 .result) 1 0 (c .before .before .before .before .before .before .before .before .before .args .q) (c .before .before .before .before .before .before .before .before .before .args .u) plusZero) _ _ _
+      fill-more _ _ _ _ _ _ (gainedTo (c .before .before .before .before .before .before .before .before .before .args .n) (c .before .before .before .before .before .before .before .loop .work) (c .before .before .before .before .start2 .result) 1 0 (c .before .before .before .before .before .before .before .loop .work) (c .before .before .before .before .before .before .before .before .before .args .q) (c .before .before .before .before .before .before .before .before .before .args .u) plusZero) _ _ _
           (c .before .before .before .before .before .start .ensures .0) (v .2) (c .before .before .product-row .ensures)
           (λ j l. product-row _ _ _ _ _ _ _ _ _ _ _ _ _ _ (g .1 .0) (g .1 .1) (g .0 .0 .wide) (g .0 .1 .wide) (g .0 .2 .wide) (c .before .before .before .before .before .before .loop-test .taken) (c .before .before .before .before .start2 .ensures .0) (v .2) j l),
     )

@@ -1,0 +1,4 @@
+-- The laws of the covariance adjustment.
+pub mod PackedLaws
+pub mod InformationLaws
+pub mod AdjustedLaws

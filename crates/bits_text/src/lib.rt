@@ -1,0 +1,54 @@
+// Words of 64 bits as sixteen hexadecimal digits, for the programs that read and print tables.
+ghost use Prim.Native.Nat.{_+_, _<_, _≤_};
+ghost use lib.ListN.{length};
+
+// The value of a hexadecimal digit; 0 for any other byte.
+pub fn digit(b: u8) -> u64
+    ensures { λ r. ⌜ r < 16 ⌝ }
+{
+    if 48 <= b {
+        if b <= 57 {
+            return (b - 48) as u64;
+        }
+    }
+    if 97 <= b {
+        if b <= 102 {
+            return (b - 87) as u64;
+        }
+    }
+    0
+}
+
+// The word of sixteen digits from a place on.
+pub fn word_at(text: &[u8], at: usize) -> u64
+    requires { ⌜ at + 16 ≤ length (now text) ⌝ }
+{
+    let mut word: u64 = 0;
+    for i in 0..16usize {
+        let d = digit(text[at + i]);
+        word = (word % 1152921504606846976) * 16 + d;
+    }
+    word
+}
+
+// The hexadecimal digit of a number below 16.
+fn letter(d: u64) -> u8
+    requires { ⌜ d < 16 ⌝ }
+{
+    if d < 10 {
+        (48 + d) as u8
+    } else {
+        (87 + d) as u8
+    }
+}
+
+// Sixteen digits, the leading one first.
+pub fn print_word(word: u64) {
+    let mut text = [48u8; 16];
+    let mut rest = word;
+    for i in 0..16usize {
+        text[15 - i] = letter(rest % 16);
+        rest = rest / 16;
+    }
+    io::write_all(1, &text);
+}

@@ -1,0 +1,16 @@
+-- `tests::kenward_roger::theta_phi` meets its contract.
+use borrow.Author.Needs.{needs}
+use Rattle.tests.proofs.kenward_roger.theta_phi.Statement.{statement}
+use Rattle.tests.proofs.kenward_roger.theta_phi.Tie as tie
+
+theta-of-requires : tie.Need-theta-of-requires
+theta-of-requires c κs = search needs
+
+product-requires : tie.Need-product-requires
+product-requires c κs = search needs
+
+returns : tie.Need-returns
+returns c = cc
+
+pub theta-phi-spec : {M : Type 1} → statement M
+theta-phi-spec = tie.close (tie.spec theta-of-requires product-requires returns)

@@ -1,0 +1,31 @@
+-- `tests::kenward_roger::wald_entry` meets its contract.
+use Rattle.tests.specs.KenwardRoger.{waldEntry}
+use borrow.Author.Needs.{needs}
+use Rattle.tests.proofs.kenward_roger.wald_entry.Statement.{statement}
+use Rattle.tests.proofs.kenward_roger.wald_entry.Tie as tie
+
+solve-wald-quadratic-requires : tie.Need-solve-wald-quadratic-requires
+solve-wald-quadratic-requires c κs = search needs
+
+wald-number-requires : tie.Need-wald-number-requires
+wald-number-requires c κs = search needs
+
+wald-seen-requires : tie.Need-wald-seen-requires
+wald-seen-requires c κs = search needs
+
+entry-of-requires : tie.Need-entry-of-requires
+entry-of-requires c κs = search needs
+
+returns : tie.Need-returns
+unfolding waldEntry
+returns c = cc
+
+pub wald-entry-spec : {M : Type 1} → statement M
+wald-entry-spec =
+    tie.close
+    (tie.spec
+    solve-wald-quadratic-requires
+    wald-number-requires
+    wald-seen-requires
+    entry-of-requires
+    returns)

@@ -1,0 +1,25 @@
+//! The Rust of lme-rs as the judge of the port.
+//!
+//! - `reader`: record files, from document 01 and the project's decisions.
+//! - `lme_run`: F, df and rank by lme-rs's own four files, unchanged.
+//! - `marked`: a run written from document 01, which also has the mark.
+//! - `calls`: the two calls on bytes, which hold the two runs together.
+
+// The modules of lme-rs name these as `crate::..`.
+pub(crate) use lme_items::{formula, math, model, model_matrix, LmeError, LmeFit, Result};
+include!(concat!(env!("OUT_DIR"), "/lme_rs.rs"));
+
+mod lme_items;
+
+pub mod calls;
+pub mod known;
+pub mod lme_run;
+pub mod make;
+pub mod marked;
+pub mod print;
+pub mod random;
+pub mod reader;
+pub mod trace;
+
+#[cfg(test)]
+mod bench;

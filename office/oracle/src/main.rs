@@ -1,0 +1,58 @@
+//! The command `oracle`: see the usage text.
+
+use std::io::{Read, Write};
+use std::path::Path;
+use std::process::ExitCode;
+
+const USAGE: &str = "usage:
+  oracle pulltest < FILE            document 01's lines
+  oracle bits < FILE                the same, and the numbers behind them
+  oracle satterthwaite < FILE       the Satterthwaite call, as one `test` line
+  oracle make-vectors DIR SEED COUNT
+  oracle replay FILE..              checks files of vectors against the oracle
+";
+
+fn main() -> ExitCode {
+    let args: Vec<String> = std::env::args().skip(1).collect();
+    let words: Vec<&str> = args.iter().map(String::as_str).collect();
+    let done = match words.as_slice() {
+        ["pulltest"] => filter(oracle::print::pulltest),
+        ["bits"] => filter(oracle::print::bits_report),
+        ["satterthwaite"] => filter(oracle::print::satterthwaite_line),
+        ["make-vectors", folder, seed, count] => make(folder, seed, count),
+        ["replay", files @ ..] if !files.is_empty() => replay(files),
+        _ => Err(USAGE.to_string()),
+    };
+    match done {
+        Ok(()) => ExitCode::SUCCESS,
+        Err(text) => {
+            eprint!("{text}");
+            ExitCode::FAILURE
+        }
+    }
+}
+
+fn filter(answer: fn(&[u8]) -> String) -> Result<(), String> {
+    let mut bytes = Vec::new();
+    std::io::stdin().read_to_end(&mut bytes).map_err(|e| format!("{e}\n"))?;
+    std::io::stdout().write_all(answer(&bytes).as_bytes()).map_err(|e| format!("{e}\n"))
+}
+
+fn make(folder: &str, seed: &str, count: &str) -> Result<(), String> {
+    let seed = seed.parse().map_err(|_| USAGE.to_string())?;
+    let count = count.parse().map_err(|_| USAGE.to_string())?;
+    oracle::make::make_vectors(Path::new(folder), seed, count).map_err(|e| format!("{e}\n"))
+}
+
+/// A file whose name holds `satterthwaite` is for that call.
+fn replay(files: &[&str]) -> Result<(), String> {
+    for file in files {
+        let text = std::fs::read_to_string(file).map_err(|e| format!("{file}: {e}\n"))?;
+        let satt = file.contains("satterthwaite");
+        for (i, line) in text.lines().enumerate() {
+            oracle::make::check_line(line, satt).map_err(|e| format!("{file}:{}: {e}\n", i + 1))?;
+        }
+        println!("{file}: {} cases", text.lines().count());
+    }
+    Ok(())
+}

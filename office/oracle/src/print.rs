@@ -1,0 +1,91 @@
+//! What the program `pulltest` prints, and more for the `bits` command.
+
+use crate::calls::{both_runs, kenward_roger, satterthwaite, BothRuns, Entries};
+use crate::marked::{Entry, Moments};
+use crate::reader::{read, Refusal};
+use listed_algebra::Matrix;
+
+fn bits(x: Option<f64>) -> String {
+    x.map_or("none".to_string(), |v| format!("{:016x}", v.to_bits()))
+}
+
+fn fields(e: &Entry) -> String {
+    let mark = if e.inside { "inside" } else { "outside" };
+    format!("rank {} F {} df {} {mark}\n", e.rank, bits(e.f), bits(e.df))
+}
+
+fn refused(number: Refusal) -> String {
+    format!("refused {number}\n")
+}
+
+fn lines(entries: &Entries) -> String {
+    let mut out = String::new();
+    for (i, e) in entries[..6].iter().enumerate() {
+        if let Some(e) = e {
+            out += &format!("coef {i} {}", fields(e));
+        }
+    }
+    if let Some(e) = &entries[6] {
+        out += &format!("test {}", fields(e));
+    }
+    out
+}
+
+/// The output of `pulltest` for a file.
+pub fn pulltest(bytes: &[u8]) -> String {
+    kenward_roger(bytes).map_or_else(refused, |entries| lines(&entries))
+}
+
+/// The same form for the Satterthwaite call: one `test` line.
+pub fn satterthwaite_line(bytes: &[u8]) -> String {
+    satterthwaite(bytes).map_or_else(refused, |e| format!("test {}", fields(&e)))
+}
+
+fn matrix(name: &str, m: &Matrix) -> String {
+    let mut out = String::new();
+    for i in 0..m.rows {
+        let row: Vec<String> = m.row(i).iter().map(|&v| bits(Some(v))).collect();
+        out += &format!("{name} row {i} {}\n", row.join(" "));
+    }
+    out
+}
+
+fn moments(name: &str, m: &Moments) -> String {
+    let plain = |v: f64| if v.is_nan() { "nan".to_string() } else { bits(Some(v)) };
+    format!("{name} a1 {} a2 {}\n", plain(m.a1), plain(m.a2))
+}
+
+/// `pulltest`'s lines and the numbers behind them.
+pub fn bits_report(bytes: &[u8]) -> String {
+    let runs = read(bytes).and_then(|s| both_runs(&s).unwrap_or_else(|text| panic!("{text}")));
+    match runs {
+        Err(number) => refused(number),
+        Ok(runs) => lines(&runs.entries()) + &numbers(&runs),
+    }
+}
+
+fn numbers(runs: &BothRuns) -> String {
+    let a = &runs.rust.adjusted;
+    let mut out = String::from("-- in residual units, by lme-rs\n");
+    out += &matrix("PhiA", &a.phi_a);
+    for (i, p) in a.p.iter().enumerate() {
+        out += &matrix(&format!("P {i}"), p);
+    }
+    out += &matrix("IE", &a.ie);
+    out += &matrix("W", &a.w);
+    out += &format!("rotations {}\n", a.rotations);
+    out += "-- scaled by sigma2, by lme-rs\n";
+    out += &matrix("Phi", &a.scaled_phi);
+    out += &matrix("PhiA", &a.scaled_phi_a);
+    for (i, p) in a.scaled_p.iter().enumerate() {
+        out += &matrix(&format!("P {i}"), p);
+    }
+    out += "-- by the marked run (locals of lme-rs, not to be had from it)\n";
+    for (i, (_, m)) in runs.marked.coefficients.iter().enumerate() {
+        out += &moments(&format!("coef {i}"), m);
+    }
+    if let Some((_, m)) = &runs.marked.contrast {
+        out += &moments("test", m);
+    }
+    out
+}
