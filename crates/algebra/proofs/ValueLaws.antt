@@ -11,7 +11,7 @@ use lib.ListN.{getD, set, length, length-set, replicate, getD-replicate, length-
 use lib.Seq.{getD-set-same, getD-set-other, set-out}
 use lib.Ieee.{Float, lt}
 use Rattle.arithmetic.specs.Numbers.{plusZero, one, isZero, sign}
-use Rattle.arithmetic.specs.Marks.{markedAdd, markedSub, markedMul, markedDiv, markedRoot, markedMagnitude, also}
+use Rattle.arithmetic.proofs.MarkLaws.{add-value, sub-value, mul-value, div-value, root-value, magnitude-value, also-value}
 use Rattle.algebra.specs.Fold.{span}
 use Rattle.algebra.specs.Table.{row, blank, table}
 use Rattle.algebra.specs.Kind.{Arith, floats, marks, nil}
@@ -99,18 +99,17 @@ pub record Alike {A B : Type 0} (R : A → B → Type 0) (N : Arith A) (M : Arit
 
 -- a marked number has the value of the plain one
 pub marks-floats : Alike (λ a x. a .value ≡ x) marks floats
-unfolding markedAdd markedSub markedMul markedDiv markedRoot markedMagnitude also
 marks-floats = record {
   value = λ p. p;
   of = λ x. refl;
   void = refl;
-  plus = λ p q. rw (p, q);
-  minus = λ p q. rw (p, q);
-  times = λ p q. rw (p, q);
-  over = λ p q. rw (p, q);
-  root = λ p. rw p;
-  unsigned = λ p. rw p;
-  also = λ p q. p;
+  plus = λ p q. rw (add-value, p, q);
+  minus = λ p q. rw (sub-value, p, q);
+  times = λ p q. rw (mul-value, p, q);
+  over = λ p q. rw (div-value, p, q);
+  root = λ p. rw (root-value, p);
+  unsigned = λ p. rw (magnitude-value, p);
+  also = λ p q. rw also-value p;
 }
 
 -- ---- sums and products

@@ -14,7 +14,7 @@ use Rattle.arithmetic.specs.declared.Marked.{Marked}
 use Rattle.arithmetic.specs.Numbers.{magnitude, isZero}
 use Rattle.arithmetic.specs.Scale.{scale}
 use Rattle.arithmetic.specs.SquareRoot.{squareRoot}
-use Rattle.arithmetic.specs.Marks.{inRange, given, stepMark, lostProduct, lostQuotient, markedAdd, markedSub, markedMul, markedDiv, markedRoot, markedNeg, markedMagnitude, also}
+use Rattle.arithmetic.specs.Marks.{inRange, marked, given, stepMark, lostProduct, lostQuotient, markedAdd, markedSub, markedMul, markedDiv, markedRoot, markedNeg, markedMagnitude, also}
 use Rattle.arithmetic.proofs.ScaleLaws.{scale-neg}
 use Rattle.arithmetic.proofs.Operations.{Zero, Safe}
 use Rattle.arithmetic.proofs.Rounding.{Within}
@@ -24,6 +24,40 @@ use Rattle.arithmetic.proofs.PlainLaws.{magnitude-scale, magnitude-fits
 use Rattle.arithmetic.proofs.Tied.{Tied, add-tied, sub-tied, mul-tied, div-tied}
 use Rattle.arithmetic.proofs.RootWhole.{root-scale}
 use Rattle.arithmetic.proofs.RootCases.{root-fits}
+
+-- ---- values: what a step does to them does not depend on marks
+pub add-value : (a b : Marked) → markedAdd a b .value ≡ add binary64 (a .value) (b .value)
+unfolding markedAdd
+add-value a b = refl
+
+pub sub-value : (a b : Marked) → markedSub a b .value ≡ sub binary64 (a .value) (b .value)
+unfolding markedSub
+sub-value a b = refl
+
+pub mul-value : (a b : Marked) → markedMul a b .value ≡ mul binary64 (a .value) (b .value)
+unfolding markedMul
+mul-value a b = refl
+
+pub div-value : (a b : Marked) → markedDiv a b .value ≡ div binary64 (a .value) (b .value)
+unfolding markedDiv
+div-value a b = refl
+
+pub root-value : (a : Marked) → markedRoot a .value ≡ squareRoot (a .value)
+unfolding markedRoot
+root-value a = refl
+
+pub magnitude-value : (a : Marked) → markedMagnitude a .value ≡ magnitude (a .value)
+unfolding markedMagnitude
+magnitude-value a = refl
+
+pub also-value : (a b : Marked) → also a b .value ≡ a .value
+unfolding also
+also-value a b = refl
+
+-- where the code keeps a mark apart from its value
+pub also-mark : (x : Float) (i : Bool) (a : Marked) → also (marked x i) a ≡ marked x (i && a .inside)
+unfolding also
+also-mark x i a = refl
 
 -- ---- what a mark bears
 pub record Bears (t : ℕ) (a : Marked) : Type 0 where

@@ -2,7 +2,7 @@
 use Prim.Native.Nat.{ℕ, _+_, _*_, _≤_}
 use native.Mathlib.Omega.{arith}
 use native.Mathlib.Nat.{mul-le-mul-left}
-use mathlib.Core.Path.{_≡_}
+use mathlib.Core.Path.{_≡_, sym}
 use mathlib.Core.Bool.{Bool, true, false, _&&_}
 use mathlib.Core.List.{List}
 use lib.ListN.{getD, set}
@@ -10,6 +10,7 @@ use lib.Ieee.{Float, lt}
 use Rattle.arithmetic.specs.declared.Marked.{Marked}
 use Rattle.arithmetic.specs.Numbers.{plusZero}
 use Rattle.arithmetic.specs.Marks.{marked, also}
+use Rattle.arithmetic.proofs.MarkLaws.{also-mark}
 use Rattle.algebra.specs.Kind.{Arith, nil}
 use Rattle.algebra.specs.Product.{at, identity}
 use Rattle.algebra.specs.Jacobi.{State, ratio, tangent, cosine, sine, turnedFirst, turnedSecond, turnRow, turnColumns, rotated, squared, bound, rotateTested, rowTo, sweepTo, sweepsTo, mirrored, jacobi}
@@ -23,8 +24,7 @@ turn-row-is N p q c s r x y ex ey = rw (ex, ey)
 
 -- the mark that the code keeps of `seen`, after a test whose two sides have the mark of t
 pub seen-is : (i : Bool) (l r t : Marked) → t ≡ also l r → marked plusZero (i && t .inside) ≡ also (marked plusZero i) (also l r)
-unfolding also
-seen-is i l r t e = rw e
+seen-is i l r t e = rw e (sym (also-mark plusZero i (also l r)))
 
 module _ {A : Type 0} (N : Arith A) (limit : Float) (R C n : ℕ) where
   -- where the test says yes

@@ -5,7 +5,8 @@ use mathlib.Core.List.{List}
 use lib.Ieee.{Float}
 use Rattle.arithmetic.specs.Numbers.{plusZero}
 use Rattle.arithmetic.specs.declared.Marked.{Marked}
-use Rattle.arithmetic.specs.Marks.{given, also}
+use Rattle.arithmetic.specs.Marks.{given}
+use Rattle.arithmetic.proofs.MarkLaws.{also-value}
 use Rattle.algebra.specs.Table.{table}
 use Rattle.algebra.specs.Kind.{Arith, floats, marks}
 use Rattle.algebra.specs.Product.{at, product, transpose}
@@ -52,7 +53,7 @@ product-values K C r n c e f h l = values-are K C r c _ _ (product-alike marks-f
 
 -- counting marks changes no value
 pub allMarks-value : (r c : ℕ) (a : List (List Marked)) (seen : Marked) → allMarks r c a seen .value ≡ seen .value
-unfolding allMarks also
+unfolding allMarks
 allMarks-value r c a seen =
     fold-keeps (λ s. s .value ≡ seen .value) 0 r _ seen refl
-    (λ i h l s e. fold-keeps (λ t. t .value ≡ seen .value) 0 c _ s e (λ j u v t q. q))
+    (λ i h l s e. fold-keeps (λ t. t .value ≡ seen .value) 0 c _ s e (λ j u v t q. also-value t (at marks a i j) ∙ q))

@@ -14,6 +14,7 @@ use borrow.Author.Tests.{lt-ltb, le-ltb}
 use Rattle.arithmetic.specs.declared.Marked.{Marked}
 use Rattle.arithmetic.specs.Numbers.{plusZero, magnitude, isZero, isFinite}
 use Rattle.arithmetic.specs.Marks.{given, marked, markedDiv}
+use Rattle.arithmetic.proofs.MarkLaws.{div-value}
 use Rattle.algebra.specs.Kind.{floats, marks}
 use Rattle.algebra.specs.Product.{at}
 use Rattle.algebra.proofs.FoldLaws.{fold-steps}
@@ -80,8 +81,8 @@ largest-is p xs u =
 
 -- ---- a divided cell
 over-cell : (p : ℕ) (l : Rows) (i j : ℕ) → lt plusZero (largest p (getD l i [])) ≡ true → dividedCell p l i j .value ≡ div binary64 (at floats l i j) (largest p (getD l i []))
-unfolding dividedCell markedDiv
-over-cell p l i j e = rw e
+unfolding dividedCell
+over-cell p l i j e = rw e (div-value (given (at floats l i j)) (given (largest p (getD l i []))))
 
 as-cell : (p : ℕ) (l : Rows) (i j : ℕ) → lt plusZero (largest p (getD l i [])) ≡ false → dividedCell p l i j .value ≡ at floats l i j
 unfolding dividedCell
