@@ -1,6 +1,6 @@
 // Writes the table of the program `arithmetic_table`: its standard input and what it must print.
 //
-//     rustc --edition 2021 -O -o target/make_table vectors/arithmetic/make_table.rs && target/make_table crates/arithmetic_table
+//     rustc --edition 2021 -O -o target/arithmetic_table office/tables/arithmetic_table.rs && target/arithmetic_table crates/arithmetic_table
 //
 // Each answer is the hardware's: f64's + - * / and sqrt of this machine. The mark is worked out from the exponent field of the bit
 // pattern and, of a subnormal, from its leading digit, and not by comparing magnitudes as the proved code does.

@@ -1,6 +1,6 @@
 // Writes the cases of the program `algebra_table` and what it must print.
 //
-//     rustc --edition 2021 -O -o target/make_algebra vectors/algebra/make_table.rs && target/make_algebra crates/algebra_table
+//     rustc --edition 2021 -O -o target/algebra_table office/tables/algebra_table.rs && target/algebra_table crates/algebra_table
 //
 // The algorithms are written here from document 01, "Dense algebra", in plain loops, over a number that carries its mark; nothing is taken from
 // the proved code. Values are this machine's f64; marks are worked out from the exponent field. The matrices come from a fixed sequence
