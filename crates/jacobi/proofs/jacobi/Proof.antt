@@ -15,7 +15,7 @@ both-of-requires c κs = search needs
 
 returns : tie.Need-returns
 returns c =
-    let made = c .before .before .jacobi-in-place in
+    let made = c .before .jacobi-in-place in
     (ap (λ (b : List (List (List Float))). plainState b (made .result)) (c .both-of .ensures) ∙ made .ensures .0, made .ensures .1)
 
 pub jacobi-spec : {M : Type 1} → statement M
