@@ -4,14 +4,19 @@ mod cases;
 mod large_cases;
 mod print;
 
+// The next case of standard input, if a whole one is left.
+fn next_case() {
+    let mut text = [0u8; 1241];
+    let n = io::read_full(0, &mut text);
+    if n == 1241 {
+        cases::run(&text);
+    }
+}
+
 // At most 256 cases; the large matrices are drawn by the program itself.
 fn main() {
-    let mut text = [0u8; 1241];
     for k in 0..256usize {
-        let n = io::read_full(0, &mut text);
-        if n == 1241 {
-            cases::run(&text);
-        }
+        next_case();
     }
     large_cases::run(1);
     large_cases::run(7);

@@ -1,26 +1,20 @@
 -- `algebra_table::main` meets its contract.
-use borrow.Author.Needs.{needs}
 use Prim.Native.Nat.{_≤_, _-_}
+use borrow.Author.Needs.{needs}
 use Rattle.algebra_table.proofs.main.Statement.{statement}
 use Rattle.algebra_table.proofs.main.Tie as tie
 
 abbrev Inv-loop : tie.InvT-loop
-Inv-loop text₀ k₀ text k = k ≤ 256
+Inv-loop k₀ k = k ≤ 256
 
 abbrev μ-loop : tie.MeasureT-loop
-μ-loop text₀ k₀ text k = 256 - k
+μ-loop k₀ k = 256 - k
 
 loop-holds : tie.Need-loop-holds Inv-loop μ-loop
 loop-holds c = search needs
 
-slice-aggregate-read-full : tie.Need-slice-aggregate-read-full Inv-loop μ-loop
-slice-aggregate-read-full c = search needs
-
-read-full-requires : tie.Need-read-full-requires Inv-loop μ-loop
-read-full-requires c κs = search needs
-
-run-requires : tie.Need-run-requires Inv-loop μ-loop
-run-requires c κs = search needs
+next-case-requires : tie.Need-next-case-requires Inv-loop μ-loop
+next-case-requires c κs = search needs
 
 add-k : tie.Need-add-k Inv-loop μ-loop
 add-k c = search needs
@@ -31,14 +25,14 @@ loop-less c = search needs
 loop-again : tie.Need-loop-again Inv-loop μ-loop
 loop-again c = search needs
 
+run-requires : tie.Need-run-requires Inv-loop μ-loop
+run-requires c κs = search needs
+
 run-requires-2 : tie.Need-run-requires-2 Inv-loop μ-loop
 run-requires-2 c κs = search needs
 
 run-requires-3 : tie.Need-run-requires-3 Inv-loop μ-loop
 run-requires-3 c κs = search needs
-
-run-requires-4 : tie.Need-run-requires-4 Inv-loop μ-loop
-run-requires-4 c κs = search needs
 
 returns : tie.Need-returns Inv-loop μ-loop
 returns c = search needs
@@ -50,13 +44,11 @@ main-spec =
     Inv-loop
     μ-loop
     loop-holds
-    slice-aggregate-read-full
-    read-full-requires
-    run-requires
+    next-case-requires
     add-k
     loop-less
     loop-again
+    run-requires
     run-requires-2
     run-requires-3
-    run-requires-4
     returns)
