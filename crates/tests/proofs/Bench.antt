@@ -24,12 +24,12 @@ use Rattle.adjustment.specs.Covariance.{Design, turnedCell, groupCell, blockCel
 use Rattle.adjustment.specs.Adjusted.{Adjustment, stack, qStack, uTerm, uTermAt, uAbove, uRows, phiARows, hStack, oStack, pStack, qStackOf, ieRows, eigen, fromPrecision, informationRefused, precisionOf, adjustment, scaledUp, scaledDown, notAllFinite, notAllFiniteMarked, outputNotFinite, adjustmentNumber}
 use Rattle.algebra.specs.Cholesky.{put, lessDot, belowDiagonal, choleskyColumn, choleskyTo, notPositive, choleskyRefused, lower}
 use Rattle.algebra.specs.Jacobi.{ratio, tangent, cosine, sine, turnedFirst, turnedSecond, turnRow, turnColumns, rotatedCell, rotated, squared, bound, rotateTested, rotate, rowTo, sweepTo, sweepsTo, mirrored, jacobi}
-use Rattle.tests.specs.declared.Number.{Number}
-use Rattle.tests.specs.declared.Number.the-variants.{Is, None}
-use Rattle.tests.specs.declared.Entry.{Entry}
-use Rattle.tests.specs.Answer.{numberOf}
-use Rattle.tests.specs.Basis.{Basis, largest, dividedCell, divided, contrastBasis}
-use Rattle.tests.specs.Moments.{weight, a1Of, a2Of, bOf, gOf, dOf, c1Of, c2Of, c3Of, leadingOf, v0Of, v1Of, v2Of, divOf, lessA2, rhoOf, positive, generalDf, rankOne, dfOf, scalingAt, scalingOf, fOf}
+use Rattle.answers.specs.declared.Number.{Number}
+use Rattle.answers.specs.declared.Number.the-variants.{Is, None}
+use Rattle.answers.specs.declared.Entry.{Entry}
+use Rattle.answers.specs.Answer.{numberOf}
+use Rattle.contrast_basis.specs.Basis.{Basis, largest, dividedCell, divided, contrastBasis}
+use Rattle.moments.specs.Moments.{weight, a1Of, a2Of, bOf, gOf, dOf, c1Of, c2Of, c3Of, leadingOf, v0Of, v1Of, v2Of, divOf, lessA2, rhoOf, positive, generalDf, rankOne, dfOf, scalingAt, scalingOf, fOf}
 use Rattle.tests.specs.KenwardRoger.{unitRow, coefficientTest, contrastTest, scaledPs, scaledBy, Scaled, scalingSeen, difference, thetaOf, uOf, uStack, uValues, uSeen, waldOne, waldOneGiven, waldMany, Tested, aRows, xRows, thetaPhi, us, ldRows, vRows, yRows, waldMarked, waldNumber, testSeen, a1, a2, tested}
 
 -- ---- what the examples are run on

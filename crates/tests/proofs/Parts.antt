@@ -12,10 +12,10 @@ use Rattle.algebra.specs.Elimination.{solution}
 use Rattle.algebra.specs.Elimination as elimination
 use Rattle.products.specs.Small.{sandwich, givenCells}
 use Rattle.adjustment.specs.declared.Cutoffs.{Cutoffs}
-use Rattle.tests.specs.declared.Number.{Number}
-use Rattle.tests.specs.declared.Entry.{Entry}
-use Rattle.tests.specs.Basis.{Rows}
-use Rattle.tests.specs.Moments.{a1Of, a2Of, dfOf, scalingOf, fOf}
+use Rattle.answers.specs.declared.Number.{Number}
+use Rattle.answers.specs.declared.Entry.{Entry}
+use Rattle.contrast_basis.specs.Basis.{Rows}
+use Rattle.moments.specs.Moments.{a1Of, a2Of, dfOf, scalingOf, fOf}
 use Rattle.tests.specs.KenwardRoger.{MarkedRows, scalingSeen, difference, thetaOf, uStack, uValues, scaledOf, basisOf, waldOf, waldNumberOf, thetaSeen, waldSeen, entryOf, waldEntry, thetaEntry, aRows, xRows, thetaPhi, us, ldRows, vRows, yRows, waldMarked, waldNumber, testSeen, a1, a2, tested}
 
 -- a choice between false and true is the negation, and one between false and z is a conjunction

@@ -7,7 +7,7 @@ use lib.Ieee.{Float}
 use Rattle.arithmetic.specs.declared.Marked.{Marked}
 use Rattle.arithmetic.specs.Numbers.{plusZero}
 use Rattle.adjustment.specs.declared.Cutoffs.{Cutoffs}
-use Rattle.tests.specs.Basis.{Rows, Basis, contrastBasis}
+use Rattle.contrast_basis.specs.Basis.{Rows, Basis, contrastBasis}
 use Rattle.tests.specs.KenwardRoger.{Scaled, Tested, tested, basisOf, unitRow, coefficientTest, contrastTest}
 
 module _ (c : Cutoffs) (s : Scaled) (beta : List Float) where

@@ -17,12 +17,12 @@ use Rattle.algebra.specs.Elimination.{solution, refused}
 use Rattle.products.specs.Small.{sandwich, givenCells, values, allMarks}
 use Rattle.adjustment.specs.declared.Cutoffs.{Cutoffs}
 use Rattle.adjustment.specs.Adjusted.{Adjustment, matrixAt, scaledUp, scaledDown}
-use Rattle.tests.specs.declared.Number.{Number}
-use Rattle.tests.specs.declared.Number.the-variants.{Is, None}
-use Rattle.tests.specs.declared.Entry.{Entry}
-use Rattle.tests.specs.Answer.{numberOf}
-use Rattle.tests.specs.Basis.{Rows, Basis, contrastBasis}
-use Rattle.tests.specs.Moments.{a1Of, a2Of, dfOf, scalingOf, fOf}
+use Rattle.answers.specs.declared.Number.{Number}
+use Rattle.answers.specs.declared.Number.the-variants.{Is, None}
+use Rattle.answers.specs.declared.Entry.{Entry}
+use Rattle.answers.specs.Answer.{numberOf}
+use Rattle.contrast_basis.specs.Basis.{Rows, Basis, contrastBasis}
+use Rattle.moments.specs.Moments.{a1Of, a2Of, dfOf, scalingOf, fOf}
 
 abbrev pub MarkedRows : Type 0
 MarkedRows = List (List Marked)

@@ -2,13 +2,13 @@
 ghost use mathlib.Core.Path.{_≡_};
 ghost use Prim.Native.Nat.{_≤_, _<_};
 ghost use Rattle.tests.specs.KenwardRoger.{scaledOf, coefficientTest, contrastTest, noEntry, withTest, coefficientsTo, runOf};
-use crate::Entry;
-use crate::Number;
-use crate::basis::contrast_basis;
 use crate::kenward_roger::kr_modcomp_test;
 use crate::kenward_roger::unit_row;
 use adjustment::Cutoffs;
+use answers::Entry;
+use answers::Number;
 use arithmetic::Marked;
+use contrast_basis::basis::contrast_basis;
 
 // The test of a contrast of some rows.
 pub fn contrast_test(

@@ -1,0 +1,2 @@
+-- Document 01: what a test answers.
+pub mod Answer

@@ -1,0 +1,3 @@
+// The contrast basis (kr_modcomp), and the falling order of singular values and of eigenvalues.
+pub mod basis;
+pub mod order;

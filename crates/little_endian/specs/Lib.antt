@@ -1,0 +1,2 @@
+-- Numbers in bytes, the lowest first.
+pub mod Bytes

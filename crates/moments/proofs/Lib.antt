@@ -1,0 +1,2 @@
+-- The laws of the moments.
+pub mod Pairs

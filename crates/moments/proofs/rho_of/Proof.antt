@@ -1,0 +1,22 @@
+-- `moments::rho_of` meets its contract.
+use lib.Ieee.{ofBits}
+use Rattle.moments.specs.Moments.{rhoOf}
+use borrow.Author.Needs.{needs}
+use Rattle.moments.proofs.rho_of.Statement.{statement}
+use Rattle.moments.proofs.rho_of.Tie as tie
+
+rho-root-requires : tie.Need-rho-root-requires
+rho-root-requires c κs = search needs
+
+of-count-requires : tie.Need-of-count-requires
+of-count-requires c κs = search needs
+
+rho-factor-requires : tie.Need-rho-factor-requires
+rho-factor-requires c κs = search needs
+
+returns : tie.Need-returns
+unfolding rhoOf ofBits
+returns c = cc
+
+pub rho-of-spec : {M : Type 1} → statement M
+rho-of-spec = tie.close (tie.spec rho-root-requires of-count-requires rho-factor-requires returns)

@@ -1,0 +1,142 @@
+-- Document 01, "kenward_roger.rs and records" and "Refusals": a Kenward–Roger series as its file gives it, and the refusals 2 to 8, which come before any computing.
+use Prim.Native.Nat.{ℕ, _+_, _*_, _/_, _%_, max}
+use mathlib.Core.Bool.{Bool, true, false, not, _&&_, _||_, cond}
+use mathlib.Core.List.{List, [], _∷_}
+use lib.Dec.{eqb, ltb}
+use lib.ListN.{length}
+use lib.Ieee.{Float, le}
+use Rattle.arithmetic.specs.Numbers.{plusZero, isZero}
+use Rattle.algebra.specs.Table.{row, table}
+use Rattle.adjustment.specs.declared.Block.{Block}
+use Rattle.adjustment.specs.Blocks.{noBlock}
+use Rattle.adjustment.specs.Covariance.{Rows, Design}
+use Rattle.records.specs.Scan.{any, last, total, first}
+use Rattle.records.specs.Kinds.{Table, cells, blocks, unread, kenwardRoger}
+use Rattle.records.specs.File.{count, columnOf, countOf, isCell, cell, rows, columns, present, badRecord, again, beyond, missing, notFinite}
+
+-- "n and p come from the largest X indices; Z columns, blocks, thetas and contrast rows from their own kind." A series has a specimen and a coefficient: a file with no X misses its
+-- first cell.
+abbrev pub specimens : List ℕ → ℕ
+specimens s = max 1 (rows s 1)
+
+abbrev pub coefficients : List ℕ → ℕ
+coefficients s = max 1 (columns s 1)
+
+abbrev pub zColumns : List ℕ → ℕ
+zColumns s = columns s 2
+
+abbrev pub blockCount : List ℕ → ℕ
+blockCount s = rows s 3
+
+abbrev pub thetas : List ℕ → ℕ
+thetas s = rows s 4
+
+abbrev pub contrastRows : List ℕ → ℕ
+contrastRows s = rows s 9
+
+-- What the sizes leave each kind: 0, X, Z, block, theta, weight, Φ, sigma2, β, contrast, β_H. "Kinds 2 to 5, 9, 10 may be absent wholly; 10 without 9 counts as beyond the sizes."
+unfoldable pub sizes : List ℕ → Table
+sizes s = record {
+  low = unread
+      ∷ cells 1 (specimens s) (coefficients s)
+      ∷ cells 1 (specimens s) (zColumns s)
+      ∷ blocks (blockCount s)
+      ∷ cells 1 (thetas s) 1
+      ∷ cells 1 (cond (present s 5) (specimens s) 0) 1
+      ∷ cells 1 (coefficients s) (coefficients s)
+      ∷ cells 1 1 1
+      ∷ cells 1 (coefficients s) 1
+      ∷ cells 1 (contrastRows s) (coefficients s)
+      ∷ cells 1 (cond (present s 10 && present s 9) (coefficients s) 0) 1
+      ∷ [];
+  high = [];
+}
+
+-- the number in a cell of a kind that is named by row and column
+abbrev pub number : List ℕ → ℕ → ℕ → ℕ → Float
+number s k r c = cell kenwardRoger s k 0 r c
+
+abbrev pub sigma2 : List ℕ → Float
+sigma2 s = number s 7 0 0
+
+-- "3 block (row its number, column k, count m)"
+unfoldable pub blockOf : List ℕ → ℕ → Block
+blockOf s b =
+    record {
+      effects = last (count s) (isCell kenwardRoger s 3 0 b 0) (columnOf s) 0;
+      groups = last (count s) (isCell kenwardRoger s 3 0 b 0) (countOf s) 0;
+    }
+
+-- k (k + 1) / 2
+abbrev pub parametersOf : Block → ℕ
+parametersOf b = b .effects * (b .effects + 1) / 2
+
+-- 2, "missing": every cell has to be there, but Z's, where "absent is 0"
+unfoldable pub incomplete : List ℕ → Bool
+incomplete s = any 11 (λ k. not (eqb k 2) && missing kenwardRoger (sizes s) s k)
+
+-- 3, "a size outside its limits": a block of other than 1 or 2 effects or without a group, or more than 3 block parameters. Any other size is bounded by 2.
+unfoldable pub badSize : List ℕ → Bool
+badSize s =
+    any (blockCount s) (λ b. not (eqb (blockOf s b .effects) 1 || eqb (blockOf s b .effects) 2) || eqb (blockOf s b .groups) 0)
+    || ltb 3 (total (blockCount s) (λ b. parametersOf (blockOf s b)))
+
+-- 6
+unfoldable pub badWeight : List ℕ → Bool
+badWeight s = present s 5 && any (specimens s) (λ i. le (number s 5 i 0) plusZero)
+
+-- 7, "sum of m·k ≠ Z columns, or theta count ≠ sum of k(k+1)/2"
+unfoldable pub misfit : List ℕ → Bool
+misfit s =
+    not (eqb (total (blockCount s) (λ b. blockOf s b .groups * blockOf s b .effects)) (zColumns s))
+    || not (eqb (thetas s) (total (blockCount s) (λ b. parametersOf (blockOf s b))))
+
+-- 8, "Kenward–Roger contrast all zero"
+unfoldable pub zeroContrast : List ℕ → Bool
+zeroContrast s = present s 9 && not (any (contrastRows s) (λ r. any (coefficients s) (λ c. not (isZero (number s 9 r c)))))
+
+-- "Refusals, lowest number first": what refuses a file before anything is computed, in order
+unfoldable pub reasons : List ℕ → List (ℕ × Bool)
+reasons s =
+    (2, not (eqb (length s % 16) 0))
+    ∷ (2, any (count s) (badRecord kenwardRoger s))
+    ∷ (2, any (count s) (again kenwardRoger s))
+    ∷ (2, any (count s) (beyond (sizes s) s))
+    ∷ (2, incomplete s)
+    ∷ (3, badSize s)
+    ∷ (4, any (count s) (notFinite s))
+    ∷ (5, le (sigma2 s) plusZero)
+    ∷ (6, badWeight s)
+    ∷ (7, misfit s)
+    ∷ (8, zeroContrast s)
+    ∷ []
+
+unfoldable pub refusal : List ℕ → ℕ
+refusal s = first (reasons s)
+
+-- ---- the series of a file that is not refused
+unfoldable pub design : List ℕ → Design
+design s = record {
+  n = specimens s;
+  p = coefficients s;
+  x = table plusZero (specimens s) (coefficients s) (specimens s) (coefficients s) (number s 1);
+  z = table plusZero (specimens s) (zColumns s) (specimens s) (zColumns s) (number s 2);
+  weighted = present s 5;
+  weights = row plusZero 24 (specimens s) (λ i. number s 5 i 0);
+  blocks = row noBlock 3 (blockCount s) (blockOf s);
+  count = blockCount s;
+  theta = row plusZero 3 (thetas s) (λ i. number s 4 i 0);
+}
+
+unfoldable pub phi : List ℕ → Rows
+phi s = table plusZero 6 6 (coefficients s) (coefficients s) (number s 6)
+
+unfoldable pub beta : List ℕ → List Float
+beta s = row plusZero 6 (coefficients s) (λ i. number s 8 i 0)
+
+-- "(β_H is then 0)"
+unfoldable pub betaH : List ℕ → List Float
+betaH s = row plusZero 6 (coefficients s) (λ i. number s 10 i 0)
+
+unfoldable pub contrast : List ℕ → Rows
+contrast s = table plusZero 6 6 (contrastRows s) (coefficients s) (number s 9)
