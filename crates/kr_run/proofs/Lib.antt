@@ -1,2 +1,3 @@
 -- The laws of the run.
 pub mod RunLaws
+pub mod Used
