@@ -3,6 +3,7 @@ use mathlib.Core.Bool.{Bool, true, false, cond}
 use lib.Ieee.{Float, nan, isNan}
 use Rattle.answers.specs.declared.Number.{Number}
 use Rattle.answers.specs.declared.Number.the-variants.{Is, None}
+use Rattle.answers.specs.declared.Entry.{Entry}
 
 -- what the Rust's f64 stands for: a NaN for none, anything else, an infinity too, for itself
 unfoldable pub numberOf : Float → Number
@@ -16,3 +17,7 @@ isGiven None = false
 abbrev pub floatOf : Number → Float
 floatOf (Is x) = x
 floatOf None = nan
+
+-- an entry that is not in use: no F, no df, rank 0, not inside. A test has a rank of at least 1.
+abbrev pub noEntry : Entry
+noEntry = record { f = None; df = None; rank = 0; inside = false }

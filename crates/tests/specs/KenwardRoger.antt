@@ -20,7 +20,7 @@ use Rattle.adjustment.specs.Adjusted.{Adjustment, matrixAt, scaledUp, scaledDow
 use Rattle.answers.specs.declared.Number.{Number}
 use Rattle.answers.specs.declared.Number.the-variants.{Is, None}
 use Rattle.answers.specs.declared.Entry.{Entry}
-use Rattle.answers.specs.Answer.{numberOf}
+use Rattle.answers.specs.Answer.{numberOf, noEntry}
 use Rattle.contrast_basis.specs.Basis.{Rows, Basis, contrastBasis}
 use Rattle.moments.specs.Moments.{a1Of, a2Of, dfOf, scalingOf, fOf}
 
@@ -205,10 +205,6 @@ coefficientTest c s beta i = tested c s beta (replicate 6 plusZero) (contrastBas
 
 unfoldable pub contrastTest : Cutoffs → Scaled → List Float → List Float → ℕ → Rows → Tested
 contrastTest c s beta betaH rows l = tested c s beta betaH (contrastBasis rows (s .p) l)
-
--- an entry that is not in use: no F, no df, rank 0, not inside
-abbrev pub noEntry : Entry
-noEntry = record { f = None; df = None; rank = 0; inside = false }
 
 -- seven entries, coefficients 0 to 5 and the contrast, and whether a zero pivot in any of their tests refuses the run
 pub record Run : Type 0 where
