@@ -1,0 +1,68 @@
+-- `answer_bytes::put_entry` meets its contract: three stores of eight bytes are the entry's 24.
+use borrow.Author.Needs.{needs}
+use denote.Ref.{now}
+use Rattle.answer_bytes.proofs.LayoutLaws.{sets-entry}
+use Rattle.answer_bytes.proofs.put_entry.Statement.{statement}
+use Rattle.answer_bytes.proofs.put_entry.Tie as tie
+use Rattle.answer_bytes.proofs.put_entry.Reads as reads
+use Rattle.answer_bytes.proofs.put_entry.Lts as lts
+use Rattle.answer_bytes.proofs.bits_of.Reads as bits-of-reads
+use Rattle.answer_bytes.proofs.flag_of.Reads as flag-of-reads
+use Rattle.answer_bytes.proofs.given_of.Reads as given-of-reads
+use Rattle.little_endian.proofs.put8.Reads as put8-reads
+use Rattle.little_endian.proofs.put_long.Reads as put-long-reads
+
+bits-of-requires : tie.Need-bits-of-requires
+bits-of-requires c κs = search needs
+
+put-long-requires : tie.Need-put-long-requires
+put-long-requires c κs = search needs
+
+add-put-long : tie.Need-add-put-long
+add-put-long c = search needs
+
+bits-of-requires-2 : tie.Need-bits-of-requires-2
+bits-of-requires-2 c κs = search needs
+
+put-long-requires-2 : tie.Need-put-long-requires-2
+put-long-requires-2 c κs = search needs
+
+add-put8 : tie.Need-add-put8
+add-put8 c = search needs
+
+given-of-requires : tie.Need-given-of-requires
+given-of-requires c κs = search needs
+
+given-of-requires-2 : tie.Need-given-of-requires-2
+given-of-requires-2 c κs = search needs
+
+flag-of-requires : tie.Need-flag-of-requires
+flag-of-requires c κs = search needs
+
+put8-requires : tie.Need-put8-requires
+put8-requires c κs = search needs
+
+same-length : tie.Need-same-length
+same-length c = search needs
+
+returns : tie.Need-returns
+returns c =
+    let g = c .before .before .before .before .before .before .before .before .before .before .before .before .before .before .before .before .before .before .args in
+    cc (sets-entry (now (g .a)) (g .at) (g .e))
+
+pub put-entry-spec : {M : Type 1} → statement M
+put-entry-spec =
+    tie.close
+    (tie.spec
+    bits-of-requires
+    put-long-requires
+    add-put-long
+    bits-of-requires-2
+    put-long-requires-2
+    add-put8
+    given-of-requires
+    given-of-requires-2
+    flag-of-requires
+    put8-requires
+    same-length
+    returns)

@@ -1,0 +1,2 @@
+-- Document 01: the answer bytes.
+pub mod Layout
