@@ -2,3 +2,4 @@
 pub mod MovingSmall
 pub mod MovingScaling
 pub mod MovingBasis
+pub mod MovingTest

@@ -33,7 +33,7 @@ abs-neg (pos zero) = refl
 abs-neg (pos (suc a)) = refl
 abs-neg (negsuc a) = refl
 
-finite-agrees : (u : ℤ) (x x' : Float) → Tied u x x' → isFinite x' ≡ isFinite x
+pub finite-agrees : (u : ℤ) (x x' : Float) → Tied u x x' → isFinite x' ≡ isFinite x
 finite-agrees u x x' e = rw (e .moved) (finite-scale u x)
 
 module _ {t : ℕ} where
