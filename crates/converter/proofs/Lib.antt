@@ -3,3 +3,4 @@ pub mod MovingSmall
 pub mod MovingScaling
 pub mod MovingBasis
 pub mod MovingTest
+pub mod MovingRun

@@ -32,9 +32,9 @@ use Rattle.algebra.proofs.TableLaws.{table-at}
 use Rattle.algebra.proofs.MovingCells.{MovesCells, table-moves, alike-over, less-agrees, cond-two, cond-both}
 use Rattle.products.specs.Small.{values, allMarks}
 use Rattle.contrast_basis.specs.Order.{indexAt}
-use Rattle.contrast_basis.specs.Basis.{Basis, largest, dividedCell, divided, sweepsTo, norms, singular, rankOf, basisRows, contrastBasis}
+use Rattle.contrast_basis.specs.Basis.{Rows, Basis, largest, dividedCell, divided, sweepsTo, norms, singular, rankOf, basisRows, contrastBasis}
 use Rattle.contrast_basis.proofs.Rank.{rank-most}
-use Rattle.converter.specs.Verdict.{Rows, WrittenCells}
+use Rattle.converter.specs.Converted.{WrittenCells}
 use Rattle.converter.proofs.MovingSmall.{tied-still, tied-nil, allMarks-cells, values-agree}
 
 -- ---- the largest magnitude

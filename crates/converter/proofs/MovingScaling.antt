@@ -21,7 +21,8 @@ use Rattle.algebra.proofs.MovingCells.{BearsCells, MovesCells}
 use Rattle.algebra.proofs.MovingProducts.{timesNumber-moves, overNumber-moves}
 use Rattle.products.specs.Small.{givenCells}
 use Rattle.adjustment.specs.Adjusted.{Adjustment, matrixAt, scaledUp, scaledDown, notAllFinite, notAllFiniteMarked, outputNotFinite}
-use Rattle.converter.specs.Verdict.{Rows, WrittenCells}
+use Rattle.contrast_basis.specs.Basis.{Rows}
+use Rattle.converter.specs.Converted.{WrittenCells}
 use Rattle.converter.proofs.MovingSmall.{tied-still, cells-by, given-cells}
 
 abbrev Matrix : Type 0

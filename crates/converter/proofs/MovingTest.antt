@@ -31,10 +31,11 @@ use Rattle.adjustment.specs.declared.Cutoffs.{Cutoffs}
 use Rattle.answers.specs.declared.Number.{Number}
 use Rattle.answers.specs.declared.Number.the-variants.{None}
 use Rattle.answers.specs.Answer.{numberOf}
-use Rattle.contrast_basis.specs.Basis.{Basis}
+use Rattle.contrast_basis.specs.Basis.{Rows, Basis}
 use Rattle.moments.specs.Moments.{a1Of, a2Of, dfOf, scalingOf, fOf}
 use Rattle.tests.specs.KenwardRoger.{MarkedRows, Scaled, Tested, scalingSeen, difference, thetaOf, uOf, uStack, uValues, uSeen, waldOne, waldOneGiven, waldMany, scaledOf, basisOf, aRows, xRows, thetaPhi, us, ldRows, vRows, yRows, waldMarked, waldNumber, testSeen, a1, a2, tested}
-use Rattle.converter.specs.Verdict.{Rows, Verdict, verdict, WrittenCells}
+use Rattle.converter.specs.Verdict.{Verdict, verdict}
+use Rattle.converter.specs.Converted.{WrittenCells}
 use Rattle.converter.proofs.MovingSmall.{tied-still, tied-nil, cells-by, allMarks-first, allMarks-cells, stack-first, stack-cells, given-cells, sandwich-moves, values-agree}
 use Rattle.converter.proofs.MovingScaling.{abs-neg, finite-agrees}
 

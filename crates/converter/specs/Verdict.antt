@@ -1,15 +1,12 @@
 -- Document 01: "F, df and rank are its verdict, and a run's verdict is the verdicts of all its entries. Demand 3 compares the verdicts of whole inputs; the mark may change."
 use Prim.Native.Nat.{ℕ, _<_}
-use mathlib.Core.List.{List}
-use lib.Dec.{T}
-use lib.Ieee.{Float, binary64, fits}
-use Rattle.algebra.specs.Kind.{floats}
-use Rattle.algebra.specs.Product.{at}
+use mathlib.Core.Path.{_≡_}
+use mathlib.Core.Bool.{true}
+use mathlib.Core.List.{List, map}
+use lib.ListN.{getD}
 use Rattle.answers.specs.declared.Number.{Number}
 use Rattle.answers.specs.declared.Entry.{Entry}
-
-abbrev pub Rows : Type 0
-Rows = List (List Float)
+use Rattle.tests.specs.KenwardRoger.{Run, noEntry}
 
 pub record Verdict : Type 0 where
   pub f : Number
@@ -19,6 +16,15 @@ pub record Verdict : Type 0 where
 abbrev pub verdict : Entry → Verdict
 verdict e = record { f = e .f; df = e .df; rank = e .rank }
 
--- the cells of r rows and c columns are f64 numbers
-abbrev pub WrittenCells : ℕ → ℕ → Rows → Type 0
-WrittenCells r c a = (i j : ℕ) → i < r → j < c → T (fits binary64 (at floats a i j))
+unfoldable pub verdicts : Run → List Verdict
+verdicts r = map verdict (r .entries)
+
+-- "a run is inside when all its entries are": those of p coefficients, and the contrast's where it has rows
+pub record Inside (p rows : ℕ) (r : Run) : Type 0 where
+  pub coefficient : (i : ℕ) → i < p → getD (r .entries) i noEntry .inside ≡ true
+  pub contrast : 0 < rows → getD (r .entries) 6 noEntry .inside ≡ true
+
+-- the second run is refused where the first is (a zero pivot), and all its verdicts are the first's
+pub record Survives (r r' : Run) : Type 0 where
+  pub refusal : r' .refused ≡ r .refused
+  pub same : verdicts r' ≡ verdicts r

@@ -1,0 +1,59 @@
+-- Document 01, demand 3: the input of a Kenward–Roger run, and the same input under another converter: sigma2 times 4^k, β and β_H times 2^k, row i of the contrast times 2^(m i), and
+-- all other input as it was.
+use Prim.Native.Nat.{ℕ, _≤_, _<_}
+use mathlib.Core.Path.{_≡_}
+use mathlib.Core.List.{List}
+use lib.Dec.{T}
+use lib.IntN.{ℤ, _+ℤ_}
+use lib.ListN.{getD}
+use lib.Ieee.{Float, nan, binary64, fits}
+use Rattle.arithmetic.specs.Scale.{scale}
+use Rattle.algebra.specs.Kind.{floats}
+use Rattle.algebra.specs.Product.{at}
+use Rattle.adjustment.specs.declared.Cutoffs.{Cutoffs}
+use Rattle.adjustment.specs.Adjusted.{Adjustment, matrixAt}
+use Rattle.contrast_basis.specs.Basis.{Rows}
+use Rattle.tests.specs.KenwardRoger.{Run, scaledBy, runOf}
+
+-- what a converter changes
+pub record Input : Type 0 where
+  pub sigma2 : Float
+  pub beta : List Float
+  pub betaH : List Float
+  pub contrast : Rows
+
+-- the run on it: Φ and the adjustment, both in residual units, do not see sigma2
+abbrev pub runOn : Cutoffs → ℕ → ℕ → ℕ → Rows → Adjustment → Input → Run
+runOn c p N rows phi a x = runOf c (scaledBy p N phi (x .sigma2) a) (x .beta) (x .betaH) rows (x .contrast)
+
+-- the same input, scaled exactly
+pub record Converted (k : ℤ) (m : ℕ → ℤ) (p rows : ℕ) (x x' : Input) : Type 0 where
+  pub sigma2 : x' .sigma2 ≡ scale (k +ℤ k) (x .sigma2)
+  pub beta : (i : ℕ) → i < p → getD (x' .beta) i nan ≡ scale k (getD (x .beta) i nan)
+  pub betaH : (i : ℕ) → i < p → getD (x' .betaH) i nan ≡ scale k (getD (x .betaH) i nan)
+  pub contrast : (i j : ℕ) → i < rows → j < p → at floats (x' .contrast) i j ≡ scale (m i) (at floats (x .contrast) i j)
+
+-- ---- what every record file gives
+-- p coefficients, N matrices P and rows of a contrast (0: none) within document 01's limits
+pub record Sizes (p N rows : ℕ) : Type 0 where
+  pub some : 1 ≤ p
+  pub coefficients : p ≤ 6
+  pub matrices : N ≤ 4
+  pub contrast : rows ≤ 6
+
+-- the cells of r rows and c columns are f64 numbers
+abbrev pub WrittenCells : ℕ → ℕ → Rows → Type 0
+WrittenCells r c a = (i j : ℕ) → i < r → j < c → T (fits binary64 (at floats a i j))
+
+-- so are the numbers of an input
+pub record Written (p rows : ℕ) (x : Input) : Type 0 where
+  pub sigma2 : T (fits binary64 (x .sigma2))
+  pub beta : (i : ℕ) → i < p → T (fits binary64 (getD (x .beta) i nan))
+  pub betaH : (i : ℕ) → i < p → T (fits binary64 (getD (x .betaH) i nan))
+  pub contrast : WrittenCells rows p (x .contrast)
+
+-- and those of Φ, which is m, and of the adjustment, in residual units
+pub record WrittenUnits (p N : ℕ) (m : Rows) (a : Adjustment) : Type 0 where
+  pub phi : WrittenCells p p m
+  pub phiA : WrittenCells p p (a .phiA)
+  pub ps : (r : ℕ) → r < N → WrittenCells p p (matrixAt (a .ps) r)
