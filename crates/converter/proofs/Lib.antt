@@ -4,3 +4,4 @@ pub mod MovingScaling
 pub mod MovingBasis
 pub mod MovingTest
 pub mod MovingRun
+pub mod MovingSeries

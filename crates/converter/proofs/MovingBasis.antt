@@ -1,6 +1,6 @@
 -- The contrast basis: a row's cells over their largest magnitude are the same bits for every power of two that the row is multiplied with, and so are the rank and the
 -- rows of the basis, where the divisions are marked inside. Each row has its own power.
-use Prim.Native.Nat.{ℕ, zero, suc, _+_, _*_, _≤_, _<_, min, max}
+use Prim.Native.Nat.{ℕ, zero, suc, _+_, _*_, _≤_, _<_}
 use native.Mathlib.Nat.{le-trans, min-le-left, zero-mul, mul-pos, zero-lt-suc}
 use native.Mathlib.Omega.{arith}
 use native.Mathlib.Decide.{decLt}
@@ -23,8 +23,7 @@ use Rattle.arithmetic.proofs.Tied.{Tied}
 use Rattle.arithmetic.proofs.ScaleLaws.{scale-zero}
 use Rattle.arithmetic.proofs.PlainLaws.{not-below, magnitude-zero, magnitude-scale, magnitude-fits}
 use Rattle.arithmetic.proofs.RangeTest.{test-of-zero}
-use Rattle.arithmetic.proofs.MarkLaws.{Bears, Moves, given-moves, div-value}
-use Rattle.algebra.specs.Fold.{fold}
+use Rattle.arithmetic.proofs.MarkLaws.{Bears, Moves, given-moves}
 use Rattle.algebra.specs.Kind.{floats, marks}
 use Rattle.algebra.specs.Product.{at}
 use Rattle.algebra.proofs.FoldLaws.{fold-both, fold-steps}
@@ -35,7 +34,7 @@ use Rattle.contrast_basis.specs.Order.{indexAt}
 use Rattle.contrast_basis.specs.Basis.{Rows, Basis, largest, dividedCell, divided, sweepsTo, norms, singular, rankOf, basisRows, contrastBasis}
 use Rattle.contrast_basis.proofs.Rank.{rank-most}
 use Rattle.converter.specs.Converted.{WrittenCells}
-use Rattle.converter.proofs.MovingSmall.{tied-still, tied-nil, allMarks-cells, values-agree}
+use Rattle.converter.proofs.MovingSmall.{tied-nil, allMarks-cells, values-agree}
 
 -- ---- the largest magnitude
 magnitude-tied : (u : ℤ) (x x' : Float) → Tied u x x' → Tied u (magnitude x) (magnitude x')

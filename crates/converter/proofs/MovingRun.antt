@@ -4,40 +4,38 @@ use native.Mathlib.Nat.{le-trans, min-le-left}
 use native.Mathlib.Omega.{arith}
 use native.Mathlib.Decide.{decLt}
 use mathlib.Core.Path.{_≡_, refl, sym, ap, _∙_, subst}
-use mathlib.Core.Bool.{Bool, true, false, cond, _||_, true≢false}
+use mathlib.Core.Bool.{Bool, true, false, cond}
 use mathlib.Core.List.{List, [], _∷_, map}
 use lib.Dec.{T, eqb, lit≤}
 use lib.IntN.{ℤ, pos, negsuc, negℤ, natAbs, _+ℤ_}
 use lib.ListN.{getD, set, length, replicate, length-set, length-replicate, getD-replicate}
 use lib.Seq.{getD-set-same, getD-set-other}
 use lib.Ieee.{Float, nan, binary64, fits}
-use lib.Ieee.Fits.{add-fits, mul-fits}
-use borrow.Author.Tests.{eqb-true, eqb-false}
+use borrow.Author.Tests.{eqb-false}
 use Rattle.arithmetic.specs.declared.Marked.{Marked}
 use Rattle.arithmetic.specs.Numbers.{plusZero, one}
 use Rattle.arithmetic.specs.Marks.{given}
 use Rattle.arithmetic.proofs.Tied.{Tied}
 use Rattle.arithmetic.proofs.PlainLaws.{of-eq}
 use Rattle.arithmetic.proofs.MarkLaws.{Bears, inside-bears}
-use Rattle.algebra.specs.Fold.{fold}
 use Rattle.algebra.specs.Table.{blank}
-use Rattle.algebra.specs.Kind.{floats, marks}
+use Rattle.algebra.specs.Kind.{floats}
 use Rattle.algebra.specs.Product.{at}
 use Rattle.algebra.proofs.FoldLaws.{fold-both, fold-steps, span-at}
 use Rattle.algebra.proofs.TableLaws.{table-at}
-use Rattle.algebra.proofs.MovingCells.{BearsCells, MovesCells, cond-both}
+use Rattle.algebra.proofs.MovingCells.{MovesCells, cond-both}
 use Rattle.adjustment.specs.declared.Cutoffs.{Cutoffs}
 use Rattle.adjustment.specs.Adjusted.{Adjustment, matrixAt, scaledUp, scaledDown, outputNotFinite}
 use Rattle.answers.specs.declared.Entry.{Entry}
 use Rattle.contrast_basis.specs.Basis.{Rows, Basis, contrastBasis}
 use Rattle.contrast_basis.proofs.Rank.{rank-most}
-use Rattle.tests.specs.KenwardRoger.{MarkedRows, Scaled, Tested, Run, scaledPs, scaledBy, scaledOf, basisOf, testSeen, tested, unitRow, coefficientTest, contrastTest, noEntry, withTest, coefficientsTo, runOf}
+use Rattle.tests.specs.KenwardRoger.{Scaled, Tested, Run, scaledPs, scaledBy, basisOf, testSeen, tested, unitRow, coefficientTest, contrastTest, noEntry, withTest, coefficientsTo, runOf}
 use Rattle.converter.specs.Verdict.{Verdict, verdict, verdicts, Inside, Survives}
 use Rattle.converter.specs.Converted.{Input, runOn, Converted, Sizes, WrittenCells, Written, WrittenUnits}
 use Rattle.converter.proofs.MovingSmall.{tied-still, tied-nil}
 use Rattle.converter.proofs.MovingScaling.{scaledUp-moves, scaledDown-moves, output-agrees}
 use Rattle.converter.proofs.MovingBasis.{SameBasis, basis-agrees, basis-written}
-use Rattle.converter.proofs.MovingTest.{ScalingBears, TestBears, test-bears, SameVerdict, test-survives}
+use Rattle.converter.proofs.MovingTest.{ScalingBears, test-bears, SameVerdict, test-survives}
 
 -- ---- the Ps
 ps-at : (p N : ℕ) (ps : List Rows) (x : Float) → N ≤ 4 → (r : ℕ) → r < N → getD (scaledPs p N ps x) r [] ≡ scaledDown p (getD ps r []) x

@@ -1,12 +1,10 @@
 -- The scaling by sigma2: with sigma2 times 2 ^ u, Φ and Φ_A move by u and each P by -u; and the late refusal 4 is what it was.
 use Prim.Native.Nat.{ℕ, zero, suc, _≤_, _<_}
-use mathlib.Core.Path.{_≡_, refl, ap, _∙_}
+use mathlib.Core.Path.{_≡_, refl, ap}
 use mathlib.Core.Bool.{Bool, false, not, _||_}
-use mathlib.Core.List.{List, []}
-use lib.Dec.{T}
-use lib.IntN.{ℤ, pos, negsuc, negℤ, natAbs, _+ℤ_, +ℤ-idl}
-use lib.ListN.{getD}
-use lib.Ieee.{Float, binary64, fits}
+use mathlib.Core.List.{List}
+use lib.IntN.{ℤ, pos, negsuc, negℤ, natAbs, +ℤ-idl}
+use lib.Ieee.{Float}
 use Rattle.arithmetic.specs.declared.Marked.{Marked}
 use Rattle.arithmetic.specs.Numbers.{isFinite}
 use Rattle.arithmetic.specs.Marks.{given}

@@ -12,7 +12,7 @@ use Rattle.arithmetic.specs.Numbers.{plusZero}
 use Rattle.arithmetic.specs.Marks.{given, also}
 use Rattle.arithmetic.proofs.Tied.{Tied}
 use Rattle.arithmetic.proofs.ScaleLaws.{scale-zero}
-use Rattle.arithmetic.proofs.MarkLaws.{Bears, Moves, given-moves, also-bears}
+use Rattle.arithmetic.proofs.MarkLaws.{Bears, given-moves, also-bears}
 use Rattle.algebra.specs.Fold.{fold}
 use Rattle.algebra.specs.Kind.{floats, marks}
 use Rattle.algebra.specs.Product.{at, product, transpose}

@@ -1,26 +1,24 @@
 -- One test: with Φ and Φ_A times 4 ^ k, each P over 4 ^ k, and β and β_H times 2 ^ k, a test that is marked inside is refused where it was, and its verdict is what it was.
 -- In multiples of k: A moves by 2, A⁻¹L by -2, Θ by -2, ΘΦ and each u_i by 0, D and LD by 1, v by 2, Y by -1, Wald by 0.
-use Prim.Native.Nat.{ℕ, _+_, _≤_, _<_}
-use native.Mathlib.Nat.{le-trans}
+use Prim.Native.Nat.{ℕ, _≤_, _<_}
 use native.Mathlib.Omega.{arith}
 use mathlib.Core.Path.{_≡_, refl, sym, ap, _∙_, subst}
 use mathlib.Core.Bool.{Bool, true, false, cond, _&&_, _||_, true≢false}
 use mathlib.Core.List.{List, []}
-use lib.Dec.{T, eqb}
+use lib.Dec.{eqb}
 use lib.IntN.{ℤ, pos, negℤ, natAbs, _+ℤ_, _-ℤ_, +ℤ-idl, +ℤ-assoc, +ℤ-invr, +ℤ-invl, negℤ-+ℤ}
 use lib.ListN.{getD, set, replicate, length-replicate}
-use lib.Ieee.{Float, nan, lt}
+use lib.Ieee.{Float, nan}
 use borrow.Author.Tests.{eqb-true}
 use Rattle.arithmetic.specs.declared.Marked.{Marked}
-use Rattle.arithmetic.specs.Numbers.{plusZero, isFinite}
-use Rattle.arithmetic.specs.Marks.{given, markedSub, markedMul, markedDiv, markedRoot, also}
+use Rattle.arithmetic.specs.Numbers.{plusZero}
+use Rattle.arithmetic.specs.Marks.{given, markedSub, markedMul, markedDiv, markedRoot}
 use Rattle.arithmetic.proofs.Tied.{Tied}
 use Rattle.arithmetic.proofs.MarkLaws.{Bears, Moves, given-moves, also-bears, sub-moves, mul-moves, root-moves}
 use Rattle.algebra.specs.Fold.{fold}
-use Rattle.algebra.specs.Table.{table, blank}
+use Rattle.algebra.specs.Table.{blank}
 use Rattle.algebra.specs.Kind.{marks}
 use Rattle.algebra.specs.Product.{at, product, transpose}
-use Rattle.algebra.specs.Elimination.{solution}
 use Rattle.algebra.specs.Elimination as elimination
 use Rattle.algebra.proofs.FoldLaws.{fold-ext, span-at}
 use Rattle.algebra.proofs.MovingCells.{BearsCells, MovesCells, table-moves, moves-by, nil-moves, still-times, alike-over, cond-moves, still-value, less-agrees, half-small}
@@ -32,9 +30,8 @@ use Rattle.answers.specs.declared.Number.{Number}
 use Rattle.answers.specs.declared.Number.the-variants.{None}
 use Rattle.answers.specs.Answer.{numberOf}
 use Rattle.contrast_basis.specs.Basis.{Rows, Basis}
-use Rattle.moments.specs.Moments.{a1Of, a2Of, dfOf, scalingOf, fOf}
 use Rattle.tests.specs.KenwardRoger.{MarkedRows, Scaled, Tested, scalingSeen, difference, thetaOf, uOf, uStack, uValues, uSeen, waldOne, waldOneGiven, waldMany, scaledOf, basisOf, aRows, xRows, thetaPhi, us, ldRows, vRows, yRows, waldMarked, waldNumber, testSeen, a1, a2, tested}
-use Rattle.converter.specs.Verdict.{Verdict, verdict}
+use Rattle.converter.specs.Verdict.{verdict}
 use Rattle.converter.specs.Converted.{WrittenCells}
 use Rattle.converter.proofs.MovingSmall.{tied-still, tied-nil, cells-by, allMarks-first, allMarks-cells, stack-first, stack-cells, given-cells, sandwich-moves, values-agree}
 use Rattle.converter.proofs.MovingScaling.{abs-neg, finite-agrees}

@@ -11,9 +11,11 @@ use Rattle.arithmetic.specs.Scale.{scale}
 use Rattle.algebra.specs.Kind.{floats}
 use Rattle.algebra.specs.Product.{at}
 use Rattle.adjustment.specs.declared.Cutoffs.{Cutoffs}
-use Rattle.adjustment.specs.Adjusted.{Adjustment, matrixAt}
+use Rattle.adjustment.specs.Covariance.{Design, matrices}
+use Rattle.adjustment.specs.Adjusted.{Adjustment, matrixAt, adjustment, adjustmentNumber}
 use Rattle.contrast_basis.specs.Basis.{Rows}
 use Rattle.tests.specs.KenwardRoger.{Run, scaledBy, runOf}
+use Rattle.converter.specs.Verdict.{Survives}
 
 -- what a converter changes
 pub record Input : Type 0 where
@@ -57,3 +59,8 @@ pub record WrittenUnits (p N : ℕ) (m : Rows) (a : Adjustment) : Type 0 where
   pub phi : WrittenCells p p m
   pub phiA : WrittenCells p p (a .phiA)
   pub ps : (r : ℕ) → r < N → WrittenCells p p (matrixAt (a .ps) r)
+
+-- ---- what is promised of a series: its adjustment is refused with the number that it had (0: not refused), and its run survives
+pub record SeriesSurvives (c : Cutoffs) (d : Design) (m : Rows) (rows : ℕ) (x x' : Input) : Type 0 where
+  pub number : adjustmentNumber c d m (x' .sigma2) ≡ adjustmentNumber c d m (x .sigma2)
+  pub run : Survives (runOn c (d .p) (matrices d) rows m (adjustment c d m) x) (runOn c (d .p) (matrices d) rows m (adjustment c d m) x')
