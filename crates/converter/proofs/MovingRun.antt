@@ -137,7 +137,7 @@ module _ (c : Cutoffs) (s : Scaled) (beta : List Float) where
           rw e (getD-set-same (r .entries) j (coefficientTest c s beta j .entry) noEntry (omega (arith, q .size)))
 
   module _ (betaH : List Float) (rows : ℕ) (l : Rows) (hp : s .p ≤ 6) where
-    run-coefficient : (i : ℕ) → i < s .p → getD (runOf c s beta betaH rows l .entries) i noEntry ≡ coefficientTest c s beta i .entry
+    pub run-coefficient : (i : ℕ) → i < s .p → getD (runOf c s beta betaH rows l .entries) i noEntry ≡ coefficientTest c s beta i .entry
     unfolding runOf withTest
     run-coefficient i h = go (eqb rows 0)
       where
@@ -151,7 +151,7 @@ module _ (c : Cutoffs) (s : Scaled) (beta : List Float) where
         go true = filled (s .p) (omega arith) .entry i h
         go false = getD-set-other (r .entries) 6 i e noEntry (λ q. omega arith) ∙ filled (s .p) (omega arith) .entry i h
 
-    run-contrast : eqb rows 0 ≡ false → getD (runOf c s beta betaH rows l .entries) 6 noEntry ≡ contrastTest c s beta betaH rows l .entry
+    pub run-contrast : eqb rows 0 ≡ false → getD (runOf c s beta betaH rows l .entries) 6 noEntry ≡ contrastTest c s beta betaH rows l .entry
     unfolding runOf withTest
     run-contrast h =
         let r : Run = coefficientsTo (s .p) c s beta in
