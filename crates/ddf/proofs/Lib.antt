@@ -1,0 +1,2 @@
+-- The laws of the Satterthwaite test.
+pub mod Bench
