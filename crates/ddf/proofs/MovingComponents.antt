@@ -40,8 +40,10 @@ module _ {t : ℕ} where
       → MovesStack t u n r c (span 0 n f (replicate 4 (blank (given plusZero) 6 6))) (span 0 n f' (replicate 4 (blank (given plusZero) 6 6)))
   stack-moves u n r c h f f' p = record {
     matrix = λ i l.
-        rw (span-at 0 n f (replicate 4 (blank (given plusZero) 6 6)) i [] (omega arith) l (omega (arith, length-replicate 4 (blank (given plusZero) 6 6))),
-        span-at 0 n f' (replicate 4 (blank (given plusZero) 6 6)) i [] (omega arith) l (omega (arith, length-replicate 4 (blank (given plusZero) 6 6)))) (p i l);
+        rw (
+          span-at 0 n f (replicate 4 (blank (given plusZero) 6 6)) i [] (omega arith) l (omega (arith, length-replicate 4 (blank (given plusZero) 6 6))),
+          span-at 0 n f' (replicate 4 (blank (given plusZero) 6 6)) i [] (omega arith) l (omega (arith, length-replicate 4 (blank (given plusZero) 6 6))),
+        ) (p i l);
   }
 
   -- ---- LβD, V and the Js

@@ -30,8 +30,10 @@ module _ (n : ℕ) (u : ℤ) (xs xs' : List Float) (p : (i : ℕ) → i < n → 
   pub comesBefore-agrees : (j i : ℕ) → j < n → i < n → comesBefore xs' j i ≡ comesBefore xs j i
   unfolding comesBefore
   comesBefore-agrees j i h l =
-      rw (less-agrees u (getD xs i nan) (getD xs j nan) (getD xs' i nan) (getD xs' j nan) (p i l) (p j h),
-      equal-agrees u (getD xs i nan) (getD xs j nan) (getD xs' i nan) (getD xs' j nan) (p i l) (p j h))
+      rw (
+        less-agrees u (getD xs i nan) (getD xs j nan) (getD xs' i nan) (getD xs' j nan) (p i l) (p j h),
+        equal-agrees u (getD xs i nan) (getD xs j nan) (getD xs' i nan) (getD xs' j nan) (p i l) (p j h),
+      )
 
   pub placeIn-agrees : (i : ℕ) → i < n → placeIn n xs' i ≡ placeIn n xs i
   unfolding placeIn

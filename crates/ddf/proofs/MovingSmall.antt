@@ -71,7 +71,7 @@ module _ {t : ℕ} where
   unfolding sandwich
   sandwich-moves R C q p qr qc pr pc u n l m l' m' f g =
       let a : MovesCells t (pos 0 +ℤ u) q p (product marks R C q p p l m) (product marks R C q p p l' m') =
-          product-moves R C q p qr pc (pos 0) u (rw +ℤ-idl n) p l m l' m' f g in
+      product-moves R C q p qr pc (pos 0) u (rw +ℤ-idl n) p l m l' m' f g in
       let b : MovesCells t (pos 0) p q (transpose marks R C q p l) (transpose marks R C q p l') = transpose-moves R C p q pr qc (pos 0) l l' f in
       cells-by (+ℤ-idr u)
       (product-moves R C q q qr qc u (pos 0) (rw +ℤ-idr n) p (product marks R C q p p l m) (transpose marks R C q p l) (product marks R C q p p l' m')
