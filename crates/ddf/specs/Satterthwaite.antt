@@ -5,7 +5,7 @@ use mathlib.Core.Bool.{Bool, true, false, not, cond, _&&_, _||_}
 use mathlib.Core.List.{List, []}
 use lib.Dec.{eqb}
 use lib.ListN.{getD, replicate}
-use lib.Ieee.{Float, nan, lt}
+use lib.Ieee.{Float, nan, lt, isNan}
 use Rattle.arithmetic.specs.declared.Marked.{Marked}
 use Rattle.arithmetic.specs.Numbers.{plusZero, ofCount}
 use Rattle.arithmetic.specs.Marks.{given, markedMul, markedDiv, markedRoot, also}
@@ -19,7 +19,7 @@ use Rattle.adjustment.specs.declared.Cutoffs.{Cutoffs}
 use Rattle.answers.specs.declared.Number.{Number}
 use Rattle.answers.specs.declared.Number.the-variants.{Is, None}
 use Rattle.answers.specs.declared.Entry.{Entry}
-use Rattle.answers.specs.Answer.{numberOf, isGiven, floatOf}
+use Rattle.answers.specs.Answer.{numberOf, floatOf}
 use Rattle.contrast_basis.specs.Order.{indexAt}
 use Rattle.ddf.specs.VarianceDf.{entryAt, isPositive, varianceDf, gradientSeen}
 use Rattle.ddf.specs.PooledDf.{tolerance, getFstatDdf}
@@ -98,7 +98,7 @@ componentDfs c n q a es x jx = row plusZero 6 q (λ k. floatOf (componentDf c n 
 
 -- "Any none: df none. Otherwise `get_fstat_ddf`, tolerance 1e-8"
 unfoldable pub anyNone : ℕ → List Float → Bool
-anyNone q nu = fold 0 q (λ k s. s || not (isGiven (numberOf (getD nu k nan)))) false
+anyNone q nu = fold 0 q (λ k s. s || isNan (getD nu k nan)) false
 
 unfoldable pub severalDf : ℕ → List Float → Number
 severalDf q nu = cond (anyNone q nu) None (numberOf (getFstatDdf q nu tolerance))
