@@ -112,7 +112,7 @@ module _ {t : ℕ} where
         fold-ext 0 q (λ i s. s || not (isPositive (getD (eigenvalues q d') i nan))) (λ i s. s || not (isPositive (getD (eigenvalues q d) i nan))) false
         (λ i h l b. rw (positive-agrees w (getD (eigenvalues q d) i nan) (getD (eigenvalues q d') i nan) (eigenvalues-tied i l)))
 
-    pub variancesOf-moves : (k : ℕ) → k < q → Moves t w (entryAt (variancesOf q d) k) (entryAt (variancesOf q d') k)
+    pub variancesOf-moves : (k : ℕ) → k < q → Moves t w (entryAt (variancesOf q (eigenvalues q d) d) k) (entryAt (variancesOf q (eigenvalues q d') d') k)
     unfolding variancesOf
     variancesOf-moves =
         row-moves 6 q hq w (λ k. at marks d (indexAt q (eigenvalues q d) k) (indexAt q (eigenvalues q d) k))
@@ -121,14 +121,14 @@ module _ {t : ℕ} where
         let i : indexAt q (eigenvalues q d) k < q = index-below q (eigenvalues q d) k o in
         rw (place-agrees k) (pd .cell (indexAt q (eigenvalues q d) k) (indexAt q (eigenvalues q d) k) i i))
 
-    pub variancesOf-bear : (k : ℕ) → k < q → Bears t (entryAt (variancesOf q d) k)
+    pub variancesOf-bear : (k : ℕ) → k < q → Bears t (entryAt (variancesOf q (eigenvalues q d) d) k)
     unfolding variancesOf
     variancesOf-bear k l =
         let i : indexAt q (eigenvalues q d) k < q = index-below q (eigenvalues q d) k o in
         rw (row-at (given plusZero) 6 q (λ k. at marks d (indexAt q (eigenvalues q d) k) (indexAt q (eigenvalues q d) k)) k (marks .void) l hq)
         (bd .cell (indexAt q (eigenvalues q d) k) (indexAt q (eigenvalues q d) k) i i)
 
-    pub directionsOf-moves : (v v' : MarkedRows) → MovesCells t (pos 0) q q v v' → MovesCells t (pos 0) q q (directionsOf q d v) (directionsOf q d' v')
+    pub directionsOf-moves : (v v' : MarkedRows) → MovesCells t (pos 0) q q v v' → MovesCells t (pos 0) q q (directionsOf q (eigenvalues q d) v) (directionsOf q (eigenvalues q d') v')
     unfolding directionsOf
     directionsOf-moves v v' f =
         table-moves (pos 0) 6 6 q q (λ r k. at marks v r (indexAt q (eigenvalues q d) k)) (λ r k. at marks v' r (indexAt q (eigenvalues q d') k)) hq hq

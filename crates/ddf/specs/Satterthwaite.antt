@@ -63,12 +63,12 @@ eigenvalues q d = row plusZero 6 q (λ i. at marks d i i .value)
 unfoldable pub notPositive : ℕ → List Float → Bool
 notPositive q es = fold 0 q (λ i s. s || not (isPositive (getD es i nan))) false
 
--- the eigenvalues in falling order, and the eigenvectors as columns in the same order
-unfoldable pub variancesOf : ℕ → MarkedRows → List Marked
-variancesOf q d = row (given plusZero) 6 q (λ k. let i : ℕ = indexAt q (eigenvalues q d) k in at marks d i i)
+-- with the eigenvalues es: the marked ones in falling order, and the eigenvectors as columns in the same order
+unfoldable pub variancesOf : ℕ → List Float → MarkedRows → List Marked
+variancesOf q es d = row (given plusZero) 6 q (λ k. at marks d (indexAt q es k) (indexAt q es k))
 
-unfoldable pub directionsOf : ℕ → MarkedRows → MarkedRows → MarkedRows
-directionsOf q d v = table (given plusZero) 6 6 q q (λ r k. at marks v r (indexAt q (eigenvalues q d) k))
+unfoldable pub directionsOf : ℕ → List Float → MarkedRows → MarkedRows
+directionsOf q es v = table (given plusZero) 6 6 q q (λ r k. at marks v r (indexAt q es k))
 
 -- "F = sum((x·LβD)²/eigenvalue)/q, x the eigenvector": x·LβD for each x, as a column, and F
 unfoldable pub projected : ℕ → MarkedRows → MarkedRows → MarkedRows
@@ -147,10 +147,10 @@ module _ (c : Cutoffs) (s : Inputs) where
   turned = jacobi marks (c .rotation) 6 6 (s .q) vRows
 
   unfoldable pub variances : List Marked
-  variances = variancesOf (s .q) (turned .a)
+  variances = variancesOf (s .q) (eigenvalues (s .q) (turned .a)) (turned .a)
 
   unfoldable pub directions : MarkedRows
-  directions = directionsOf (s .q) (turned .a) (turned .v)
+  directions = directionsOf (s .q) (eigenvalues (s .q) (turned .a)) (turned .v)
 
   unfoldable pub jxStack : List MarkedRows
   jxStack = turnedAll (s .n) (s .q) jStack directions
