@@ -9,6 +9,7 @@ use crate::print::{bits_report, pulltest, satterthwaite_line};
 use crate::random::{kr_case, power, satt_case, Random, KR_FAMILIES, SATT_FAMILIES};
 use crate::reader::{self, Record, Series};
 use crate::{ddf, kr_vcov_adj, lme_run};
+use ::reader::vectors::hex;
 use listed_algebra::Matrix;
 use ndarray::{Array1, Array2};
 
@@ -255,7 +256,7 @@ fn shifted(
         return 0;
     }
     let other = output(&converted(random, &bytes, satt));
-    assert_eq!(verdicts(&text), verdicts(&other), "{family} {}", crate::make::hex(&bytes));
+    assert_eq!(verdicts(&text), verdicts(&other), "{family} {}", hex(&bytes));
     1
 }
 

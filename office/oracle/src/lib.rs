@@ -1,6 +1,7 @@
 //! The Rust of lme-rs as the judge of the port.
 //!
-//! - `reader`: record files, from document 01 and the project's decisions.
+//! - `reader`: record files, from document 01 and the project's decisions (a
+//!   crate of its own).
 //! - `lme_run`: F, df and rank by lme-rs's own four files, unchanged.
 //! - `marked`: a run written from document 01, which also has the mark.
 //! - `calls`: the two calls on bytes, which hold the two runs together.
@@ -11,6 +12,8 @@ include!(concat!(env!("OUT_DIR"), "/lme_rs.rs"));
 
 mod lme_items;
 
+pub use ::reader;
+
 pub mod calls;
 pub mod known;
 pub mod lme_run;
@@ -18,7 +21,6 @@ pub mod make;
 pub mod marked;
 pub mod print;
 pub mod random;
-pub mod reader;
 pub mod trace;
 
 #[cfg(test)]

@@ -4,14 +4,11 @@ use crate::known::{self, Known};
 use crate::print::{pulltest, satterthwaite_line};
 use crate::random::{kr_case, satt_case, Random, KR_FAMILIES, SATT_FAMILIES};
 use crate::trace;
+use ::reader::vectors::{hex, unhex};
 use std::collections::BTreeMap;
 use std::fmt::Write as _;
 use std::path::Path;
 use std::{fs, io};
-
-pub fn hex(bytes: &[u8]) -> String {
-    bytes.iter().map(|b| format!("{b:02x}")).collect()
-}
 
 /// One line per case: the file in hexadecimal (`-` for an empty one), a blank,
 /// the expected output with `|` for each newline.
@@ -131,16 +128,6 @@ pub fn make_vectors(folder: &Path, seed: u64, count: usize) -> io::Result<()> {
          counts the cases of the family in which it occurred.\n\n"
     );
     fs::write(folder.join("SUMMARY.md"), head + &kr + &satt)
-}
-
-fn unhex(text: &str) -> Option<Vec<u8>> {
-    if text == "-" {
-        return Some(Vec::new());
-    }
-    if !text.is_ascii() || text.len() % 2 != 0 {
-        return None;
-    }
-    (0..text.len()).step_by(2).map(|i| u8::from_str_radix(&text[i..i + 2], 16).ok()).collect()
 }
 
 /// Checks one line of a file of vectors.

@@ -2,9 +2,18 @@
 //!
 //! Every reason of 2 comes before 3, 3 before 4, and so on; within 2 the order
 //! does not show. So the reading goes: records, cells, sizes, then the values.
+//!
+//! It was written from document 01 and the project's decisions, and shares
+//! nothing with the panel's reader, so that the one can be held to the other.
+//! Beside it: random numbers, random files (`tries`) and the stored vectors, for the
+//! tests that need no sources of lme-rs.
 
 use listed_algebra::Matrix;
 use std::collections::BTreeMap;
+
+pub mod random;
+pub mod tries;
+pub mod vectors;
 
 pub type Refusal = u32;
 
