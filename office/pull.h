@@ -1,0 +1,83 @@
+/* pull.h: the C functions of the pull stand's panel.
+ *
+ * Link with libpanel.a (x86-64 Linux). The functions allocate nothing, keep
+ * nothing between calls, and may be called from several threads at once on
+ * separate answer bytes. They end, without a fault, on every content of the
+ * bytes lent to them.
+ */
+#ifndef PULL_H
+#define PULL_H
+
+#include <stddef.h>
+#include <stdint.h>
+
+#ifdef __cplusplus
+extern "C" {
+#endif
+
+/* The stated lengths of the answer bytes. */
+#define PULL_ENTRY_BYTES 24u
+#define PULL_KENWARD_ROGER_BYTES 168u /* seven entries */
+
+/* What a call returns: 0, or the number of the refusal. Where several apply
+ * the lowest is returned, but for the late reason of PULL_NOT_FINITE, which
+ * comes after 9 and 10 of the covariance adjustment. */
+enum pull_number {
+    PULL_ACCEPTED = 0,
+    PULL_LENGTH = 1,        /* answer_length is not the stated one */
+    PULL_RECORDS = 2,       /* records_length not a multiple of 16, bad kind, nonzero unused field,
+                               index past a limit, cell twice, missing or beyond the sizes */
+    PULL_SIZE = 3,          /* a size outside its limits: a block's k not 1 or 2, m = 0, more than
+                               three block parameters */
+    PULL_NOT_FINITE = 4,    /* an input not finite; or some number of the adjustment's output */
+    PULL_SIGMA2 = 5,        /* sigma2 <= 0 */
+    PULL_WEIGHT = 6,        /* a weight <= 0 */
+    PULL_BLOCKS = 7,        /* sum of m*k is not the number of Z columns, or the number of thetas is
+                               not the sum of k(k+1)/2 */
+    PULL_ZERO_CONTRAST = 8, /* Kenward-Roger: the contrast is all zero */
+    PULL_CHOLESKY = 9,      /* a Cholesky diagonal not > 0 */
+    PULL_PIVOT = 10,        /* a zero pivot in an elimination */
+    PULL_EIGENVALUE = 11    /* Satterthwaite: a covariance of several rows that has an eigenvalue
+                               not finite or <= 0 */
+};
+
+/* One series by Kenward-Roger: each coefficient alone, then the contrast if
+ * the series has one.
+ *
+ * records         the series: records of 16 bytes, in any order. Byte 0 kind,
+ *                 1 row, 2 column, 3 zero, 4-7 count (little-endian), 8-15 the
+ *                 bits of an f64 (little-endian). Read, never written.
+ * records_length  the number of bytes at records.
+ * answer          the answer bytes. They may not overlap the records.
+ * answer_length   the number of bytes at answer: PULL_KENWARD_ROGER_BYTES.
+ *
+ * Both pointers point to at least as many bytes as their length says, and are
+ * not NULL even where the length is 0. No alignment is asked.
+ *
+ * Returns 0, and then all 168 answer bytes are written; or the number of the
+ * refusal (1 to 10), and then every answer byte keeps its contents.
+ *
+ * The answer has seven entries of 24 bytes: entries 0 to 5 are the
+ * coefficients, entry 6 is the contrast. In an entry:
+ *
+ *   bytes 0-7    the bits of F, little-endian; 0 where F is none
+ *   bytes 8-15   the bits of df, little-endian; 0 where df is none
+ *   byte  16     rank, 1 to 6
+ *   byte  17     1 where F is given, 0 where it is none
+ *   byte  18     1 where df is given, 0 where it is none
+ *   byte  19     1 inside, 0 outside
+ *   bytes 20-23  zero
+ *
+ * An entry with no coefficient, and entry 6 of a series without a contrast,
+ * is 24 zero bytes; so a rank of 0 tells an unused entry.
+ *
+ * The Satterthwaite call comes in a later delivery. It will fill one such
+ * entry, PULL_ENTRY_BYTES. */
+uint32_t pull_kenward_roger(const uint8_t *records, size_t records_length,
+                            uint8_t *answer, size_t answer_length);
+
+#ifdef __cplusplus
+}
+#endif
+
+#endif

@@ -1,0 +1,25 @@
+//! Document 01's example of a series, as a record file.
+
+/// One record of 16 bytes.
+pub fn record(kind: u8, row: u8, column: u8, count: u32, value: f64) -> [u8; 16] {
+    let mut out = [0; 16];
+    // Byte 3 is zero.
+    (out[0], out[1], out[2]) = (kind, row, column);
+    out[4..8].copy_from_slice(&count.to_le_bytes());
+    out[8..].copy_from_slice(&value.to_bits().to_le_bytes());
+    out
+}
+
+/// Two specimens, one coefficient, no random columns: X 1,1, Φ 0.5, sigma2 8,
+/// β 6, contrast 1. Each test has F 9 with 1 degree of freedom.
+pub fn records() -> Vec<u8> {
+    [
+        record(1, 0, 0, 0, 1.0), // X
+        record(1, 1, 0, 0, 1.0),
+        record(6, 0, 0, 0, 0.5), // Φ
+        record(7, 0, 0, 0, 8.0), // sigma2
+        record(8, 0, 0, 0, 6.0), // β
+        record(9, 0, 0, 0, 1.0), // contrast
+    ]
+    .concat()
+}

@@ -1,0 +1,109 @@
+//! Why a series was refused.
+
+use std::fmt;
+
+/// The reason for which a call gave no answer. Where several hold it is the
+/// one with the lowest number; only the late reason of [`Refusal::NotFinite`]
+/// comes after [`Refusal::Cholesky`] and [`Refusal::Pivot`] of the adjustment.
+#[derive(Debug, Clone, Copy, PartialEq, Eq, Hash)]
+#[non_exhaustive]
+pub enum Refusal {
+    /// 1: the answer bytes lent have another length than the stated one.
+    Length,
+    /// 2: the file's length is not a multiple of 16, a bad kind, a nonzero
+    /// unused field, an index past a limit, a cell twice, missing or beyond
+    /// the sizes.
+    Records,
+    /// 3: a size outside its limits.
+    Size,
+    /// 4: an input, or a number of the adjustment's output, is not finite.
+    NotFinite,
+    /// 5: sigma2 is not above zero.
+    Sigma2,
+    /// 6: a weight is not above zero.
+    Weight,
+    /// 7: the blocks do not fit the random columns or the thetas.
+    Blocks,
+    /// 8: the contrast is all zero.
+    ZeroContrast,
+    /// 9: the covariance of the specimens is not positive definite.
+    Cholesky,
+    /// 10: an elimination met a zero pivot.
+    Pivot,
+    /// 11: Satterthwaite: the covariance of several rows has an eigenvalue
+    /// that is not finite or not above zero.
+    Eigenvalue,
+    /// A number that this library has no name for: the panel's library is of
+    /// a later delivery.
+    Unlisted(u32),
+}
+
+use Refusal::*;
+
+/// In the order of their numbers, from 1.
+const LISTED: [Refusal; 11] = [
+    Length,
+    Records,
+    Size,
+    NotFinite,
+    Sigma2,
+    Weight,
+    Blocks,
+    ZeroContrast,
+    Cholesky,
+    Pivot,
+    Eigenvalue,
+];
+
+impl Refusal {
+    /// The refusal of a number that a call returned. 0 is none of them.
+    pub(crate) fn from_number(number: u32) -> Refusal {
+        let place = (number as usize).wrapping_sub(1);
+        LISTED.get(place).copied().unwrap_or(Unlisted(number))
+    }
+
+    /// The number that the stand's panel shows.
+    pub fn number(self) -> u32 {
+        match self {
+            Unlisted(number) => number,
+            listed => 1 + LISTED.iter().position(|&r| r == listed).expect("it is listed") as u32,
+        }
+    }
+}
+
+impl fmt::Display for Refusal {
+    fn fmt(&self, out: &mut fmt::Formatter<'_>) -> fmt::Result {
+        let text = match self {
+            Length => "the answer bytes have another length than the stated one",
+            Records => "the record file is damaged or incomplete",
+            Size => "a size is outside its limits",
+            NotFinite => "an input, or a number of the adjustment, is not finite",
+            Sigma2 => "sigma2 is not above zero",
+            Weight => "a weight is not above zero",
+            Blocks => "the blocks do not fit the random columns or the thetas",
+            ZeroContrast => "the contrast is all zero",
+            Cholesky => "the covariance of the specimens is not positive definite",
+            Pivot => "an elimination met a zero pivot",
+            Eigenvalue => "the contrast's covariance is not positive definite",
+            Unlisted(number) => return write!(out, "refused with number {number}"),
+        };
+        out.write_str(text)
+    }
+}
+
+impl std::error::Error for Refusal {}
+
+#[cfg(test)]
+mod tests {
+    use super::*;
+
+    #[test]
+    fn numbers_there_and_back() {
+        for number in 1..=20 {
+            assert_eq!(Refusal::from_number(number).number(), number);
+        }
+        assert_eq!(Refusal::from_number(1), Length);
+        assert_eq!(Refusal::from_number(11), Eigenvalue);
+        assert_eq!(Refusal::from_number(12), Unlisted(12));
+    }
+}

@@ -1,0 +1,68 @@
+//! The safe functions: document 01's example, and refusals as the enum.
+
+use pull::{example, kenward_roger, kenward_roger_fill, Refusal, Test};
+
+#[test]
+fn the_example() {
+    let nine = Test { f: Some(9.0), df: Some(1.0), rank: 1, inside: true };
+    let run = kenward_roger(&example::records()).expect("it is accepted");
+    assert_eq!((run.coefficients.as_slice(), run.contrast), ([nine].as_slice(), Some(nine)));
+    assert!(run.inside());
+}
+
+#[test]
+fn without_a_contrast() {
+    let file = example::records();
+    let run = kenward_roger(&file[..file.len() - 16]).expect("it is accepted");
+    assert_eq!((run.coefficients.len(), run.contrast), (1, None));
+}
+
+/// The example with one record put in another's place.
+fn changed(at: usize, record: [u8; 16]) -> Vec<u8> {
+    let mut file = example::records();
+    file[at * 16..(at + 1) * 16].copy_from_slice(&record);
+    file
+}
+
+#[test]
+fn refusals() {
+    let cases = [
+        (Vec::new(), Refusal::Records),
+        (changed(4, example::record(8, 0, 0, 0, f64::INFINITY)), Refusal::NotFinite),
+        (changed(3, example::record(7, 0, 0, 0, 0.0)), Refusal::Sigma2),
+        (changed(5, example::record(9, 0, 0, 0, 0.0)), Refusal::ZeroContrast),
+        (changed(2, example::record(6, 0, 0, 0, 0.0)), Refusal::Pivot),
+    ];
+    for (file, refusal) in cases {
+        assert_eq!(kenward_roger(&file), Err(refusal));
+    }
+}
+
+/// 1 comes before the records are looked at, and nothing is written.
+#[test]
+fn other_lengths() {
+    for length in [0, 1, 24, 100, 167, 169, 336] {
+        for file in [example::records(), Vec::new()] {
+            let mut answer = vec![7; length];
+            assert_eq!(kenward_roger_fill(&file, &mut answer), 1);
+            assert!(answer.iter().all(|&b| b == 7));
+        }
+    }
+}
+
+/// Calls from several threads at once do not disturb each other.
+#[test]
+fn threads() {
+    let calls = || {
+        for _ in 0..200 {
+            let run = kenward_roger(&example::records()).expect("it is accepted");
+            assert_eq!(run.coefficients[0].f, Some(9.0));
+            assert_eq!(kenward_roger(&[]), Err(Refusal::Records));
+        }
+    };
+    std::thread::scope(|scope| {
+        for _ in 0..4 {
+            scope.spawn(calls);
+        }
+    });
+}
