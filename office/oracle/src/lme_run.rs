@@ -135,6 +135,19 @@ pub fn kenward_roger_run(series: &Series) -> Result<Run, Refusal> {
     tests(series, adjust(series)?)
 }
 
+/// lme-rs alone, each of its steps once: the adjustment, each coefficient, the
+/// contrast. Without the late refusal 4, the numbers in residual units and the
+/// mark, which the judgement of the port needs; so this is what its time is
+/// to be compared with.
+pub fn each_step_once(series: &Series) -> Result<(Vec<Verdict>, Option<Verdict>), Refusal> {
+    let fit = fit(series, series.sigma2);
+    let data = kr_vcov_adj::kenward_roger_modcomp_data(&fit, &frame(series)).map_err(number)?;
+    let coefficients = (0..series.beta.len()).map(|i| coefficient_test(&data, series, i));
+    let coefficients = coefficients.collect::<Result<_, _>>()?;
+    let contrast = series.contrast.as_ref().map(|l| contrast_test(&data, series, l)).transpose()?;
+    Ok((coefficients, contrast))
+}
+
 /// The run that lme-rs makes where document 01 has its late refusal 4, for
 /// DIFFERENCES-found.md.
 pub fn run_without_late_4(series: &Series) -> Result<Run, Refusal> {
@@ -143,37 +156,45 @@ pub fn run_without_late_4(series: &Series) -> Result<Run, Refusal> {
 
 /// Each coefficient alone, then the contrast.
 fn tests(series: &Series, adjusted: Adjusted) -> Result<Run, Refusal> {
-    let beta: Array1<f64> = series.beta.clone().into();
     // lme-rs's own loop over the coefficients keeps df alone; its F comes from
     // the same call made here.
     let own = kenward_roger::compute_kenward_roger(&fit(series, series.sigma2), &frame(series))
         .map_err(number)?;
     let mut coefficients = Vec::new();
     for i in 0..series.beta.len() {
-        let mut unit = Array2::zeros((1, series.beta.len()));
-        unit[[0, i]] = 1.0;
-        let test =
-            kr_modcomp::kr_modcomp_test(&adjusted.data, &unit, &beta, None).map_err(number)?;
-        assert!(same(test.den_df, own.dfs[i]), "lme-rs's loop and its test differ in df");
-        coefficients.push(Verdict { f: test.f_stat, df: test.den_df, rank: 1 });
+        let verdict = coefficient_test(&adjusted.data, series, i)?;
+        assert!(same(verdict.df, own.dfs[i]), "lme-rs's loop and its test differ in df");
+        coefficients.push(verdict);
     }
     let contrast = match &series.contrast {
-        Some(l) => Some(contrast_test(&adjusted, series, l)?),
+        Some(l) => Some(contrast_test(&adjusted.data, series, l)?),
         None => None,
     };
     Ok(Run { adjusted, coefficients, contrast })
 }
 
-fn contrast_test(adjusted: &Adjusted, series: &Series, l: &Matrix) -> Result<Verdict, Refusal> {
+fn coefficient_test(
+    data: &KenwardRogerModcompData,
+    series: &Series,
+    i: usize,
+) -> Result<Verdict, Refusal> {
+    let beta: Array1<f64> = series.beta.clone().into();
+    let mut unit = Array2::zeros((1, series.beta.len()));
+    unit[[0, i]] = 1.0;
+    let test = kr_modcomp::kr_modcomp_test(data, &unit, &beta, None).map_err(number)?;
+    Ok(Verdict { f: test.f_stat, df: test.den_df, rank: 1 })
+}
+
+fn contrast_test(
+    data: &KenwardRogerModcompData,
+    series: &Series,
+    l: &Matrix,
+) -> Result<Verdict, Refusal> {
     let beta: Array1<f64> = series.beta.clone().into();
     let beta_h: Option<Array1<f64>> = series.beta_h.clone().map(Array1::from);
-    let (f, df, _, rank) = kr_modcomp::kenward_roger_contrast_f_test(
-        &adjusted.data,
-        &beta,
-        &array(l),
-        beta_h.as_ref(),
-    )
-    .map_err(number)?;
+    let (f, df, _, rank) =
+        kr_modcomp::kenward_roger_contrast_f_test(data, &beta, &array(l), beta_h.as_ref())
+            .map_err(number)?;
     Ok(Verdict { f, df, rank: rank as u8 })
 }
 

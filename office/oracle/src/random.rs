@@ -42,6 +42,10 @@ pub const KR_FAMILIES: [&str; 11] = [
     "damaged",
 ];
 
+/// Families for the live comparison alone, so that the stored vectors stay as
+/// they are.
+pub const MORE_KR_FAMILIES: [&str; 3] = ["sizes", "edge", "damaged-any"];
+
 /// The groups of a block: each specimen in one of m, by an indicator or with
 /// effects of its own.
 fn random_columns(r: &mut Random, n: usize, blocks: &[Block], small: bool) -> Matrix {
@@ -78,6 +82,24 @@ fn random_blocks(r: &mut Random, slopes: bool) -> Vec<Block> {
 
 fn random_series(r: &mut Random, n: usize, p: usize, slopes: bool, small: bool) -> Series {
     let blocks = random_blocks(r, slopes);
+    series_of_blocks(r, n, p, blocks, small)
+}
+
+/// A random series of stated sizes, with as many contrast rows.
+pub fn series_of_sizes(
+    r: &mut Random,
+    n: usize,
+    p: usize,
+    blocks: Vec<Block>,
+    rows: usize,
+) -> Series {
+    let series = series_of_blocks(r, n, p, blocks, false);
+    let contrast = (rows > 0).then(|| matrix(rows, p, || r.real()));
+    let beta_h = series.beta_h.filter(|_| rows > 0);
+    Series { contrast, beta_h, ..series }
+}
+
+fn series_of_blocks(r: &mut Random, n: usize, p: usize, blocks: Vec<Block>, small: bool) -> Series {
     let z = random_columns(r, n, &blocks, small);
     let thetas: usize = blocks.iter().map(|b| b.k * (b.k + 1) / 2).sum();
     let zero_theta = r.once_in(6);
@@ -176,8 +198,24 @@ pub fn kr_case(r: &mut Random, family: &str) -> Vec<u8> {
         let good = kr_file(r, &series);
         return damage(r, good, false);
     }
+    if family == "damaged-any" {
+        return damaged_any(r);
+    }
     let series = random_series_of(r, family);
     kr_file(r, &series)
+}
+
+/// A file of any size and sort, damaged once to three times.
+fn damaged_any(r: &mut Random) -> Vec<u8> {
+    let family = r.pick(&["sizes", "slopes", "contrasts", "extreme"]);
+    let series = random_series_of(r, family);
+    let mut bytes = kr_file(r, &series);
+    for _ in 0..1 + r.below(3) {
+        if bytes.len() >= 16 {
+            bytes = damage(r, bytes, false);
+        }
+    }
+    bytes
 }
 
 pub fn random_series_of(r: &mut Random, family: &str) -> Series {
@@ -204,6 +242,8 @@ pub fn random_series_of(r: &mut Random, family: &str) -> Series {
             root_series(r, &roots)
         }
         "late" => late(r),
+        "sizes" => every_size(r),
+        "edge" => edge(r),
         _ => {
             let (n, p) = sizes(r);
             random_series(r, n, p, false, false)
@@ -247,6 +287,89 @@ fn hard_contrast(r: &mut Random) -> Series {
     }
     let beta_h = if r.once_in(3) { Some((0..p).map(|_| r.real()).collect()) } else { None };
     Series { contrast: Some(l), beta_h, ..series }
+}
+
+/// Any n, p and number of rows, each as often as any other.
+fn every_size(r: &mut Random) -> Series {
+    let (n, p) = (1 + r.below(24), 1 + r.below(6));
+    let slopes = r.once_in(3);
+    let small = r.once_in(4);
+    let blocks = random_blocks(r, slopes);
+    let rows = r.below(7);
+    let mut s = series_of_sizes(r, n, p, blocks, rows);
+    if small {
+        // Small numbers in X: ties and cancellations at every size.
+        s.x = s.x.map(|v| v.round());
+    }
+    s
+}
+
+/// Nearly singular: equal columns, rows or blocks but for a little, and
+/// numbers at which a Cholesky, a rank or the smallest eigenvalue is decided.
+fn edge(r: &mut Random) -> Series {
+    let (n, p) = (2 + r.below(8), 1 + r.below(4));
+    let slopes = r.once_in(3);
+    let mut s = random_series(r, n, p, slopes, false);
+    let little = power(-r.between(20, 56));
+    match r.below(8) {
+        // Two columns of X.
+        0 => {
+            let (a, b) = (r.below(p), r.below(p));
+            for i in 0..n {
+                s.x[(i, b)] = s.x[(i, a)] * (1.0 + if i == 0 { little } else { 0.0 });
+            }
+            if let Some(phi) = fitted_phi(&s) {
+                s.phi = phi;
+            }
+        }
+        // Two rows of Φ.
+        1 => {
+            let (a, b, c) = (r.below(p), r.below(p), r.below(p));
+            (0..p).for_each(|j| s.phi[(b, j)] = s.phi[(a, j)]);
+            s.phi[(b, c)] *= 1.0 + little;
+        }
+        // Σ = 1 + theta²: the 1 is lost at 2^26.5 or so.
+        2 => {
+            let k = power(r.between(22, 28));
+            s.theta.iter_mut().for_each(|t| *t *= k);
+        }
+        // Small thetas: IE with a small eigenvalue.
+        3 => {
+            let k = power(-r.between(8, 40));
+            s.theta.iter_mut().for_each(|t| *t *= k);
+        }
+        // The same block twice, but for a little: IE nearly singular.
+        4 => {
+            let m = 1 + r.below(4);
+            s.blocks = vec![Block { m, k: 1 }, Block { m, k: 1 }];
+            s.z = random_columns(r, n, &[Block { m, k: 1 }], false);
+            s.z = Matrix::from_fn(n, 2 * m, |i, j| s.z[(i, j % m)]);
+            s.z[(0, m)] += if r.once_in(2) { little } else { 0.0 };
+            s.theta = vec![r.real(), r.real()];
+        }
+        // Weights far apart.
+        5 => {
+            let spread = r.between(1, 40);
+            let weight = |r: &mut Random| power(r.between(-spread, spread)) * r.positive();
+            s.weights = Some((0..n).map(|_| weight(r)).collect());
+        }
+        // β next to its hypothesis.
+        6 => {
+            s.contrast = s.contrast.or_else(|| Some(matrix(2, p, || 1.0 + r.below(3) as f64)));
+            s.beta_h = Some(s.beta.iter().map(|b| b * (1.0 + little)).collect());
+        }
+        // Contrast rows that differ about as much as the rank's tolerance.
+        _ => {
+            let rows = 2 + r.below(3);
+            let first: Vec<f64> = (0..p).map(|_| r.real()).collect();
+            let mut l = Matrix::from_fn(rows, p, |_, j| first[j]);
+            for i in 1..rows {
+                l[(i, r.below(p))] += power(-r.between(46, 54));
+            }
+            s.contrast = Some(l);
+        }
+    }
+    s
 }
 
 /// One or two of the inputs in another unit, as far as the end of the range.
@@ -569,7 +692,7 @@ fn damage(r: &mut Random, mut bytes: Vec<u8>, satt: bool) -> Vec<u8> {
             let kind = if satt { r.pick(&[30, 31, 32, 9]) } else { r.pick(&[7, 5, 9, 3, 4]) };
             let v = r.pick(&[-1.0, 0.0, -0.0, f64::INFINITY]);
             let (k, m) = (r.below(4) as u8, r.below(5) as u8);
-            for b in bytes.chunks_mut(16).filter(|b| b[0] == kind) {
+            for b in bytes.chunks_exact_mut(16).filter(|b| b[0] == kind) {
                 if kind == 3 {
                     (b[2], b[4]) = (k, m);
                 } else {

@@ -1,0 +1,193 @@
+//! The time of a call, reading included: the panel's C function and the Rust
+//! on the same files, in turns, in one program.
+//!
+//!     cargo run --offline --release -p compare --bin bench [ROUNDS]
+//!
+//! - panel: `pull_kenward_roger`.
+//! - lme-rs: the office's reader, then lme-rs's adjustment and tests, each once, with
+//!   document 01's algebra. It has neither the mark nor the late refusal.
+//! - marked: the office's reader, then the run written from document 01, which
+//!   has both, as the panel does.
+//!
+//! A time is the median of the rounds, in microseconds for one call, over
+//! several series of the size.
+
+use oracle::random::{kr_file, series_of_sizes};
+use oracle::{lme_run, marked};
+use reader::random::Random;
+use reader::{read, Block};
+use std::hint::black_box;
+use std::time::Instant;
+
+/// Series of each size.
+const SERIES: usize = 8;
+/// The least time for which a round calls one of the three, in microseconds.
+const LEAST: f64 = 10_000.0;
+const ROUNDS: usize = 9;
+
+struct Size {
+    n: usize,
+    p: usize,
+    blocks: Vec<Block>,
+    rows: usize,
+}
+
+fn ones(groups: &[usize]) -> Vec<Block> {
+    groups.iter().map(|&m| Block { m, k: 1 }).collect()
+}
+
+fn sizes() -> Vec<Size> {
+    let size = |n, p, blocks, rows| Size { n, p, blocks, rows };
+    vec![
+        size(2, 1, ones(&[]), 1),
+        size(6, 2, ones(&[2]), 1),
+        size(6, 6, ones(&[2, 2, 2]), 5),
+        size(12, 3, ones(&[4]), 2),
+        size(12, 3, vec![Block { m: 4, k: 2 }], 2),
+        size(12, 6, ones(&[3, 3, 3]), 5),
+        size(18, 6, ones(&[6, 6, 6]), 5),
+        size(24, 1, ones(&[8]), 0),
+        size(24, 3, vec![Block { m: 12, k: 2 }], 2),
+        size(24, 6, ones(&[8, 8, 8]), 5),
+    ]
+}
+
+/// The growth with n: the same but for n.
+fn growth() -> Vec<Size> {
+    let size = |n| Size { n, p: 3, blocks: ones(&[2, 2, 2]), rows: 2 };
+    [3, 6, 9, 12, 15, 18, 21, 24].into_iter().map(size).collect()
+}
+
+fn panel(file: &[u8]) {
+    let mut answer = [0; pull::KENWARD_ROGER_BYTES];
+    black_box(pull::kenward_roger_fill(black_box(file), &mut answer));
+    black_box(answer);
+}
+
+fn lme_rs(file: &[u8]) {
+    let series = read(black_box(file)).expect("it is accepted");
+    black_box(lme_run::each_step_once(&series).expect("it is accepted"));
+}
+
+fn marked_run(file: &[u8]) {
+    let series = read(black_box(file)).expect("it is accepted");
+    black_box(marked::kenward_roger_run(&series).expect("it is accepted"));
+}
+
+const RUNS: [fn(&[u8]); 3] = [panel, lme_rs, marked_run];
+
+/// Accepted files of a size, the records in a random order.
+fn files(size: &Size) -> Vec<Vec<u8>> {
+    let mut random = Random::new(1000 * size.n as u64 + 10 * size.p as u64 + size.rows as u64);
+    let mut out = Vec::new();
+    for _ in 0..1000 {
+        let series = series_of_sizes(&mut random, size.n, size.p, size.blocks.clone(), size.rows);
+        let file = kr_file(&mut random, &series);
+        let accepted =
+            pull::kenward_roger(&file).is_ok() && marked::kenward_roger_run(&series).is_ok();
+        if accepted {
+            out.push(file);
+        }
+        if out.len() == SERIES {
+            return out;
+        }
+    }
+    panic!("too few accepted series of n = {}, p = {}", size.n, size.p)
+}
+
+/// Microseconds for one call, over all files, `times` times.
+fn time(run: fn(&[u8]), files: &[Vec<u8>], times: usize) -> f64 {
+    let began = Instant::now();
+    for _ in 0..times {
+        files.iter().for_each(|file| run(file));
+    }
+    began.elapsed().as_secs_f64() * 1e6 / (times * files.len()) as f64
+}
+
+fn median(mut times: Vec<f64>) -> f64 {
+    times.sort_by(f64::total_cmp);
+    times[times.len() / 2]
+}
+
+/// The median of each of the three runs.
+fn measure(size: &Size, rounds: usize) -> [f64; 3] {
+    let files = files(size);
+    // Once to warm up, and to know how often a round has to call.
+    let times = RUNS.map(|run| {
+        let once = time(run, &files, 1).max(0.01) * files.len() as f64;
+        (LEAST / once).ceil() as usize
+    });
+    let mut measured = [Vec::new(), Vec::new(), Vec::new()];
+    for _ in 0..rounds {
+        for (i, run) in RUNS.into_iter().enumerate() {
+            measured[i].push(time(run, &files, times[i]));
+        }
+    }
+    measured.map(median)
+}
+
+fn columns(size: &Size) -> usize {
+    size.blocks.iter().map(|b| b.m * b.k).sum()
+}
+
+fn head() {
+    println!(
+        "{:>3} {:>2} {:>6} {:>9} {:>4} {:>11} {:>11} {:>7} {:>11} {:>7}",
+        "n",
+        "p",
+        "blocks",
+        "Z columns",
+        "rows",
+        "panel µs",
+        "lme-rs µs",
+        "ratio",
+        "marked µs",
+        "ratio"
+    );
+}
+
+fn line(size: &Size, [panel, lme_rs, marked]: [f64; 3]) {
+    let k2 = size.blocks.iter().any(|b| b.k == 2);
+    let blocks = format!("{}{}", size.blocks.len(), if k2 { " k=2" } else { "" });
+    println!(
+        "{:>3} {:>2} {blocks:>6} {:>9} {:>4} {panel:>11.2} {lme_rs:>11.2} {:>7.2} {marked:>11.2} {:>7.2}",
+        size.n, size.p, columns(size), size.rows, panel / lme_rs, panel / marked
+    );
+}
+
+/// The power of n with which the time grows from the one size to the other.
+fn exponent(small: (usize, f64), large: (usize, f64)) -> f64 {
+    (large.1 / small.1).ln() / (large.0 as f64 / small.0 as f64).ln()
+}
+
+fn main() {
+    let rounds = std::env::args().nth(1).and_then(|w| w.parse().ok()).unwrap_or(ROUNDS).max(1);
+    println!(
+        "One call, reading included; median of {rounds} rounds; {SERIES} series of each size."
+    );
+    println!("The ratios are the panel's time over the other's.\n");
+    head();
+    for size in sizes() {
+        line(&size, measure(&size, rounds));
+    }
+    println!("\nGrowth with n: p = 3, three blocks of two groups, two contrast rows.\n");
+    head();
+    let mut measured = Vec::new();
+    for size in growth() {
+        let times = measure(&size, rounds);
+        line(&size, times);
+        measured.push((size.n, times));
+    }
+    println!();
+    for (i, name) in ["panel", "lme-rs", "marked"].iter().enumerate() {
+        let at = |n: usize| {
+            let found = measured.iter().find(|(m, _)| *m == n);
+            (n, found.expect("a size of the list").1[i])
+        };
+        println!(
+            "{name}: as n^{:.1} from 6 to 12, as n^{:.1} from 12 to 24",
+            exponent(at(6), at(12)),
+            exponent(at(12), at(24))
+        );
+    }
+}

@@ -1,0 +1,44 @@
+//! The random files. A family and a seed decide a file.
+
+use oracle::random::{kr_case, KR_FAMILIES, MORE_KR_FAMILIES};
+use reader::random::Random;
+use reader::tries::Call;
+
+/// The families of a call: those of the stored vectors, and some more.
+pub fn families(call: Call) -> Vec<&'static str> {
+    match call {
+        Call::KenwardRoger => KR_FAMILIES.iter().chain(&MORE_KR_FAMILIES).copied().collect(),
+        Call::Satterthwaite => oracle::random::SATT_FAMILIES.to_vec(),
+    }
+}
+
+/// The file of a family and a seed.
+pub fn file(call: Call, family: &str, seed: u64) -> Vec<u8> {
+    let mut random = Random::new(seed);
+    match call {
+        Call::KenwardRoger => kr_case(&mut random, family),
+        Call::Satterthwaite => oracle::random::satt_case(&mut random, family),
+    }
+}
+
+/// The seeds of a family's cases, from the seed of the whole comparison.
+pub fn seeds(seed: u64, family: usize) -> impl Iterator<Item = u64> {
+    let mut random = Random::new(seed.wrapping_mul(1009).wrapping_add(family as u64));
+    std::iter::repeat_with(move || random.bits())
+}
+
+/// The calls that this build has.
+pub fn calls() -> Vec<Call> {
+    vec![
+        Call::KenwardRoger,
+        #[cfg(feature = "satterthwaite")]
+        Call::Satterthwaite,
+    ]
+}
+
+pub fn name(call: Call) -> &'static str {
+    match call {
+        Call::KenwardRoger => "kenward-roger",
+        Call::Satterthwaite => "satterthwaite",
+    }
+}

@@ -1,0 +1,12 @@
+//! The panel's C functions against the Rust oracle, on bytes: the number that
+//! a call returns and every answer byte.
+//!
+//! - `cases`: the random files, by families and seeds.
+//! - `judge`: one file through both, and how they differ.
+//! - `shrink`: a smaller file that differs in the same manner.
+//! - `live`: the comparison of many files, and its summary.
+
+pub mod cases;
+pub mod judge;
+pub mod live;
+pub mod shrink;

@@ -1,0 +1,116 @@
+//! The command `compare`: see the usage text.
+
+use compare::cases::{calls, families, file, name};
+use compare::judge::{describe, manner};
+use compare::live::{report, run, Plan};
+use reader::tries::Call;
+use std::path::{Path, PathBuf};
+use std::process::ExitCode;
+
+const USAGE: &str = "usage: compare [FLAGS]
+  --files N          files for each call (usually 25000), shared among the families
+  --seed S           another seed (usually 1)
+  --family NAME      one family alone
+  --branches         also print in how many files each branch of document 01 was taken
+  --trace            print each family and seed before its call
+  --case FAMILY SEED one case again, as a difference prints it
+  --file PATH        a record file
+  --satterthwaite    --case and --file: for that call
+";
+
+struct Flags {
+    plan: Plan,
+    branches: bool,
+    case: Option<(String, u64)>,
+    file: Option<PathBuf>,
+    call: Call,
+}
+
+fn main() -> ExitCode {
+    let Some(flags) = flags(std::env::args().skip(1)) else {
+        eprint!("{USAGE}");
+        return ExitCode::from(2);
+    };
+    // A failure inside the oracle is reported with its case, and not where it occurs.
+    std::panic::set_hook(Box::new(|_| {}));
+    let same = match (&flags.case, &flags.file) {
+        (Some((family, seed)), _) => {
+            single(&flags, &format!("{family}-{seed}"), &file(flags.call, family, *seed))
+        }
+        (None, Some(path)) => match std::fs::read(path) {
+            Ok(bytes) => single(&flags, "file", &bytes),
+            Err(e) => {
+                eprintln!("{}: {e}", path.display());
+                return ExitCode::from(2);
+            }
+        },
+        (None, None) => all(&flags),
+    };
+    if same {
+        ExitCode::SUCCESS
+    } else {
+        ExitCode::FAILURE
+    }
+}
+
+/// The whole plan.
+fn all(flags: &Flags) -> bool {
+    let began = std::time::Instant::now();
+    let summary = run(&flags.plan);
+    if flags.branches {
+        println!("branches, by the number of files:");
+        summary.branches.iter().for_each(|(branch, files)| println!("  {branch}: {files}"));
+    }
+    println!(
+        "{} files, {} differ; seed {}, {} s",
+        summary.files,
+        summary.failures,
+        flags.plan.seed,
+        began.elapsed().as_secs()
+    );
+    summary.failures == 0
+}
+
+/// One file.
+fn single(flags: &Flags, title: &str, bytes: &[u8]) -> bool {
+    let same = manner(flags.call, bytes).is_none();
+    if same {
+        print!("the same\n{}", describe(flags.call, bytes));
+    } else {
+        println!("DIFFERENT");
+        report(flags.call, &format!("{}-{title}", name(flags.call)), bytes, &flags.plan);
+    }
+    same
+}
+
+fn flags(mut words: impl Iterator<Item = String>) -> Option<Flags> {
+    let office = Path::new(env!("CARGO_MANIFEST_DIR")).parent().expect("compare lies in office");
+    let folder = office.join("target/compare");
+    let plan = Plan { files: 25_000, seed: 1, family: None, trace: false, folder };
+    let mut flags =
+        Flags { plan, branches: false, case: None, file: None, call: Call::KenwardRoger };
+    while let Some(word) = words.next() {
+        match word.as_str() {
+            "--files" => flags.plan.files = words.next()?.parse().ok()?,
+            "--seed" => flags.plan.seed = words.next()?.parse().ok()?,
+            "--family" => flags.plan.family = Some(known_family(words.next()?)?),
+            "--branches" => flags.branches = true,
+            "--trace" => flags.plan.trace = true,
+            "--case" => {
+                flags.case = Some((known_family(words.next()?)?, words.next()?.parse().ok()?))
+            }
+            "--file" => flags.file = Some(words.next()?.into()),
+            "--satterthwaite" if calls().contains(&Call::Satterthwaite) => {
+                flags.call = Call::Satterthwaite
+            }
+            _ => return None,
+        }
+    }
+    Some(flags)
+}
+
+/// A name that some call has a family of.
+fn known_family(name: String) -> Option<String> {
+    let known = calls().into_iter().any(|call| families(call).contains(&name.as_str()));
+    known.then_some(name)
+}

@@ -1,0 +1,353 @@
+//! Makes a failing file small: whole parts of the series go first, then single
+//! records, then the digits of the numbers. Each step is kept if the file
+//! still differs in the same manner.
+
+use crate::judge::manner;
+use reader::tries::Call;
+use reader::{Record, A, BETA, BETA_H, BLOCK, CONTRAST, JACOBIAN, PHI, THETA, V, WEIGHTS, X, Z};
+
+/// At most so many files are tried.
+const TRIES: usize = 20_000;
+
+/// A file as records, and the bytes behind the last whole one.
+#[derive(Clone, PartialEq)]
+struct File {
+    records: Vec<Record>,
+    rest: Vec<u8>,
+}
+
+impl File {
+    fn from_bytes(bytes: &[u8]) -> File {
+        let whole = bytes.len() / 16 * 16;
+        File {
+            records: bytes[..whole].chunks(16).map(Record::from_bytes).collect(),
+            rest: bytes[whole..].to_vec(),
+        }
+    }
+
+    fn to_bytes(&self) -> Vec<u8> {
+        let records = self.records.iter().flat_map(|r| r.to_bytes());
+        records.chain(self.rest.iter().copied()).collect()
+    }
+}
+
+/// The search: the smallest file so far.
+struct Search<'a> {
+    fails: &'a dyn Fn(&[u8]) -> bool,
+    best: File,
+    left: usize,
+}
+
+/// A smaller file on which the two still differ in the same manner.
+pub fn shrink(call: Call, bytes: &[u8]) -> Vec<u8> {
+    let Some(first) = manner(call, bytes) else {
+        return bytes.to_vec();
+    };
+    shrink_while(bytes, &|file| manner(call, file) == Some(first))
+}
+
+/// A smaller file on which `fails` still holds.
+pub fn shrink_while(bytes: &[u8], fails: &dyn Fn(&[u8]) -> bool) -> Vec<u8> {
+    let mut search = Search { fails, best: File::from_bytes(bytes), left: TRIES };
+    loop {
+        let before = search.best.clone();
+        search.parts();
+        search.single_records();
+        search.order();
+        search.numbers();
+        if search.best == before || search.left == 0 {
+            return search.best.to_bytes();
+        }
+    }
+}
+
+impl Search<'_> {
+    /// Takes the candidate if it still fails.
+    fn try_file(&mut self, candidate: File) -> bool {
+        if self.left == 0 || candidate == self.best {
+            return false;
+        }
+        self.left -= 1;
+        let fails = (self.fails)(&candidate.to_bytes());
+        if fails {
+            self.best = candidate;
+        }
+        fails
+    }
+
+    /// Tries a change of the records.
+    fn try_records(&mut self, change: impl Fn(&[Record]) -> Vec<Record>) -> bool {
+        let records = change(&self.best.records);
+        let rest = self.best.rest.clone();
+        self.try_file(File { records, rest })
+    }
+
+    /// Specimens, coefficients, contrast rows, blocks, groups, parameters, and
+    /// kinds that may be absent.
+    fn parts(&mut self) {
+        self.try_file(File { rest: Vec::new(), ..self.best.clone() });
+        for kinds in [&[BETA_H][..], &[CONTRAST, BETA_H], &[WEIGHTS], &[Z, BLOCK, THETA]] {
+            self.try_records(|rs| {
+                rs.iter().filter(|r| !kinds.contains(&r.kind)).copied().collect()
+            });
+        }
+        for part in [Part::Specimen, Part::Coefficient, Part::ContrastRow, Part::Parameter] {
+            // From the last: what is left keeps its number.
+            for i in (0..24).rev() {
+                self.try_records(|rs| without_index(rs, part, i));
+            }
+        }
+        for block in (0..3).rev() {
+            self.try_records(|rs| without_block(rs, block));
+            for group in (0..24).rev() {
+                self.try_records(|rs| without_group(rs, block, group));
+            }
+        }
+    }
+
+    /// Runs of records, halves first, then each alone.
+    fn single_records(&mut self) {
+        let mut size = self.best.records.len().div_ceil(2);
+        while size > 0 {
+            let mut at = 0;
+            while at < self.best.records.len() {
+                let taken = self.try_records(|rs| {
+                    let end = (at + size).min(rs.len());
+                    [&rs[..at], &rs[end..]].concat()
+                });
+                if !taken {
+                    at += size;
+                }
+            }
+            size /= 2;
+        }
+    }
+
+    /// By kind, count, row and column.
+    fn order(&mut self) {
+        self.try_records(|rs| {
+            let mut sorted = rs.to_vec();
+            sorted.sort_by_key(|r| (r.kind, if r.kind == BLOCK { 0 } else { r.count }, r.row));
+            sorted.sort_by_key(|r| (r.kind, if r.kind == JACOBIAN { r.count } else { 0 }));
+            sorted
+        });
+    }
+
+    /// Each value to a simpler one.
+    fn numbers(&mut self) {
+        for at in 0..self.best.records.len() {
+            let bits = self.best.records[at].bits;
+            for simple in simpler(f64::from_bits(bits)) {
+                let taken = self.try_records(|rs| {
+                    let mut out = rs.to_vec();
+                    out[at].bits = simple.to_bits();
+                    out
+                });
+                if taken {
+                    break;
+                }
+            }
+        }
+    }
+}
+
+/// Numbers simpler than x, the simplest first.
+fn simpler(x: f64) -> Vec<f64> {
+    let cut = |digits: u32| f64::from_bits(x.to_bits() & !0 << (52 - digits));
+    let near_one = f64::from_bits((x.to_bits() & !(0x7ff << 52)) | 1023 << 52);
+    let list = [0.0, 1.0, -1.0, 2.0, 0.5, x.round(), cut(0), near_one, cut(4), cut(12), cut(26)];
+    list.into_iter().filter(|v| effort(*v) < effort(x)).collect()
+}
+
+/// How much there is to read in a number.
+fn effort(x: f64) -> u32 {
+    if x.to_bits() == 0 {
+        return 0;
+    }
+    if x == 1.0 {
+        return 1;
+    }
+    let fraction = x.to_bits() & ((1 << 52) - 1);
+    let digits = if fraction == 0 { 0 } else { 52 - fraction.trailing_zeros() };
+    let exponent = ((x.to_bits() >> 52 & 0x7ff) as i32 - 1023).unsigned_abs();
+    2 + digits + exponent + u32::from(x.is_sign_negative())
+}
+
+#[derive(Clone, Copy)]
+enum Part {
+    Specimen,
+    Coefficient,
+    ContrastRow,
+    Parameter,
+}
+
+/// Without the part of this number; those behind it move up.
+fn without_index(records: &[Record], part: Part, number: u32) -> Vec<Record> {
+    let mut out = Vec::new();
+    for r in records {
+        let mut r = *r;
+        let (row, column, count) = match (part, r.kind) {
+            (Part::Specimen, X | Z | WEIGHTS) => (true, false, false),
+            (Part::Coefficient, X | CONTRAST) => (false, true, false),
+            (Part::Coefficient, PHI | V | JACOBIAN) => (true, true, false),
+            (Part::Coefficient, BETA | BETA_H) => (true, false, false),
+            (Part::ContrastRow, CONTRAST) => (true, false, false),
+            (Part::Parameter, A) => (true, true, false),
+            (Part::Parameter, JACOBIAN) => (false, false, true),
+            _ => (false, false, false),
+        };
+        let at = number as u8;
+        let goes =
+            (row && r.row == at) || (column && r.column == at) || (count && r.count == number);
+        if goes {
+            continue;
+        }
+        r.row -= u8::from(row && r.row > at);
+        r.column -= u8::from(column && r.column > at);
+        r.count -= u32::from(count && r.count > number);
+        out.push(r);
+    }
+    out
+}
+
+/// The columns before a block, its groups and its effects.
+fn block_columns(records: &[Record], block: u8) -> Option<(u32, u32, u32)> {
+    let shape = |number: u8| {
+        let found = records.iter().find(|r| r.kind == BLOCK && r.row == number);
+        found.map(|r| (r.count.min(24), u32::from(r.column.min(2))))
+    };
+    let before = (0..block).filter_map(shape).map(|(m, k)| m * k).sum();
+    shape(block).map(|(m, k)| (before, m, k))
+}
+
+/// Without columns `from` to `from + count - 1` of Z.
+fn without_columns(records: &[Record], from: u32, count: u32) -> Vec<Record> {
+    let mut out = Vec::new();
+    for r in records {
+        let mut r = *r;
+        if r.kind == Z && u32::from(r.column) >= from {
+            if u32::from(r.column) < from + count {
+                continue;
+            }
+            r.column -= count as u8;
+        }
+        out.push(r);
+    }
+    out
+}
+
+/// Without a block, its columns and its thetas.
+fn without_block(records: &[Record], block: u8) -> Vec<Record> {
+    let Some((before, m, k)) = block_columns(records, block) else {
+        return records.to_vec();
+    };
+    let parameters = |k: u32| (k * (k + 1) / 2) as u8;
+    let first = (0..block).filter_map(|b| block_columns(records, b));
+    let first: u8 = first.map(|(_, _, k)| parameters(k)).sum();
+    let mut out = without_columns(records, before, m * k);
+    out.retain(|r| {
+        let own_theta = r.kind == THETA && (first..first + parameters(k)).contains(&r.row);
+        let own_record = r.kind == BLOCK && r.row == block;
+        !own_theta && !own_record
+    });
+    for r in out.iter_mut() {
+        if r.kind == THETA && r.row >= first {
+            r.row -= parameters(k);
+        }
+        if r.kind == BLOCK && r.row > block {
+            r.row -= 1;
+        }
+    }
+    out
+}
+
+/// Without one group of a block.
+fn without_group(records: &[Record], block: u8, group: u32) -> Vec<Record> {
+    let Some((before, m, k)) = block_columns(records, block).filter(|&(_, m, _)| group < m) else {
+        return records.to_vec();
+    };
+    let mut out = without_columns(records, before + group * k, k);
+    for r in out.iter_mut().filter(|r| r.kind == BLOCK && r.row == block) {
+        r.count = m - 1;
+    }
+    out
+}
+
+/// A file for a reader, one record to a line.
+pub fn text(bytes: &[u8]) -> String {
+    let file = File::from_bytes(bytes);
+    let mut out = String::new();
+    for r in &file.records {
+        let (k, i, j, m) = (kind(r.kind), r.row, r.column, r.count);
+        let byte3 = if r.zero == 0 { String::new() } else { format!(" byte 3: {}", r.zero) };
+        out += &format!(
+            "    {k:<14} row {i} column {j} count {m}{byte3} value {:?} ({:016x})\n",
+            f64::from_bits(r.bits),
+            r.bits
+        );
+    }
+    if !file.rest.is_empty() {
+        out += &format!("    and {} bytes more\n", file.rest.len());
+    }
+    out
+}
+
+fn kind(kind: u8) -> String {
+    let names = [
+        (X, "X"),
+        (Z, "Z"),
+        (BLOCK, "block"),
+        (THETA, "theta"),
+        (WEIGHTS, "weight"),
+        (PHI, "Φ"),
+        (reader::SIGMA, "sigma2"),
+        (BETA, "β"),
+        (CONTRAST, "contrast"),
+        (BETA_H, "β_H"),
+        (V, "v"),
+        (JACOBIAN, "Jacobian"),
+        (A, "A"),
+    ];
+    let name = names.iter().find(|(k, _)| *k == kind).map_or("", |(_, name)| name);
+    format!("{kind} {name}")
+}
+
+#[cfg(test)]
+mod tests {
+    use super::*;
+    use oracle::known::kr_bytes;
+    use oracle::random::series_of_sizes;
+    use reader::random::Random;
+    use reader::Block;
+
+    /// The largest series, and a "failure" that needs little of it.
+    #[test]
+    fn a_large_file_becomes_small() {
+        let mut random = Random::new(3);
+        let blocks = vec![Block { m: 8, k: 1 }; 3];
+        let file = kr_bytes(&series_of_sizes(&mut random, 24, 6, blocks, 5));
+        let fails = |bytes: &[u8]| match reader::read(bytes) {
+            Ok(s) => s.x.cols >= 2 && s.blocks.iter().any(|b| b.m >= 2) && s.contrast.is_some(),
+            Err(_) => false,
+        };
+        assert!(fails(&file));
+        let small = shrink_while(&file, &fails);
+        let series = reader::read(&small).expect("it still fails, so it is accepted");
+        assert_eq!((series.x.rows, series.x.cols), (1, 2));
+        assert_eq!(series.blocks, [Block { m: 2, k: 1 }]);
+        assert_eq!(series.contrast.map(|l| l.rows), Some(1));
+        assert!(small.len() <= 16 * 15, "{} bytes\n{}", small.len(), text(&small));
+    }
+
+    /// A damaged record alone is left.
+    #[test]
+    fn a_damaged_record_is_found() {
+        let mut random = Random::new(4);
+        let mut file = kr_bytes(&series_of_sizes(&mut random, 10, 3, Vec::new(), 2));
+        file[16 * 7 + 3] = 9;
+        file.push(1);
+        let small =
+            shrink_while(&file, &|bytes| bytes.chunks(16).any(|c| c.len() > 3 && c[3] == 9));
+        assert_eq!(small.len(), 16);
+    }
+}
