@@ -18,7 +18,8 @@ use Rattle.adjustment.specs.Blocks.{placesBefore}
 use Rattle.adjustment.specs.Adjusted.{Adjustment, adjustment}
 use Rattle.answers.specs.declared.Number.the-variants.{Is}
 use Rattle.answers.specs.declared.Entry.{Entry}
-use Rattle.tests.specs.KenwardRoger.{Tested, Run, scaledBy, noEntry}
+use Rattle.answers.specs.Answer.{noEntry}
+use Rattle.tests.specs.KenwardRoger.{Tested, Run, scaledBy}
 use Rattle.tests.proofs.Bench.{halfPhi, betaSix, eight, designPull, scaledPull, nineAndOne, bench}
 use Rattle.converter.specs.Verdict.{Verdict, verdict, verdicts, Inside, Survives}
 use Rattle.converter.specs.Converted.{Input, runOn, Converted, Sizes, Written, WrittenUnits}

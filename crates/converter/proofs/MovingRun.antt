@@ -29,7 +29,8 @@ use Rattle.adjustment.specs.Adjusted.{Adjustment, matrixAt, scaledUp, scaledDow
 use Rattle.answers.specs.declared.Entry.{Entry}
 use Rattle.contrast_basis.specs.Basis.{Rows, Basis, contrastBasis}
 use Rattle.contrast_basis.proofs.Rank.{rank-most}
-use Rattle.tests.specs.KenwardRoger.{Scaled, Tested, Run, scaledPs, scaledBy, basisOf, testSeen, tested, unitRow, coefficientTest, contrastTest, noEntry, withTest, coefficientsTo, runOf}
+use Rattle.answers.specs.Answer.{noEntry}
+use Rattle.tests.specs.KenwardRoger.{Scaled, Tested, Run, scaledPs, scaledBy, basisOf, testSeen, tested, unitRow, coefficientTest, contrastTest, withTest, coefficientsTo, runOf}
 use Rattle.converter.specs.Verdict.{Verdict, verdict, verdicts, Inside, Survives}
 use Rattle.converter.specs.Converted.{Input, runOn, Converted, Sizes, WrittenCells, Written, WrittenUnits}
 use Rattle.converter.proofs.MovingSmall.{tied-still, tied-nil}

@@ -6,7 +6,8 @@ use mathlib.Core.List.{List, map}
 use lib.ListN.{getD}
 use Rattle.answers.specs.declared.Number.{Number}
 use Rattle.answers.specs.declared.Entry.{Entry}
-use Rattle.tests.specs.KenwardRoger.{Run, noEntry}
+use Rattle.answers.specs.Answer.{noEntry}
+use Rattle.tests.specs.KenwardRoger.{Run}
 
 pub record Verdict : Type 0 where
   pub f : Number

@@ -12,7 +12,8 @@ use Rattle.adjustment.specs.declared.Cutoffs.{Cutoffs}
 use Rattle.adjustment.specs.Adjusted.{Adjustment, scaledUp}
 use Rattle.answers.specs.declared.Entry.{Entry}
 use Rattle.contrast_basis.specs.Basis.{Rows}
-use Rattle.tests.specs.KenwardRoger.{MarkedRows, Scaled, Tested, scaledBy, scaledPs, scaledOf, coefficientTest, contrastTest, noEntry, Run, withTest, coefficientsTo, runOf}
+use Rattle.answers.specs.Answer.{noEntry}
+use Rattle.tests.specs.KenwardRoger.{MarkedRows, Scaled, Tested, scaledBy, scaledPs, scaledOf, coefficientTest, contrastTest, Run, withTest, coefficientsTo, runOf}
 use Rattle.kr_run.specs.Units.{responseUnits}
 
 -- an adjustment's parts, in response units, are the adjustment in response units

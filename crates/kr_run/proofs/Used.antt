@@ -18,7 +18,8 @@ use Rattle.answers.specs.declared.Entry.{Entry}
 use Rattle.contrast_basis.specs.Basis.{Rows, contrastBasis}
 use Rattle.contrast_basis.proofs.RankStart.{Contrast}
 use Rattle.contrast_basis.proofs.Rank.{rank-one, rank-least, rank-most}
-use Rattle.tests.specs.KenwardRoger.{Scaled, tested, unitRow, coefficientTest, contrastTest, noEntry, Run, withTest, coefficientsTo, runOf}
+use Rattle.answers.specs.Answer.{noEntry}
+use Rattle.tests.specs.KenwardRoger.{Scaled, tested, unitRow, coefficientTest, contrastTest, Run, withTest, coefficientsTo, runOf}
 use Rattle.kr_run.specs.Used.{inUse}
 
 -- every element of a list of equals, one past the end too

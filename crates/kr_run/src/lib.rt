@@ -1,7 +1,8 @@
 // The Kenward–Roger run: each coefficient alone, then the contrast if one is given (kenward_roger).
 ghost use mathlib.Core.Path.{_≡_};
 ghost use Prim.Native.Nat.{_≤_};
-ghost use Rattle.tests.specs.KenwardRoger.{noEntry, scaledOf, coefficientsTo, runOf};
+ghost use Rattle.answers.specs.Answer.{noEntry};
+ghost use Rattle.tests.specs.KenwardRoger.{scaledOf, coefficientsTo, runOf};
 ghost use Rattle.kr_run.specs.Units.{responseUnits};
 use adjustment::Cutoffs;
 use adjustment::adjusted::scaled_up;
