@@ -1,0 +1,3 @@
+-- Document 01: the whole Satterthwaite call. Definitions alone.
+pub mod Parameters
+pub mod Call
