@@ -1,2 +1,5 @@
 -- The laws of the reader.
+pub mod Laws
+pub mod Slots
+pub mod Sheets
 pub mod Examples

@@ -3,3 +3,4 @@ pub mod Scan
 pub mod Kinds
 pub mod File
 pub mod Series
+pub mod Sheet

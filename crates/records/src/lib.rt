@@ -1,4 +1,15 @@
-// The reader of record files: what a file says, and the refusals that come before any computing (kenward_roger).
+// The reader of record files: what a file says, cell by cell. The functions that take `call` read the kinds of Satterthwaite's call where it is
+// true, and those of Kenward and Roger's where it is false.
+ghost use mathlib.Core.Path.{_≡_};
+ghost use mathlib.Core.Bool.{Bool, true, false, cond};
+ghost use lib.Dec.{eqb};
+ghost use Prim.Native.Nat.{ℕ, _+_, _*_, _≤_, _<_, max};
+ghost use lib.ListN.{length, getD};
+ghost use lib.Ieee.{le};
+ghost use Rattle.records.specs.Scan.{any, most};
+ghost use Rattle.records.specs.Kinds.{cells, blocks, unread, kindAt, kenwardRoger, satterthwaite};
+ghost use Rattle.records.specs.File.{count, kindOf, rowOf, columnOf, paddingOf, countOf, bitsOf, valueOf, outOf, badRecord, again, rows, columns, notFinite};
+ghost use Rattle.records.specs.Sheet.{tableOf, firstSlot, offset, slotOf, flagsAfter, sheetAfter};
 
 // What the records of a kind may name: how many counts, rows and columns. Of a block the count and the column are numbers and no indices.
 pub struct Kind {
@@ -6,4 +17,448 @@ pub struct Kind {
     pub rows: usize,
     pub columns: usize,
     pub block: bool,
+}
+
+fn index(x: u8) -> usize
+    ensures { λ r. ⌜ (r ≡ x) × (r < 256) ⌝ }
+{
+    x as usize
+}
+
+// The fields of record i.
+pub fn kind_at(s: &[u8], i: usize) -> u8
+    requires { ⌜ i < count (now s) ⌝ }
+    ensures { λ r. ⌜ r ≡ kindOf (now (s .entry)) i ⌝ }
+{
+    let at = 16 * i;
+    s[at]
+}
+
+pub fn row_at(s: &[u8], i: usize) -> usize
+    requires { ⌜ i < count (now s) ⌝ }
+    ensures { λ r. ⌜ (r ≡ rowOf (now (s .entry)) i) × (r < 256) ⌝ }
+{
+    let at = 16 * i + 1;
+    index(s[at])
+}
+
+pub fn column_at(s: &[u8], i: usize) -> usize
+    requires { ⌜ i < count (now s) ⌝ }
+    ensures { λ r. ⌜ (r ≡ columnOf (now (s .entry)) i) × (r < 256) ⌝ }
+{
+    let at = 16 * i + 2;
+    index(s[at])
+}
+
+pub fn padding_at(s: &[u8], i: usize) -> usize
+    requires { ⌜ i < count (now s) ⌝ }
+    ensures { λ r. ⌜ (r ≡ paddingOf (now (s .entry)) i) × (r < 256) ⌝ }
+{
+    let at = 16 * i + 3;
+    index(s[at])
+}
+
+pub fn count_at(s: &[u8], i: usize) -> usize
+    requires { ⌜ i < count (now s) ⌝ }
+    ensures { λ r. ⌜ (r ≡ countOf (now (s .entry)) i) × (r < 4294967296) ⌝ }
+{
+    let at = 16 * i + 4;
+    little_endian::word_at(s, at) as usize
+}
+
+pub fn bits_at(s: &[u8], i: usize) -> u64
+    requires { ⌜ i < count (now s) ⌝ }
+    ensures { λ r. ⌜ r ≡ bitsOf (now (s .entry)) i ⌝ }
+{
+    let at = 16 * i + 8;
+    little_endian::long_at(s, at)
+}
+
+pub fn value_at(s: &[u8], i: usize) -> f64
+    requires { ⌜ i < count (now s) ⌝ }
+    ensures { λ r. ⌜ r ≡ valueOf (now (s .entry)) i ⌝ }
+{
+    arithmetic::plain::of_bits(bits_at(s, i))
+}
+
+// A kind that names its cells by count, row and column.
+pub fn cells(counts: usize, rows: usize, columns: usize) -> Kind
+    ensures { λ r. ⌜ r ≡ cells counts rows columns ⌝ }
+{
+    Kind {
+        counts: counts,
+        rows: rows,
+        columns: columns,
+        block: false,
+    }
+}
+
+// The kind of the blocks.
+pub fn blocks(rows: usize) -> Kind
+    ensures { λ r. ⌜ r ≡ blocks rows ⌝ }
+{
+    Kind {
+        counts: 1,
+        rows: rows,
+        columns: 1,
+        block: true,
+    }
+}
+
+// What Kenward and Roger's call reads: none, X, Z, block, theta, weight, Φ, sigma2, β, contrast, β_H.
+fn kenward_roger_low(k: usize) -> Kind
+    ensures { λ r. ⌜ r ≡ getD (kenwardRoger .low) k unread ⌝ }
+{
+    let none = cells(0, 0, 0);
+    let table = [
+        none,
+        cells(1, 24, 6),
+        cells(1, 24, 24),
+        blocks(3),
+        cells(1, 3, 1),
+        cells(1, 24, 1),
+        cells(1, 6, 6),
+        cells(1, 1, 1),
+        cells(1, 6, 1),
+        cells(1, 6, 6),
+        cells(1, 6, 1),
+    ];
+    if k < 11 { table[k] } else { none }
+}
+
+// What Satterthwaite's call reads: eight that are none, β, contrast, β_H.
+fn satterthwaite_low(k: usize) -> Kind
+    ensures { λ r. ⌜ r ≡ getD (satterthwaite .low) k unread ⌝ }
+{
+    let none = cells(0, 0, 0);
+    let row = cells(1, 6, 1);
+    let table = [
+        none,
+        none,
+        none,
+        none,
+        none,
+        none,
+        none,
+        none,
+        row,
+        cells(1, 6, 6),
+        row,
+    ];
+    if k < 11 { table[k] } else { none }
+}
+
+// And from 30 on: v, Jacobian, A.
+fn satterthwaite_high(k: usize) -> Kind
+    ensures { λ r. ⌜ r ≡ getD (satterthwaite .high) k unread ⌝ }
+{
+    let none = cells(0, 0, 0);
+    let table = [cells(1, 6, 6), cells(4, 6, 6), cells(1, 4, 4)];
+    if k < 3 { table[k] } else { none }
+}
+
+// What a call's records of this kind may name.
+pub fn kind_of(call: bool, kind: u8) -> Kind
+    ensures { λ r. ⌜ r ≡ kindAt (tableOf call) kind ⌝ }
+{
+    let k = index(kind);
+    if call {
+        if k < 30 {
+            return satterthwaite_low(k);
+        }
+        return satterthwaite_high(k - 30);
+    }
+    if k < 30 {
+        return kenward_roger_low(k);
+    }
+    cells(0, 0, 0)
+}
+
+// Record i lies outside what a kind has.
+pub fn out_of(k: Kind, s: &[u8], i: usize) -> bool
+    requires { ⌜ i < count (now s) ⌝ }
+    ensures { λ r. ⌜ r ≡ outOf k (now (s .entry)) i ⌝ }
+{
+    if row_at(s, i) >= k.rows {
+        return true;
+    }
+    if k.block {
+        return false;
+    }
+    if column_at(s, i) >= k.columns {
+        return true;
+    }
+    !(count_at(s, i) < k.counts)
+}
+
+// Record i is of a kind that the call does not read, has a nonzero unused field, or names an index past a limit.
+pub fn bad_record(call: bool, s: &[u8], i: usize) -> bool
+    requires { ⌜ i < count (now s) ⌝ }
+    ensures { λ r. ⌜ r ≡ badRecord (tableOf call) (now (s .entry)) i ⌝ }
+{
+    let k = kind_of(call, kind_at(s, i));
+    if out_of(k, s, i) {
+        return true;
+    }
+    if padding_at(s, i) != 0 {
+        return true;
+    }
+    if k.block {
+        return bits_at(s, i) != 0;
+    }
+    false
+}
+
+// Some record is bad.
+pub fn any_bad(call: bool, s: &[u8]) -> bool
+    ensures { λ r. ⌜ r ≡ any (count (now (s .entry))) (badRecord (tableOf call) (now (s .entry))) ⌝ }
+{
+    let n = s.len() / 16;
+    let mut i = 0;
+    while i < n {
+        if bad_record(call, s, i) {
+            return true;
+        }
+        i += 1;
+    }
+    false
+}
+
+fn larger(a: usize, b: usize) -> usize
+    ensures { λ r. ⌜ r ≡ max a b ⌝ }
+{
+    if a < b { b } else { a }
+}
+
+// One more than record i's row, 0 where it is of another kind.
+fn rows_in(s: &[u8], kind: u8, i: usize) -> usize
+    requires { ⌜ i < count (now s) ⌝ }
+    ensures { λ r. ⌜ r ≡ cond (eqb (kindOf (now (s .entry)) i) kind) (rowOf (now (s .entry)) i + 1) 0 ⌝ }
+{
+    if kind_at(s, i) == kind {
+        row_at(s, i) + 1
+    } else {
+        0
+    }
+}
+
+fn columns_in(s: &[u8], kind: u8, i: usize) -> usize
+    requires { ⌜ i < count (now s) ⌝ }
+    ensures { λ r. ⌜ r ≡ cond (eqb (kindOf (now (s .entry)) i) kind) (columnOf (now (s .entry)) i + 1) 0 ⌝ }
+{
+    if kind_at(s, i) == kind {
+        column_at(s, i) + 1
+    } else {
+        0
+    }
+}
+
+// One more than the largest row of a kind's records, and the largest column.
+pub fn rows_of(s: &[u8], kind: u8) -> usize
+    ensures { λ r. ⌜ r ≡ rows (now (s .entry)) kind ⌝ }
+{
+    let n = s.len() / 16;
+    let mut top: usize = 0;
+    let mut i = 0;
+    while i < n {
+        top = larger(top, rows_in(s, kind, i));
+        i += 1;
+    }
+    top
+}
+
+pub fn columns_of(s: &[u8], kind: u8) -> usize
+    ensures { λ r. ⌜ r ≡ columns (now (s .entry)) kind ⌝ }
+{
+    let n = s.len() / 16;
+    let mut top: usize = 0;
+    let mut i = 0;
+    while i < n {
+        top = larger(top, columns_in(s, kind, i));
+        i += 1;
+    }
+    top
+}
+
+// Record i's value is not finite.
+fn not_finite(s: &[u8], i: usize) -> bool
+    requires { ⌜ i < count (now s) ⌝ }
+    ensures { λ r. ⌜ r ≡ notFinite (now (s .entry)) i ⌝ }
+{
+    !arithmetic::plain::is_finite(value_at(s, i))
+}
+
+pub fn any_not_finite(s: &[u8]) -> bool
+    ensures { λ r. ⌜ r ≡ any (count (now (s .entry))) (notFinite (now (s .entry))) ⌝ }
+{
+    let n = s.len() / 16;
+    let mut i = 0;
+    while i < n {
+        if not_finite(s, i) {
+            return true;
+        }
+        i += 1;
+    }
+    false
+}
+
+// The slots of the kinds before this one, for each call.
+const KENWARD_ROGER_FIRST: [usize; 33] = [
+    0,
+    0,
+    144,
+    720,
+    723,
+    726,
+    750,
+    786,
+    787,
+    793,
+    829,
+    835,
+    835,
+    835,
+    835,
+    835,
+    835,
+    835,
+    835,
+    835,
+    835,
+    835,
+    835,
+    835,
+    835,
+    835,
+    835,
+    835,
+    835,
+    835,
+    835,
+    835,
+    835,
+];
+
+const SATTERTHWAITE_FIRST: [usize; 33] = [
+    0,
+    0,
+    0,
+    0,
+    0,
+    0,
+    0,
+    0,
+    0,
+    6,
+    42,
+    48,
+    48,
+    48,
+    48,
+    48,
+    48,
+    48,
+    48,
+    48,
+    48,
+    48,
+    48,
+    48,
+    48,
+    48,
+    48,
+    48,
+    48,
+    48,
+    48,
+    84,
+    228,
+];
+
+fn first_slot(call: bool, kind: u8) -> usize
+    requires { ⌜ kind < 33 ⌝ }
+    ensures { λ r. ⌜ r ≡ firstSlot (tableOf call) kind ⌝ }
+{
+    let k = index(kind);
+    if call {
+        SATTERTHWAITE_FIRST[k]
+    } else {
+        KENWARD_ROGER_FIRST[k]
+    }
+}
+
+// A cell's place among those of its kind.
+fn offset_in(k: Kind, n: usize, r: usize, c: usize) -> usize
+    requires { ⌜ (n ≤ 4294967295) × (r ≤ 255) × (c ≤ 255) × (k .rows ≤ 24) × (k .columns ≤ 24) ⌝ }
+    ensures { λ a. ⌜ a ≡ offset k n r c ⌝ }
+{
+    if k.block {
+        return r;
+    }
+    let rows = k.rows;
+    let columns = k.columns;
+    (n * rows + r) * columns + c
+}
+
+// The slot of record i, which is not bad.
+fn slot_at(call: bool, s: &[u8], i: usize) -> usize
+    requires { ⌜ (i < count (now s)) × (badRecord (tableOf call) (now s) i ≡ false) ⌝ }
+    ensures { λ r. ⌜ (r ≡ slotOf (tableOf call) (now (s .entry)) i) × (r < 835) ⌝ }
+{
+    let kind = kind_at(s, i);
+    let first = first_slot(call, kind);
+    let k = kind_of(call, kind);
+    first + offset_in(k, count_at(s, i), row_at(s, i), column_at(s, i))
+}
+
+// Some record names a cell that an earlier one names. A flag for each cell: a file of more records than cells stops at the first that is there
+// already.
+pub fn any_again(call: bool, s: &[u8]) -> bool
+    requires { ⌜ any (count (now s)) (badRecord (tableOf call) (now s)) ≡ false ⌝ }
+    ensures { λ r. ⌜ r ≡ any (count (now (s .entry))) (again (tableOf call) (now (s .entry))) ⌝ }
+{
+    let n = s.len() / 16;
+    let mut flags = [false; 835];
+    let mut i = 0;
+    while i < n {
+        let at = slot_at(call, s, i);
+        if flags[at] {
+            return true;
+        }
+        flags[at] = true;
+        i += 1;
+    }
+    false
+}
+
+// A flag for each cell that some record names.
+pub fn flags_of(call: bool, s: &[u8]) -> [bool; 835]
+    requires { ⌜ any (count (now s)) (badRecord (tableOf call) (now s)) ≡ false ⌝ }
+    ensures { λ r. ⌜ r ≡ flagsAfter (tableOf call) (now (s .entry)) (count (now (s .entry))) ⌝ }
+{
+    let n = s.len() / 16;
+    let mut flags = [false; 835];
+    let mut i = 0;
+    while i < n {
+        let at = slot_at(call, s, i);
+        flags[at] = true;
+        i += 1;
+    }
+    flags
+}
+
+// The number in each cell, +0 where no record names it.
+pub fn sheet_of(call: bool, s: &[u8]) -> [f64; 835]
+    requires { ⌜ any (count (now s)) (badRecord (tableOf call) (now s)) ≡ false ⌝ }
+    ensures { λ r. ⌜ r ≡ sheetAfter (tableOf call) (now (s .entry)) (count (now (s .entry))) ⌝ }
+{
+    let n = s.len() / 16;
+    let mut sheet = [0.0; 835];
+    let mut i = 0;
+    while i < n {
+        let at = slot_at(call, s, i);
+        sheet[at] = value_at(s, i);
+        i += 1;
+    }
+    sheet
 }
