@@ -1,11 +1,9 @@
 -- Document 01's two lines and its refusals, with `none` and `outside`: computed from the definitions.
-use Prim.Native.Nat.{ℕ}
 use Prim.Native.String.{_++_}
 use mathlib.Core.Path.{_≡_, refl}
-use mathlib.Core.Bool.{Bool, true, false}
-use mathlib.Core.List.{List, [], _∷_}
+use mathlib.Core.Bool.{true, false}
+use mathlib.Core.List.{[], _∷_}
 use lib.Ieee.{ofBits, toBits, binary64}
-use Rattle.answers.specs.declared.Number.{Number}
 use Rattle.answers.specs.declared.Number.the-variants.{Is, None}
 use Rattle.answers.specs.declared.Entry.{Entry}
 use Rattle.answers.specs.Answer.{noEntry}

@@ -4,9 +4,12 @@ use native.Mathlib.Omega.{arith}
 use native.Mathlib.Numerals.{add-one}
 use native.Mathlib.Nat.{mod-eq-of-lt, not-suc-le-zero, le-of-suc-le-suc}
 use mathlib.Core.Path.{_≡_, refl, sym, ap, _∙_}
+use mathlib.Core.Bool.{false}
 use mathlib.Core.List.{List, [], _∷_, _++_}
+use lib.Ieee.{nan}
 use lib.ListN.{length, getD}
 use borrow.Author.Tests.{lt-ltb, le-ltb, eq-eqb, ne-eqb}
+use Rattle.answers.specs.declared.Number.the-variants.{Is}
 use Rattle.answers.specs.declared.Entry.{Entry}
 use Rattle.answers.specs.Answer.{noEntry}
 use Rattle.answer_text.specs.Text.{codes, digit, hexadecimal, decimal, fieldsText, coefficientLine, coefficientLines, testLine, refusalText, linesText, textOf}
@@ -42,17 +45,20 @@ decimal-more n w h l p s =
     let more : decimal (n - 1) (w / 10) ++ (digit (w % 10) ∷ []) ≡ decimal (suc (n - 1)) w = sym (rw (le-ltb w 10 l)) in
     named (then p s) (more ∙ ap (λ (k : ℕ). decimal k w) (less-one n h)) (omega arith)
 
--- what stands past the end does not matter below it
+-- what an array of entries would read past its end; what that is does not matter below the end
+abbrev pub past : Entry
+past = record { f = Is nan; df = Is nan; rank = 0; inside = false }
+
 pub getD-any : {A : Type 0} (l : List A) (i : ℕ) (d e : A) → i < length l → getD l i d ≡ getD l i e
 getD-any [] i d e h = absurd (not-suc-le-zero h)
 getD-any (x ∷ l) zero d e h = refl
 getD-any (x ∷ l) (suc i) d e h = getD-any l i d e (le-of-suc-le-suc h)
 
--- the line of one coefficient more; the array reads d past its end
-pub coefficients-more : {a b c : List ℕ} {at r q : ℕ} (i : ℕ) (es : List Entry) (d : Entry) → i < length es → Put (63 * i) a at (coefficientLines i es) b r → Put 63 b r (coefficientLine i (getD es i d)) c q → Put (63 * (i + 1)) a at (coefficientLines (i + 1) es) c q
+-- the line of one coefficient more
+pub coefficients-more : {a b c : List ℕ} {at r q : ℕ} (i : ℕ) (es : List Entry) → i < length es → Put (63 * i) a at (coefficientLines i es) b r → Put 63 b r (coefficientLine i (getD es i past)) c q → Put (63 * (i + 1)) a at (coefficientLines (i + 1) es) c q
 unfolding coefficientLines
-coefficients-more i es d h p s =
-    let next : coefficientLine i (getD es i d) ≡ coefficientLine i (getD es i noEntry) = ap (coefficientLine i) (getD-any es i d noEntry h) in
+coefficients-more i es h p s =
+    let next : coefficientLine i (getD es i past) ≡ coefficientLine i (getD es i noEntry) = ap (coefficientLine i) (getD-any es i past noEntry h) in
     let more : coefficientLines i es ++ coefficientLine i (getD es i noEntry) ≡ coefficientLines (i + 1) es = sym (ap (λ (k : ℕ). coefficientLines k es) (add-one i)) in
     named (then p s) (ap (λ (t : List ℕ). coefficientLines i es ++ t) next ∙ more) (omega arith)
 

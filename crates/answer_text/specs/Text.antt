@@ -30,7 +30,7 @@ unfoldable pub hexadecimal : ℕ → ℕ → List ℕ
 hexadecimal zero w = []
 hexadecimal (suc n) w = hexadecimal n (w / 16) ++ (digit (w % 16) ∷ [])
 
--- w in decimal digits, n of them at most, the leading one first and no zero unless alone
+-- w in decimal digits, the leading one first and no zero unless alone; of a number that has more than n digits, the last n
 unfoldable pub decimal : ℕ → ℕ → List ℕ
 decimal zero w = []
 decimal (suc n) w = cond (ltb w 10) [] (decimal n (w / 10)) ++ (digit (w % 10) ∷ [])

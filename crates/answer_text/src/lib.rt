@@ -175,7 +175,7 @@ fn put_lines(out: &mut [u8], es: [Entry; 7]) -> usize
 // All that is printed of a run: its refusal, or its lines. Returns how many bytes it takes; those after it stay.
 pub fn text_of(number: u32, es: [Entry; 7], out: &mut [u8]) -> usize
     requires { ⌜ 512 ≤ length (now out) ⌝ }
-    ensures { λ r. ⌜ (r ≡ length (textOf number es)) × (now (out .exit) ≡ sets (now (out .entry)) 0 (textOf number es)) ⌝ }
+    ensures { λ r. ⌜ (r ≡ length (textOf number es)) × (now (out .exit) ≡ sets (now (out .entry)) 0 (textOf number es)) × (r ≤ 512) ⌝ }
 {
     if number != 0 {
         return put_refusal(out, number);

@@ -4,9 +4,6 @@ use mathlib.Core.Path.{sym, ap, _∙_}
 use Rattle.answer_bytes.specs.Layout.{bitsOf}
 use Rattle.answer_bytes.proofs.bits_of.Statement.{statement}
 use Rattle.answer_bytes.proofs.bits_of.Tie as tie
-use Rattle.answer_bytes.proofs.bits_of.Reads as reads
-use Rattle.answer_bytes.proofs.bits_of.Lts as lts
-use Rattle.arithmetic.proofs.plain.to_bits.Reads as to-bits-reads
 
 enum-known-n : tie.Need-enum-known-n
 enum-known-n c = search needs

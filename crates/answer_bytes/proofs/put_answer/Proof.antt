@@ -1,5 +1,5 @@
 -- `answer_bytes::put_answer` meets its contract: after i turns the first i entries stand, and seven fill the answer.
-use Prim.Native.Nat.{ℕ, _≤_, _<_, _-_, _+_, _*_}
+use Prim.Native.Nat.{ℕ, _≤_, _<_, _-_, _*_}
 use mathlib.Core.Path.{_≡_, refl, ap, _∙_}
 use mathlib.Core.Bool.{false}
 use mathlib.Core.List.{List}
@@ -16,9 +16,6 @@ use Rattle.little_endian.proofs.StoreLaws.{sets-all}
 use Rattle.answer_bytes.proofs.LayoutLaws.{length-answer, store}
 use Rattle.answer_bytes.proofs.put_answer.Statement.{statement}
 use Rattle.answer_bytes.proofs.put_answer.Tie as tie
-use Rattle.answer_bytes.proofs.put_answer.Reads as reads
-use Rattle.answer_bytes.proofs.put_answer.Lts as lts
-use Rattle.answer_bytes.proofs.put_entry.Reads as put-entry-reads
 
 -- what would be read past the end of the entries
 abbrev past : Entry

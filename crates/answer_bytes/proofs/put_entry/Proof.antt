@@ -4,13 +4,6 @@ use denote.Ref.{now}
 use Rattle.answer_bytes.proofs.LayoutLaws.{sets-entry}
 use Rattle.answer_bytes.proofs.put_entry.Statement.{statement}
 use Rattle.answer_bytes.proofs.put_entry.Tie as tie
-use Rattle.answer_bytes.proofs.put_entry.Reads as reads
-use Rattle.answer_bytes.proofs.put_entry.Lts as lts
-use Rattle.answer_bytes.proofs.bits_of.Reads as bits-of-reads
-use Rattle.answer_bytes.proofs.flag_of.Reads as flag-of-reads
-use Rattle.answer_bytes.proofs.given_of.Reads as given-of-reads
-use Rattle.little_endian.proofs.put8.Reads as put8-reads
-use Rattle.little_endian.proofs.put_long.Reads as put-long-reads
 
 bits-of-requires : tie.Need-bits-of-requires
 bits-of-requires c κs = search needs

@@ -5,8 +5,6 @@ use Rattle.answer_text.specs.Text.{digit}
 use borrow.Author.Needs.{needs}
 use Rattle.answer_text.proofs.letter.Statement.{statement}
 use Rattle.answer_text.proofs.letter.Tie as tie
-use Rattle.answer_text.proofs.letter.Reads as reads
-use Rattle.answer_text.proofs.letter.Lts as lts
 
 add-result : tie.Need-add-result
 add-result c = search needs

@@ -6,11 +6,6 @@ use Rattle.answer_text.proofs.TextLaws.{coefficient-unused, coefficient
 use borrow.Author.Needs.{needs}
 use Rattle.answer_text.proofs.put_coefficient.Statement.{statement}
 use Rattle.answer_text.proofs.put_coefficient.Tie as tie
-use Rattle.answer_text.proofs.put_coefficient.Reads as reads
-use Rattle.answer_text.proofs.put_coefficient.Lts as lts
-use Rattle.answer_text.proofs.put_digit.Reads as put-digit-reads
-use Rattle.answer_text.proofs.put_fields.Reads as put-fields-reads
-use Rattle.answer_text.proofs.put_text.Reads as put-text-reads
 
 returns : tie.Need-returns
 returns c = let g = c .before .before .args in coefficient-unused (now (g .out)) (g .at) (g .i) (g .e) (c .if1 .taken)

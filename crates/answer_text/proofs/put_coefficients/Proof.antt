@@ -1,27 +1,15 @@
 -- `answer_text::put_coefficients` meets its contract: after i turns the first i lines stand.
-use Prim.Native.Nat.{ℕ, _≤_, _<_, _-_, _+_, _*_}
+use Prim.Native.Nat.{ℕ, _≤_, _<_, _-_, _*_}
 use native.Mathlib.Omega.{arith}
 use borrow.Author.Needs.{needs}
 use mathlib.Core.Path.{_≡_, refl, ap, _∙_}
-use mathlib.Core.Bool.{false}
-use denote.Ref.{now}
-use lib.Ieee.{nan}
 use lib.ListN.{length}
-use Rattle.answers.specs.declared.Number.the-variants.{Is}
-use Rattle.answers.specs.declared.Entry.{Entry}
 use Rattle.answer_text.specs.Text.{coefficientLines}
 use Rattle.answer_text.specs.Cursor.{Put}
 use Rattle.answer_text.proofs.CursorLaws.{stay, named}
 use Rattle.answer_text.proofs.TextLaws.{coefficients-more}
 use Rattle.answer_text.proofs.put_coefficients.Statement.{statement}
 use Rattle.answer_text.proofs.put_coefficients.Tie as tie
-use Rattle.answer_text.proofs.put_coefficients.Reads as reads
-use Rattle.answer_text.proofs.put_coefficients.Lts as lts
-use Rattle.answer_text.proofs.put_coefficient.Reads as put-coefficient-reads
-
--- what would be read past the end of the entries
-abbrev past : Entry
-past = record { f = Is nan; df = Is nan; rank = 0; inside = false }
 
 abbrev Inv-loop : tie.InvT-loop
 Inv-loop out₀ es at₀ i₀ out at i = (i ≤ 6) × (length es ≡ 7) × (378 ≤ length out₀) × (length out ≡ length out₀) × Put (63 * i) out₀ 0 (coefficientLines i es) out at
@@ -62,7 +50,7 @@ loop-again c =
       l .loop .inv .1,
       l .loop .inv .2,
       p .kept .0 ∙ l .loop .inv .3,
-      coefficients-more (l .loop .i) (g .t2) past h (l .loop .inv .4) (p .ensures),
+      coefficients-more (l .loop .i) (g .t2) h (l .loop .inv .4) (p .ensures),
     )
 
 same-length : tie.Need-same-length Inv-loop μ-loop

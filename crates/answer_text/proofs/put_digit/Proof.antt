@@ -3,9 +3,6 @@ use Rattle.answer_text.proofs.CursorLaws.{single}
 use borrow.Author.Needs.{needs}
 use Rattle.answer_text.proofs.put_digit.Statement.{statement}
 use Rattle.answer_text.proofs.put_digit.Tie as tie
-use Rattle.answer_text.proofs.put_digit.Reads as reads
-use Rattle.answer_text.proofs.put_digit.Lts as lts
-use Rattle.answer_text.proofs.letter.Reads as letter-reads
 
 letter-requires : tie.Need-letter-requires
 letter-requires c κs = search needs

@@ -4,12 +4,6 @@ use Rattle.answer_text.proofs.CursorLaws.{then}
 use borrow.Author.Needs.{needs}
 use Rattle.answer_text.proofs.put_fields.Statement.{statement}
 use Rattle.answer_text.proofs.put_fields.Tie as tie
-use Rattle.answer_text.proofs.put_fields.Reads as reads
-use Rattle.answer_text.proofs.put_fields.Lts as lts
-use Rattle.answer_text.proofs.put_decimal.Reads as put-decimal-reads
-use Rattle.answer_text.proofs.put_mark.Reads as put-mark-reads
-use Rattle.answer_text.proofs.put_number.Reads as put-number-reads
-use Rattle.answer_text.proofs.put_text.Reads as put-text-reads
 
 slice-aggregate-put-text : tie.Need-slice-aggregate-put-text
 slice-aggregate-put-text c = search needs

@@ -2,27 +2,15 @@
 use Prim.Native.Nat.{ℕ}
 use native.Mathlib.Omega.{arith}
 use mathlib.Core.Path.{_≡_, ap}
-use mathlib.Core.Bool.{false}
 use mathlib.Core.List.{List, _++_}
-use lib.Ieee.{nan}
 use lib.ListN.{getD}
-use Rattle.answers.specs.declared.Number.the-variants.{Is}
-use Rattle.answers.specs.declared.Entry.{Entry}
 use Rattle.answers.specs.Answer.{noEntry}
 use Rattle.answer_text.specs.Text.{coefficientLines, testLine, linesText}
 use Rattle.answer_text.proofs.CursorLaws.{then, named}
-use Rattle.answer_text.proofs.TextLaws.{getD-any}
+use Rattle.answer_text.proofs.TextLaws.{past, getD-any}
 use borrow.Author.Needs.{needs}
 use Rattle.answer_text.proofs.put_lines.Statement.{statement}
 use Rattle.answer_text.proofs.put_lines.Tie as tie
-use Rattle.answer_text.proofs.put_lines.Reads as reads
-use Rattle.answer_text.proofs.put_lines.Lts as lts
-use Rattle.answer_text.proofs.put_coefficients.Reads as put-coefficients-reads
-use Rattle.answer_text.proofs.put_test.Reads as put-test-reads
-
--- what would be read past the end of the entries
-abbrev past : Entry
-past = record { f = Is nan; df = Is nan; rank = 0; inside = false }
 
 array-copy-out-contrast : tie.Need-array-copy-out-contrast
 array-copy-out-contrast c = search needs

@@ -6,9 +6,6 @@ use Rattle.answer_text.proofs.CursorLaws.{named}
 use borrow.Author.Needs.{needs}
 use Rattle.answer_text.proofs.put_mark.Statement.{statement}
 use Rattle.answer_text.proofs.put_mark.Tie as tie
-use Rattle.answer_text.proofs.put_mark.Reads as reads
-use Rattle.answer_text.proofs.put_mark.Lts as lts
-use Rattle.answer_text.proofs.put_text.Reads as put-text-reads
 
 slice-aggregate-put-text : tie.Need-slice-aggregate-put-text
 slice-aggregate-put-text c = search needs

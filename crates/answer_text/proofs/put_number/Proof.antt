@@ -6,11 +6,6 @@ use Rattle.answer_text.proofs.CursorLaws.{named}
 use borrow.Author.Needs.{needs}
 use Rattle.answer_text.proofs.put_number.Statement.{statement}
 use Rattle.answer_text.proofs.put_number.Tie as tie
-use Rattle.answer_text.proofs.put_number.Reads as reads
-use Rattle.answer_text.proofs.put_number.Lts as lts
-use Rattle.answer_text.proofs.put_hexadecimal.Reads as put-hexadecimal-reads
-use Rattle.answer_text.proofs.put_text.Reads as put-text-reads
-use Rattle.arithmetic.proofs.plain.to_bits.Reads as to-bits-reads
 
 enum-known-number : tie.Need-enum-known-number
 enum-known-number c = search needs

@@ -4,10 +4,6 @@ use Rattle.answer_text.proofs.CursorLaws.{then}
 use borrow.Author.Needs.{needs}
 use Rattle.answer_text.proofs.put_refusal.Statement.{statement}
 use Rattle.answer_text.proofs.put_refusal.Tie as tie
-use Rattle.answer_text.proofs.put_refusal.Reads as reads
-use Rattle.answer_text.proofs.put_refusal.Lts as lts
-use Rattle.answer_text.proofs.put_decimal.Reads as put-decimal-reads
-use Rattle.answer_text.proofs.put_text.Reads as put-text-reads
 
 slice-aggregate-put-text : tie.Need-slice-aggregate-put-text
 slice-aggregate-put-text c = search needs

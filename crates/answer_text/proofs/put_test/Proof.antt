@@ -6,10 +6,6 @@ use Rattle.answer_text.proofs.TextLaws.{test-unused, test-used}
 use borrow.Author.Needs.{needs}
 use Rattle.answer_text.proofs.put_test.Statement.{statement}
 use Rattle.answer_text.proofs.put_test.Tie as tie
-use Rattle.answer_text.proofs.put_test.Reads as reads
-use Rattle.answer_text.proofs.put_test.Lts as lts
-use Rattle.answer_text.proofs.put_fields.Reads as put-fields-reads
-use Rattle.answer_text.proofs.put_text.Reads as put-text-reads
 
 returns : tie.Need-returns
 returns c = let g = c .before .before .args in test-unused (now (g .out)) (g .at) (g .e) (c .if1 .taken)

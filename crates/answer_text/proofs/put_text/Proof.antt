@@ -9,8 +9,6 @@ use lib.Seq.{sets, take-all}
 use Rattle.answer_text.proofs.CursorLaws.{take-more}
 use Rattle.answer_text.proofs.put_text.Statement.{statement}
 use Rattle.answer_text.proofs.put_text.Tie as tie
-use Rattle.answer_text.proofs.put_text.Reads as reads
-use Rattle.answer_text.proofs.put_text.Lts as lts
 
 abbrev Inv-loop : tie.InvT-loop
 Inv-loop out₀ at text i₀ out i = (i ≤ length text) × (length out ≡ length out₀) × (out ≡ sets out₀ at (take i text))

@@ -1,13 +1,10 @@
 -- `answer_text::text_of` meets its contract.
 use Rattle.answer_text.proofs.CursorLaws.{whole}
 use Rattle.answer_text.proofs.TextLaws.{text-refused, text-accepted}
+use native.Mathlib.Omega.{arith}
 use borrow.Author.Needs.{needs}
 use Rattle.answer_text.proofs.text_of.Statement.{statement}
 use Rattle.answer_text.proofs.text_of.Tie as tie
-use Rattle.answer_text.proofs.text_of.Reads as reads
-use Rattle.answer_text.proofs.text_of.Lts as lts
-use Rattle.answer_text.proofs.put_lines.Reads as put-lines-reads
-use Rattle.answer_text.proofs.put_refusal.Reads as put-refusal-reads
 
 put-refusal-requires : tie.Need-put-refusal-requires
 put-refusal-requires c κs = search needs
@@ -19,7 +16,7 @@ returns : tie.Need-returns
 returns c =
     let put = c .before .before in
     let start = put .before .before .before .before in
-    whole (put .put-refusal .ensures) (text-refused (start .args .number) (start .args .es) (put .before .before .if1 .taken))
+    whole (put .put-refusal .ensures) (omega arith) (text-refused (start .args .number) (start .args .es) (put .before .before .if1 .taken))
 
 put-lines-requires : tie.Need-put-lines-requires
 put-lines-requires c κs = search needs
@@ -31,7 +28,7 @@ returns-2 : tie.Need-returns-2
 returns-2 c =
     let put = c .before .before in
     let start = put .before .before .before .before in
-    whole (put .put-lines .ensures) (text-accepted (start .args .number) (start .args .es) (put .before .before .if1 .left))
+    whole (put .put-lines .ensures) (omega arith) (text-accepted (start .args .number) (start .args .es) (put .before .before .if1 .left))
 
 pub text-of-spec : {M : Type 1} → statement M
 text-of-spec =
