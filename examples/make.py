@@ -1,0 +1,93 @@
+#!/usr/bin/env python3
+"""Writes the example series of this folder as record files (16 bytes a record; see ../README.md).
+
+    python3 make.py
+
+Plain Python, no package. It is not part of the gate: the files are stored.
+"""
+import struct
+
+
+def record(kind, row=0, column=0, value=0.0, count=0):
+    return struct.pack("<BBBBId", kind, row, column, 0, count, value)
+
+
+def transposed(a):
+    return [list(r) for r in zip(*a)]
+
+
+def times(a, b):
+    return [[sum(x * y for x, y in zip(r, c)) for c in zip(*b)] for r in a]
+
+
+def inverse(a):
+    n = len(a)
+    m = [list(map(float, r)) + [float(i == j) for j in range(n)] for i, r in enumerate(a)]
+    for c in range(n):
+        p = max(range(c, n), key=lambda r: abs(m[r][c]))
+        m[c], m[p] = m[p], m[c]
+        m[c] = [x / m[c][c] for x in m[c]]
+        for r in range(n):
+            if r != c:
+                m[r] = [x - m[r][c] * y for x, y in zip(m[r], m[c])]
+    return [r[n:] for r in m]
+
+
+def series(x, z, blocks, theta, sigma2, beta, contrast=(), hypothesis=(), weights=()):
+    """X and Z by rows; blocks as (effects k, groups m); the covariance of the coefficients in residual units is (XᵀΣ⁻¹X)⁻¹."""
+    n = len(x)
+    sigma = [[float(i == j) / (weights[i] if weights else 1.0) for j in range(n)] for i in range(n)]
+    column = 0
+    for (k, m), t in zip(blocks, theta):
+        assert k == 1, "this little script knows blocks of one effect"
+        for g in range(m):
+            for i in range(n):
+                for j in range(n):
+                    sigma[i][j] += t * t * z[i][column + g] * z[j][column + g]
+        column += m
+    phi = inverse(times(times(transposed(x), inverse(sigma)), x))
+    out = [record(1, i, j, v) for i, r in enumerate(x) for j, v in enumerate(r)]
+    out += [record(2, i, j, v) for i, r in enumerate(z) for j, v in enumerate(r) if v != 0]
+    out += [record(3, b, k, count=m) for b, (k, m) in enumerate(blocks)]
+    out += [record(4, i, 0, t) for i, t in enumerate(theta)]
+    out += [record(5, i, 0, w) for i, w in enumerate(weights)]
+    out += [record(6, i, j, v) for i, r in enumerate(phi) for j, v in enumerate(r)]
+    out += [record(7, value=sigma2)]
+    out += [record(8, i, 0, b) for i, b in enumerate(beta)]
+    out += [record(9, i, j, v) for i, r in enumerate(contrast) for j, v in enumerate(r)]
+    out += [record(10, i, 0, h) for i, h in enumerate(hypothesis)]
+    return b"".join(out)
+
+
+# Document 01's example: two pulls, one coefficient, no random effect.
+PULL = b"".join([
+    record(1, 0, 0, 1.0), record(1, 1, 0, 1.0), record(6, value=0.5), record(7, value=8.0), record(8, value=6.0), record(9, value=1.0),
+])
+
+# Two recipes on twelve specimens from four batches, three of each; the batch is the random effect. Is recipe B stronger by more than 2?
+BATCHES = series(
+    x=[[1.0, float(i % 2)] for i in range(12)],
+    z=[[float(i // 3 == g) for g in range(4)] for i in range(12)],
+    blocks=[(1, 4)],
+    theta=[0.75],
+    sigma2=4.0,
+    beta=[41.5, 5.25],
+    contrast=[[0.0, 1.0]],
+    hypothesis=[0.0, 2.0],
+)
+
+# The same with a second grouping, the operator, and both coefficients tested together; the second row says the first again in other units.
+OPERATORS = series(
+    x=[[1.0, float(i % 2)] for i in range(12)],
+    z=[[float(i // 3 == g) for g in range(4)] + [float(i % 5 % 3 == g) for g in range(3)] for i in range(12)],
+    blocks=[(1, 4), (1, 3)],
+    theta=[0.75, 0.5],
+    sigma2=4.0,
+    beta=[41.5, 5.25],
+    contrast=[[1.0, 0.0], [64.0, 0.0], [0.0, 1.0]],
+    hypothesis=[40.0, 2.0],
+)
+
+for name, data in (("pull", PULL), ("batches", BATCHES), ("operators", OPERATORS)):
+    with open(f"{name}.rec", "wb") as f:
+        f.write(data)
