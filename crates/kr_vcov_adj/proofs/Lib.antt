@@ -1,0 +1,2 @@
+-- The laws of the adjustment as one call.
+pub mod PartLaws

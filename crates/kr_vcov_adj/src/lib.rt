@@ -1,0 +1,2 @@
+// The Kenward–Roger covariance adjustment as one call, over lent slices. Nothing here knows a size.
+pub mod adjusted;
