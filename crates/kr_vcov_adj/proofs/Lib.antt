@@ -1,2 +1,4 @@
 -- The laws of the adjustment as one call.
 pub mod PartLaws
+pub mod WorkLaws
+pub mod PrecisionLaws
