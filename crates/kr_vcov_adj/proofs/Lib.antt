@@ -2,3 +2,5 @@
 pub mod PartLaws
 pub mod WorkLaws
 pub mod PrecisionLaws
+pub mod StackLaws
+pub mod InformationLaws

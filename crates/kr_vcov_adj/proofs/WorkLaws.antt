@@ -88,3 +88,14 @@ rest-cleared s a xs ys e ey = ey ∙ ap (λ (b : ℕ). putRow b (length xs - b) 
 pub side-in : (s : ℕ) → s ≤ s * s
 side-in zero = omega arith
 side-in (suc s) = omega (arith, suc-mul s (suc s))
+
+-- the parts of the narrow slice
+pub part-held : (s n p k a len : ℕ) → n ≤ s → p ≤ 6 → 6 * (6 * s) ≤ len → k < 6 → a ≡ part s k → Holds 6 a n p len
+part-held s n p k a len hn hp h l e = rw e (record { wide = hp; fits = omega (arith, block-in (6 * s) k len h l) })
+
+-- p rows of n in part 5
+pub turned-held : (s n p a len : ℕ) → n ≤ s → p ≤ 6 → 6 * (6 * s) ≤ len → a ≡ part s 5 → Holds n a p n len
+turned-held s n p a len hn hp h e = rw e (record { wide = omega arith; fits = omega (arith, rows-in p 6 n hp) })
+
+pub turned-apart : (s n p k a b : ℕ) → n ≤ s → p ≤ 6 → k < 5 → a ≡ part s 5 → b ≡ part s k → Apart a (p * n) b (n * 6)
+turned-apart s n p k a b hn hp l ea eb = rw (ea, eb) (record { apart = inr (omega (arith, suc-mul k (6 * s), mul-le-mul-right (6 * s) l)) })

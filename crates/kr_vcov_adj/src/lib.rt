@@ -2,3 +2,4 @@
 pub mod adjusted;
 pub mod precision;
 pub mod squares;
+pub mod stacks;
