@@ -4,3 +4,5 @@ pub mod WorkLaws
 pub mod PrecisionLaws
 pub mod StackLaws
 pub mod InformationLaws
+pub mod ReadLaws
+pub mod CallLaws

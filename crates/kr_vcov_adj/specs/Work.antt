@@ -2,14 +2,15 @@
 -- Document 01: "Σ = sum of factor × G; S = L⁻ᵀL⁻¹ from its Cholesky L. H_r = G_r S". The work slice has six squares of s rows of s numbers: Σ in square 0, S in square 1, H_r in
 -- square 2 + r. The narrow slice has six parts of s rows of 6 numbers: S X in part 0, O_r in part 1 + r, O_rᵀS in part 5, by rows of n.
 use Prim.Native.Nat.{ℕ, _+_, _*_, _≤_}
-use mathlib.Core.Bool.{cond}
+use mathlib.Core.Bool.{Bool, cond}
 use mathlib.Core.List.{List}
 use lib.Dec.{eqb}
 use lib.ListN.{replicate}
 use lib.Ieee.{Float}
 use Rattle.arithmetic.specs.Numbers.{plusZero}
 use Rattle.algebra.specs.Fold.{fold}
-use Rattle.large.specs.Slab.{putRows}
+use Rattle.large.specs.Slab.{rowsAt, putRows}
+use Rattle.adjustment.specs.declared.Block.{Block}
 use Rattle.adjustment.specs.Covariance.{Rows, Design, matrices, gRows, sigmaRows}
 use Rattle.adjustment.specs.Information.{hRows}
 use Rattle.adjustment.specs.Adjusted.{precisionOf}
@@ -28,6 +29,11 @@ pub record Sized (n p s work narrow : ℕ) : Type 0 where
   pub squares : 6 * (s * s) ≤ work
   pub parts : 6 * (6 * s) ≤ narrow
 
+-- the series' design, as it is lent: X and Z by slices with a row stride each, the weights by a slice
+abbrev pub designOf : ℕ → ℕ → List Float → ℕ → List Float → ℕ → ℕ → Bool → List Float → List Block → ℕ → List Float → Design
+designOf n p x xs z zs columns weighted weights blocks count theta =
+    record { n = n; p = p; x = rowsAt xs 0 n p x; z = rowsAt zs 0 n columns z; weighted = weighted; weights = weights; blocks = blocks; count = count; theta = theta }
+
 -- nothing but +0
 unfoldable pub zeros : ℕ → List Float
 zeros len = replicate len plusZero
@@ -40,9 +46,13 @@ putStack s b o n c k f xs = fold 0 k (λ r ys. putRows s ((o + r) * b) n c (f r)
 unfoldable pub precisionIn : ℕ → ℕ → Design → List Float
 precisionIn s len d = putRows s (square s 1) (d .n) (d .n) (precisionOf d) (putRows s (square s 0) (d .n) (d .n) (sigmaRows d) (zeros len))
 
+-- each H_r put into its square of xs, given S
+unfoldable pub withHs : ℕ → Design → Rows → List Float → List Float
+withHs s d sm xs = putStack s (s * s) 2 (d .n) (d .n) (matrices d) (λ r. hRows (d .n) (gRows d r) sm) xs
+
 -- the whole work slice of len numbers, after an adjustment that is accepted: Σ, S, each H_r, and zeros everywhere else
 unfoldable pub workOf : ℕ → ℕ → Design → List Float
-workOf s len d = putStack s (s * s) 2 (d .n) (d .n) (matrices d) (λ r. hRows (d .n) (gRows d r) (precisionOf d)) (precisionIn s len d)
+workOf s len d = withHs s d (precisionOf d) (precisionIn s len d)
 
 -- what is lent for an answer: the new contents where the number says accepted, 0, and the other where it says refused
 unfoldable pub accepted : {A : Type 0} → ℕ → A → A → A
