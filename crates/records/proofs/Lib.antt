@@ -2,4 +2,5 @@
 pub mod Laws
 pub mod Slots
 pub mod Sheets
+pub mod Limits
 pub mod Examples

@@ -375,7 +375,7 @@ const SATTERTHWAITE_FIRST: [usize; 33] = [
     228,
 ];
 
-fn first_slot(call: bool, kind: u8) -> usize
+pub fn first_slot(call: bool, kind: u8) -> usize
     requires { ⌜ kind < 33 ⌝ }
     ensures { λ r. ⌜ r ≡ firstSlot (tableOf call) kind ⌝ }
 {

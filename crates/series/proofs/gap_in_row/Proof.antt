@@ -1,0 +1,57 @@
+use Rattle.series.proofs.gap_in_row.Statement.{statement}
+use Rattle.series.proofs.gap_in_row.Tie as tie
+use Rattle.series.proofs.gap_in_row.Reads as reads
+use Rattle.series.proofs.gap_in_row.Lts as lts
+
+abbrev Inv-loop : tie.InvT-loop
+Inv-loop flags at m j₀ j = ?
+
+abbrev μ-loop : tie.MeasureT-loop
+μ-loop flags at m j₀ j = ?
+
+-- src/lib.rt:120:5
+loop-holds : tie.Need-loop-holds Inv-loop μ-loop
+loop-holds c = ?
+
+-- src/lib.rt:121:19
+add-if1 : tie.Need-add-if1 Inv-loop μ-loop
+add-if1 c = ?
+
+-- src/lib.rt:121:13
+element-copy-out-if1 : tie.Need-element-copy-out-if1 Inv-loop μ-loop
+element-copy-out-if1 c = ?
+
+-- src/lib.rt:122:13
+returns : tie.Need-returns Inv-loop μ-loop
+returns c = ?
+
+-- src/lib.rt:124:9
+add-j : tie.Need-add-j Inv-loop μ-loop
+add-j c = ?
+
+-- src/lib.rt:120:5
+loop-less : tie.Need-loop-less Inv-loop μ-loop
+loop-less c = ?
+
+-- src/lib.rt:120:5
+loop-again : tie.Need-loop-again Inv-loop μ-loop
+loop-again c = ?
+
+-- src/lib.rt:115:1
+returns-2 : tie.Need-returns-2 Inv-loop μ-loop
+returns-2 c = ?
+
+pub gap-in-row-spec : {M : Type 1} → statement M
+gap-in-row-spec =
+    tie.close
+    (tie.spec
+    Inv-loop
+    μ-loop
+    loop-holds
+    add-if1
+    element-copy-out-if1
+    returns
+    add-j
+    loop-less
+    loop-again
+    returns-2)

@@ -1,0 +1,57 @@
+-- The checks as the code makes them, on the flags and the sheet of crates/records/specs/Sheet.antt and on an array of blocks.
+use Prim.Native.Nat.{ℕ, _+_, _*_}
+use mathlib.Core.Bool.{Bool, true, false, not, cond, _&&_, _||_}
+use mathlib.Core.List.{List}
+use lib.Dec.{eqb, ltb}
+use lib.ListN.{getD}
+use lib.Ieee.{Float, nan, le}
+use Rattle.arithmetic.specs.Numbers.{plusZero, isZero}
+use Rattle.algebra.specs.Table.{row, table}
+use Rattle.adjustment.specs.declared.Block.{Block}
+use Rattle.adjustment.specs.Blocks.{blockAt}
+use Rattle.adjustment.specs.Covariance.{Rows}
+use Rattle.records.specs.Scan.{any, total}
+use Rattle.records.specs.Kinds.{kindAt, kenwardRoger}
+use Rattle.records.specs.Sheet.{firstSlot}
+use Rattle.records.specs.Series.{parametersOf}
+use Rattle.series.specs.declared.Sizes.{Sizes}
+use Rattle.series.specs.Gathered.{tableFor}
+
+-- one of the m flags from a place on is not set; and one of r rows of m, at this distance
+unfoldable pub gapInRow : List Bool → ℕ → ℕ → Bool
+gapInRow flags at m = any m (λ c. not (getD flags (at + c) false))
+
+unfoldable pub gaps : List Bool → ℕ → ℕ → ℕ → ℕ → Bool
+gaps flags at stride r m = any r (λ i. gapInRow flags (at + i * stride) m)
+
+-- kind k misses a cell that the sizes leave it; Z's may be absent
+unfoldable pub missingIn : List Bool → Sizes → ℕ → Bool
+missingIn flags z k =
+    not (eqb k 2) && gaps flags (firstSlot kenwardRoger k) (kindAt kenwardRoger k .columns) (kindAt (tableFor z) k .rows) (kindAt (tableFor z) k .columns)
+
+-- one of the m numbers from a place on is not zero; of r rows of m; and is not above zero
+unfoldable pub nonzeroInRow : List Float → ℕ → ℕ → Bool
+nonzeroInRow sheet at m = any m (λ c. not (isZero (getD sheet (at + c) nan)))
+
+unfoldable pub nonzeros : List Float → ℕ → ℕ → ℕ → ℕ → Bool
+nonzeros sheet at stride r m = any r (λ i. nonzeroInRow sheet (at + i * stride) m)
+
+unfoldable pub notPositive : List Float → ℕ → ℕ → Bool
+notPositive sheet at m = any m (λ i. le (getD sheet (at + i) nan) plusZero)
+
+-- a block of other than 1 or 2 effects or without a group
+unfoldable pub wrongBlock : Block → Bool
+wrongBlock b = not (eqb (b .effects) 1 || eqb (b .effects) 2) || eqb (b .groups) 0
+
+unfoldable pub parametersIn : List Block → ℕ → ℕ
+parametersIn blocks n = total n (λ b. parametersOf (blockAt blocks b))
+
+unfoldable pub columnsIn : List Block → ℕ → ℕ
+columnsIn blocks n = total n (λ b. blockAt blocks b .groups * blockAt blocks b .effects)
+
+-- the numbers of the sheet from a place on: n of C, and r rows of c, of six rows of six
+unfoldable pub numbersAt : List Float → ℕ → ℕ → ℕ → List Float
+numbersAt sheet C at n = row plusZero C n (λ i. getD sheet (at + i) nan)
+
+unfoldable pub sixAt : List Float → ℕ → ℕ → ℕ → Rows
+sixAt sheet at r c = table plusZero 6 6 r c (λ i j. getD sheet (at + i * 6 + j) nan)

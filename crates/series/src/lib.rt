@@ -1,0 +1,345 @@
+// A Kenward–Roger series as its record file gives it, and the refusals that come before any computing (kenward_roger).
+ghost use mathlib.Core.Path.{_≡_};
+ghost use mathlib.Core.Bool.{Bool, true, false, not, cond, _&&_, _||_};
+ghost use Prim.Native.Nat.{ℕ, _+_, _*_, _%_, _≤_, _<_, max};
+ghost use mathlib.Core.List.{List};
+ghost use lib.Dec.{eqb, ltb};
+ghost use lib.ListN.{length, getD};
+ghost use lib.Ieee.{nan, le};
+ghost use Rattle.arithmetic.specs.Numbers.{plusZero};
+ghost use Rattle.algebra.specs.Table.{row};
+ghost use Rattle.adjustment.specs.Blocks.{noBlock, blockAt};
+ghost use Rattle.records.specs.Scan.{any, total};
+ghost use Rattle.records.specs.Kinds.{kindAt, kenwardRoger};
+ghost use Rattle.records.specs.File.{count, columnOf, countOf, isCell, badRecord, again, beyond};
+ghost use Rattle.records.specs.Sheet.{flagsAfter, sheetAfter};
+ghost use Rattle.records.specs.Series.{blockOf, incomplete, badSize, misfit, refusal, sigma2, phi, contrast, beta, betaH, design, coefficients};
+ghost use Rattle.series.specs.Gathered.{sizesOf, tableFor, Small, malformedFile};
+ghost use Rattle.series.specs.Checks.{gapInRow, gaps, missingIn, nonzeroInRow, nonzeros, notPositive, wrongBlock, parametersIn, columnsIn, numbersAt, sixAt};
+
+// The sizes of a series: specimens, coefficients, columns of Z, blocks, thetas, contrast rows; whether there are weights, and β_H beside a contrast.
+pub struct Sizes {
+    pub specimens: usize,
+    pub coefficients: usize,
+    pub columns: usize,
+    pub blocks: usize,
+    pub thetas: usize,
+    pub contrasts: usize,
+    pub weighted: bool,
+    pub hypothesis: bool,
+}
+
+// A series has a specimen and a coefficient.
+fn at_least_one(n: usize) -> usize
+    ensures { λ r. ⌜ r ≡ max 1 n ⌝ }
+{
+    if n < 1 { 1 } else { n }
+}
+
+pub fn sizes_of(s: &[u8]) -> Sizes
+    ensures { λ r. ⌜ r ≡ sizesOf (now (s .entry)) ⌝ }
+{
+    let n = records::rows_of(s, 1);
+    let p = records::columns_of(s, 1);
+    let columns = records::columns_of(s, 2);
+    let blocks = records::rows_of(s, 3);
+    let thetas = records::rows_of(s, 4);
+    let weights = records::rows_of(s, 5);
+    let contrasts = records::rows_of(s, 9);
+    let hypotheses = records::rows_of(s, 10);
+    Sizes {
+        specimens: at_least_one(n),
+        coefficients: at_least_one(p),
+        columns: columns,
+        blocks: blocks,
+        thetas: thetas,
+        contrasts: contrasts,
+        weighted: weights != 0,
+        hypothesis: (hypotheses != 0) & (contrasts != 0),
+    }
+}
+
+fn given(b: bool, n: usize) -> usize
+    ensures { λ r. ⌜ r ≡ cond b n 0 ⌝ }
+{
+    if b { n } else { 0 }
+}
+
+// What the sizes leave a kind: none, X, Z, block, theta, weight, Φ, sigma2, β, contrast, β_H.
+fn size_of(z: Sizes, kind: u8) -> records::Kind
+    ensures { λ r. ⌜ r ≡ kindAt (tableFor z) kind ⌝ }
+{
+    let n = z.specimens;
+    let p = z.coefficients;
+    let none = records::cells(0, 0, 0);
+    let table = [
+        none,
+        records::cells(1, n, p),
+        records::cells(1, n, z.columns),
+        records::blocks(z.blocks),
+        records::cells(1, z.thetas, 1),
+        records::cells(1, given(z.weighted, n), 1),
+        records::cells(1, p, p),
+        records::cells(1, 1, 1),
+        records::cells(1, p, 1),
+        records::cells(1, z.contrasts, p),
+        records::cells(1, given(z.hypothesis, p), 1),
+    ];
+    let k = kind as usize;
+    if k < 11 { table[k] } else { none }
+}
+
+// Record i names a cell that the sizes do not leave its kind.
+fn beyond_at(z: Sizes, s: &[u8], i: usize) -> bool
+    requires { ⌜ i < count (now s) ⌝ }
+    ensures { λ r. ⌜ r ≡ beyond (tableFor z) (now (s .entry)) i ⌝ }
+{
+    records::out_of(size_of(z, records::kind_at(s, i)), s, i)
+}
+
+fn any_beyond(z: Sizes, s: &[u8]) -> bool
+    ensures { λ r. ⌜ r ≡ any (count (now (s .entry))) (beyond (tableFor z) (now (s .entry))) ⌝ }
+{
+    let n = s.len() / 16;
+    let mut i = 0;
+    while i < n {
+        if beyond_at(z, s, i) {
+            return true;
+        }
+        i += 1;
+    }
+    false
+}
+
+// One of the m flags from `at` on is not set.
+fn gap_in_row(flags: &[bool; 835], at: usize, m: usize) -> bool
+    requires { ⌜ at + m ≤ 835 ⌝ }
+    ensures { λ b. ⌜ b ≡ gapInRow (now (flags .entry)) at m ⌝ }
+{
+    let mut j = 0;
+    while j < m {
+        if !flags[at + j] {
+            return true;
+        }
+        j += 1;
+    }
+    false
+}
+
+// Of r rows of m flags.
+fn any_gap(flags: &[bool; 835], at: usize, stride: usize, r: usize, m: usize) -> bool
+    requires { ⌜ (at + r * stride ≤ 835) × (m ≤ stride) ⌝ }
+    ensures { λ b. ⌜ b ≡ gaps (now (flags .entry)) at stride r m ⌝ }
+{
+    let mut i = 0;
+    while i < r {
+        if gap_in_row(flags, at + i * stride, m) {
+            return true;
+        }
+        i += 1;
+    }
+    false
+}
+
+// Kind k misses a cell. Of Z, absent cells are zero.
+fn missing_in(flags: &[bool; 835], z: Sizes, k: u8) -> bool
+    requires { ⌜ (k < 11) × Small z ⌝ }
+    ensures { λ b. ⌜ b ≡ missingIn (now (flags .entry)) z k ⌝ }
+{
+    if k == 2 {
+        return false;
+    }
+    let size = size_of(z, k);
+    let kind = records::kind_of(false, k);
+    any_gap(flags, records::first_slot(false, k), kind.columns, size.rows, size.columns)
+}
+
+fn any_missing(flags: &[bool; 835], z: Sizes) -> bool
+    requires { ⌜ Small z ⌝ }
+    ensures { λ b. ⌜ b ≡ any 11 (missingIn (now (flags .entry)) z) ⌝ }
+{
+    let mut k: u8 = 0;
+    while k < 11 {
+        if missing_in(flags, z, k) {
+            return true;
+        }
+        k += 1;
+    }
+    false
+}
+
+// The file is no set of records of a series: number 2.
+fn malformed(s: &[u8]) -> bool
+    ensures { λ r. ⌜ r ≡ malformedFile (now (s .entry)) ⌝ }
+{
+    if s.len() % 16 != 0 {
+        return true;
+    }
+    if records::any_bad(false, s) {
+        return true;
+    }
+    if records::any_again(false, s) {
+        return true;
+    }
+    let z = sizes_of(s);
+    if any_beyond(z, s) {
+        return true;
+    }
+    let flags = records::flags_of(false, s);
+    any_missing(&flags, z)
+}
+
+// Record i is of block b.
+fn is_block(s: &[u8], b: usize, i: usize) -> bool
+    requires { ⌜ i < count (now s) ⌝ }
+    ensures { λ r. ⌜ r ≡ isCell kenwardRoger (now (s .entry)) 3 0 b 0 i ⌝ }
+{
+    if records::kind_at(s, i) != 3 {
+        return false;
+    }
+    records::row_at(s, i) == b
+}
+
+fn effects_of(s: &[u8], b: usize) -> usize
+    ensures { λ r. ⌜ (r ≡ blockOf (now (s .entry)) b .effects) × (r ≤ 255) ⌝ }
+{
+    let n = s.len() / 16;
+    let mut v: usize = 0;
+    let mut i = 0;
+    while i < n {
+        if is_block(s, b, i) {
+            v = records::column_at(s, i);
+        }
+        i += 1;
+    }
+    v
+}
+
+fn groups_of(s: &[u8], b: usize) -> usize
+    ensures { λ r. ⌜ (r ≡ blockOf (now (s .entry)) b .groups) × (r ≤ 4294967295) ⌝ }
+{
+    let n = s.len() / 16;
+    let mut v: usize = 0;
+    let mut i = 0;
+    while i < n {
+        if is_block(s, b, i) {
+            v = records::count_at(s, i);
+        }
+        i += 1;
+    }
+    v
+}
+
+pub fn block_of(s: &[u8], b: usize) -> adjustment::Block
+    ensures { λ r. ⌜ (r ≡ blockOf (now (s .entry)) b) × (r .effects ≤ 255) × (r .groups ≤ 4294967295) ⌝ }
+{
+    adjustment::Block {
+        effects: effects_of(s, b),
+        groups: groups_of(s, b),
+    }
+}
+
+// The first n blocks.
+pub fn blocks_of(s: &[u8], n: usize) -> [adjustment::Block; 3]
+    requires { ⌜ n ≤ 3 ⌝ }
+    ensures { λ r. ⌜ (r ≡ row noBlock 3 n (blockOf (now (s .entry)))) × ((b : ℕ) → (blockAt r b .effects ≤ 255) × (blockAt r b .groups ≤ 4294967295)) ⌝ }
+{
+    let mut blocks = [adjustment::Block { effects: 0, groups: 0 }; 3];
+    let mut b = 0;
+    while b < n {
+        blocks[b] = block_of(s, b);
+        b += 1;
+    }
+    blocks
+}
+
+fn wrong_block(b: adjustment::Block) -> bool
+    ensures { λ r. ⌜ r ≡ wrongBlock b ⌝ }
+{
+    !((b.effects == 1) | (b.effects == 2)) | (b.groups == 0)
+}
+
+fn any_wrong(blocks: [adjustment::Block; 3], n: usize) -> bool
+    requires { ⌜ n ≤ 3 ⌝ }
+    ensures { λ r. ⌜ r ≡ any n (λ b. wrongBlock (blockAt blocks b)) ⌝ }
+{
+    let mut b = 0;
+    while b < n {
+        if wrong_block(blocks[b]) {
+            return true;
+        }
+        b += 1;
+    }
+    false
+}
+
+// The parameters of the first n blocks, and their columns of Z.
+fn parameters_of(blocks: [adjustment::Block; 3], n: usize) -> usize
+    requires { ⌜ (n ≤ 3) × ((b : ℕ) → (blockAt blocks b .effects ≤ 255) × (blockAt blocks b .groups ≤ 4294967295)) ⌝ }
+    ensures { λ r. ⌜ r ≡ parametersIn blocks n ⌝ }
+{
+    let mut t: usize = 0;
+    let mut b = 0;
+    while b < n {
+        let k = blocks[b].effects;
+        t = t + k * (k + 1) / 2;
+        b += 1;
+    }
+    t
+}
+
+fn columns_of(blocks: [adjustment::Block; 3], n: usize) -> usize
+    requires { ⌜ (n ≤ 3) × ((b : ℕ) → (blockAt blocks b .effects ≤ 255) × (blockAt blocks b .groups ≤ 4294967295)) ⌝ }
+    ensures { λ r. ⌜ r ≡ columnsIn blocks n ⌝ }
+{
+    let mut t: usize = 0;
+    let mut b = 0;
+    while b < n {
+        t = t + blocks[b].groups * blocks[b].effects;
+        b += 1;
+    }
+    t
+}
+
+// One of the m numbers from `at` on is not zero; of r rows of m; and is not above zero.
+fn nonzero_in_row(sheet: &[f64; 835], at: usize, m: usize) -> bool
+    requires { ⌜ at + m ≤ 835 ⌝ }
+    ensures { λ b. ⌜ b ≡ nonzeroInRow (now (sheet .entry)) at m ⌝ }
+{
+    let mut j = 0;
+    while j < m {
+        if !arithmetic::plain::is_zero(sheet[at + j]) {
+            return true;
+        }
+        j += 1;
+    }
+    false
+}
+
+fn any_nonzero(sheet: &[f64; 835], at: usize, stride: usize, r: usize, m: usize) -> bool
+    requires { ⌜ (at + r * stride ≤ 835) × (m ≤ stride) ⌝ }
+    ensures { λ b. ⌜ b ≡ nonzeros (now (sheet .entry)) at stride r m ⌝ }
+{
+    let mut i = 0;
+    while i < r {
+        if nonzero_in_row(sheet, at + i * stride, m) {
+            return true;
+        }
+        i += 1;
+    }
+    false
+}
+
+fn any_not_positive(sheet: &[f64; 835], at: usize, m: usize) -> bool
+    requires { ⌜ at + m ≤ 835 ⌝ }
+    ensures { λ b. ⌜ b ≡ notPositive (now (sheet .entry)) at m ⌝ }
+{
+    let mut j = 0;
+    while j < m {
+        if sheet[at + j] <= 0.0 {
+            return true;
+        }
+        j += 1;
+    }
+    false
+}
