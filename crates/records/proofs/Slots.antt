@@ -183,7 +183,7 @@ few true = omega arith
 few false = omega arith
 
 -- what passes for the first 33 kinds and for one that is not read passes for each
-each-kind : (call : Bool) (p : Kind → Bool) → any 33 (λ k. not (p (kindAt (tableOf call) k))) ≡ false → p unread ≡ true → (k : ℕ) → p (kindAt (tableOf call) k) ≡ true
+pub each-kind : (call : Bool) (p : Kind → Bool) → any 33 (λ k. not (p (kindAt (tableOf call) k))) ≡ false → p unread ≡ true → (k : ℕ) → p (kindAt (tableOf call) k) ≡ true
 each-kind call p e f k = go (decLt k 33)
   where
     go : Dec (k < 33) → p (kindAt (tableOf call) k) ≡ true

@@ -1,7 +1,7 @@
 -- The checks as the code makes them, on the flags and the sheet of crates/records/specs/Sheet.antt and on an array of blocks.
 use Prim.Native.Nat.{ℕ, _+_, _*_}
 use mathlib.Core.Bool.{Bool, true, false, not, cond, _&&_, _||_}
-use mathlib.Core.List.{List}
+use mathlib.Core.List.{List, [], _∷_}
 use lib.Dec.{eqb, ltb}
 use lib.ListN.{getD}
 use lib.Ieee.{Float, nan, le}
@@ -10,7 +10,7 @@ use Rattle.algebra.specs.Table.{row, table}
 use Rattle.adjustment.specs.declared.Block.{Block}
 use Rattle.adjustment.specs.Blocks.{blockAt}
 use Rattle.adjustment.specs.Covariance.{Rows}
-use Rattle.records.specs.Scan.{any, total}
+use Rattle.records.specs.Scan.{any, total, first}
 use Rattle.records.specs.Kinds.{kindAt, kenwardRoger}
 use Rattle.records.specs.Sheet.{firstSlot}
 use Rattle.records.specs.Series.{parametersOf}
@@ -55,3 +55,27 @@ numbersAt sheet C at n = row plusZero C n (λ i. getD sheet (at + i) nan)
 
 unfoldable pub sixAt : List Float → ℕ → ℕ → ℕ → Rows
 sixAt sheet at r c = table plusZero 6 6 r c (λ i j. getD sheet (at + i * 6 + j) nan)
+
+-- refusals 3, and 7, of an array of n blocks
+unfoldable pub badSizeIn : List Block → ℕ → Bool
+badSizeIn blocks n = any n (λ b. wrongBlock (blockAt blocks b)) || ltb 3 (parametersIn blocks n)
+
+unfoldable pub misfitIn : Sizes → List Block → Bool
+misfitIn z blocks = not (eqb (columnsIn blocks (z .blocks)) (z .columns)) || not (eqb (z .thetas) (parametersIn blocks (z .blocks)))
+
+-- refusals 6 and 8, on the sheet: weights stand from 726 on, the contrast from 793 on
+unfoldable pub badWeightIn : Sizes → List Float → Bool
+badWeightIn z sheet = z .weighted && notPositive sheet 726 (z .specimens)
+
+unfoldable pub zeroContrastIn : Sizes → List Float → Bool
+zeroContrastIn z sheet = not (eqb (z .contrasts) 0) && not (nonzeros sheet 793 6 (z .contrasts) (z .coefficients))
+
+-- refusals 5 to 8, lowest number first; sigma2 stands at 786
+unfoldable pub lateRefusal : Sizes → List Block → List Float → ℕ
+lateRefusal z blocks sheet =
+    first
+    ((5, le (getD sheet 786 nan) plusZero)
+    ∷ (6, badWeightIn z sheet)
+    ∷ (7, misfitIn z blocks)
+    ∷ (8, zeroContrastIn z sheet)
+    ∷ [])

@@ -15,7 +15,7 @@ ghost use Rattle.records.specs.File.{count, columnOf, countOf, isCell, badRecor
 ghost use Rattle.records.specs.Sheet.{flagsAfter, sheetAfter};
 ghost use Rattle.records.specs.Series.{blockOf, incomplete, badSize, misfit, refusal, sigma2, phi, contrast, beta, betaH, design, coefficients};
 ghost use Rattle.series.specs.Gathered.{sizesOf, tableFor, Small, malformedFile};
-ghost use Rattle.series.specs.Checks.{gapInRow, gaps, missingIn, nonzeroInRow, nonzeros, notPositive, wrongBlock, parametersIn, columnsIn, numbersAt, sixAt};
+ghost use Rattle.series.specs.Checks.{gapInRow, gaps, missingIn, nonzeroInRow, nonzeros, notPositive, wrongBlock, parametersIn, columnsIn, numbersAt, sixAt, badSizeIn, misfitIn, badWeightIn, zeroContrastIn, lateRefusal};
 
 // The sizes of a series: specimens, coefficients, columns of Z, blocks, thetas, contrast rows; whether there are weights, and β_H beside a contrast.
 pub struct Sizes {
@@ -151,7 +151,13 @@ fn missing_in(flags: &[bool; 835], z: Sizes, k: u8) -> bool
     }
     let size = size_of(z, k);
     let kind = records::kind_of(false, k);
-    any_gap(flags, records::first_slot(false, k), kind.columns, size.rows, size.columns)
+    any_gap(
+        flags,
+        records::first_slot(false, k),
+        kind.columns,
+        size.rows,
+        size.columns,
+    )
 }
 
 fn any_missing(flags: &[bool; 835], z: Sizes) -> bool
@@ -244,7 +250,10 @@ pub fn blocks_of(s: &[u8], n: usize) -> [adjustment::Block; 3]
     requires { ⌜ n ≤ 3 ⌝ }
     ensures { λ r. ⌜ (r ≡ row noBlock 3 n (blockOf (now (s .entry)))) × ((b : ℕ) → (blockAt r b .effects ≤ 255) × (blockAt r b .groups ≤ 4294967295)) ⌝ }
 {
-    let mut blocks = [adjustment::Block { effects: 0, groups: 0 }; 3];
+    let mut blocks = [adjustment::Block {
+        effects: 0,
+        groups: 0,
+    }; 3];
     let mut b = 0;
     while b < n {
         blocks[b] = block_of(s, b);
@@ -342,4 +351,218 @@ fn any_not_positive(sheet: &[f64; 835], at: usize, m: usize) -> bool
         j += 1;
     }
     false
+}
+
+// A block outside its limits, or more than three block parameters: number 3.
+fn bad_size(blocks: [adjustment::Block; 3], n: usize) -> bool
+    requires { ⌜ (n ≤ 3) × ((b : ℕ) → (blockAt blocks b .effects ≤ 255) × (blockAt blocks b .groups ≤ 4294967295)) ⌝ }
+    ensures { λ r. ⌜ r ≡ badSizeIn blocks n ⌝ }
+{
+    if any_wrong(blocks, n) {
+        return true;
+    }
+    3 < parameters_of(blocks, n)
+}
+
+// A weight that is not above zero: number 6.
+fn bad_weight(z: Sizes, sheet: &[f64; 835]) -> bool
+    requires { ⌜ Small z ⌝ }
+    ensures { λ r. ⌜ r ≡ badWeightIn z (now (sheet .entry)) ⌝ }
+{
+    if z.weighted {
+        let n = z.specimens;
+        return any_not_positive(sheet, 726, n);
+    }
+    false
+}
+
+// The blocks do not fit Z's columns or the thetas: number 7.
+fn misfit(z: Sizes, blocks: [adjustment::Block; 3]) -> bool
+    requires { ⌜ Small z × ((b : ℕ) → (blockAt blocks b .effects ≤ 255) × (blockAt blocks b .groups ≤ 4294967295)) ⌝ }
+    ensures { λ r. ⌜ r ≡ misfitIn z blocks ⌝ }
+{
+    let n = z.blocks;
+    let columns = columns_of(blocks, n);
+    if columns != z.columns {
+        return true;
+    }
+    let parameters = parameters_of(blocks, n);
+    z.thetas != parameters
+}
+
+// A contrast whose every cell is zero: number 8.
+fn zero_contrast(z: Sizes, sheet: &[f64; 835]) -> bool
+    requires { ⌜ Small z ⌝ }
+    ensures { λ r. ⌜ r ≡ zeroContrastIn z (now (sheet .entry)) ⌝ }
+{
+    let rows = z.contrasts;
+    if rows == 0 {
+        return false;
+    }
+    let columns = z.coefficients;
+    !any_nonzero(sheet, 793, 6, rows, columns)
+}
+
+// Numbers 5 to 8.
+fn late_refusal(z: Sizes, blocks: [adjustment::Block; 3], sheet: &[f64; 835]) -> u32
+    requires { ⌜ Small z × ((b : ℕ) → (blockAt blocks b .effects ≤ 255) × (blockAt blocks b .groups ≤ 4294967295)) ⌝ }
+    ensures { λ r. ⌜ r ≡ lateRefusal z blocks (now (sheet .entry)) ⌝ }
+{
+    if sheet[786] <= 0.0 {
+        return 5;
+    }
+    if bad_weight(z, sheet) {
+        return 6;
+    }
+    if misfit(z, blocks) {
+        return 7;
+    }
+    if zero_contrast(z, sheet) {
+        return 8;
+    }
+    0
+}
+
+// The number with which a file is refused before anything is computed, 0 where it is not.
+pub fn refusal(s: &[u8]) -> u32
+    ensures { λ r. ⌜ r ≡ refusal (now (s .entry)) ⌝ }
+{
+    if malformed(s) {
+        return 2;
+    }
+    let z = sizes_of(s);
+    let n = z.blocks;
+    let blocks = blocks_of(s, n);
+    if bad_size(blocks, n) {
+        return 3;
+    }
+    if records::any_not_finite(s) {
+        return 4;
+    }
+    let sheet = records::sheet_of(false, s);
+    late_refusal(z, blocks, &sheet)
+}
+
+// The numbers of the sheet from `at` on, as arrays of three, six and twenty-four.
+fn three_at(sheet: &[f64; 835], at: usize, n: usize) -> [f64; 3]
+    requires { ⌜ (at + n ≤ 835) × (n ≤ 3) ⌝ }
+    ensures { λ r. ⌜ r ≡ numbersAt (now (sheet .entry)) 3 at n ⌝ }
+{
+    let mut out = [0.0; 3];
+    let mut i = 0;
+    while i < n {
+        out[i] = sheet[at + i];
+        i += 1;
+    }
+    out
+}
+
+fn six_at(sheet: &[f64; 835], at: usize, n: usize) -> [f64; 6]
+    requires { ⌜ (at + n ≤ 835) × (n ≤ 6) ⌝ }
+    ensures { λ r. ⌜ r ≡ numbersAt (now (sheet .entry)) 6 at n ⌝ }
+{
+    let mut out = [0.0; 6];
+    let mut i = 0;
+    while i < n {
+        out[i] = sheet[at + i];
+        i += 1;
+    }
+    out
+}
+
+fn twenty_four_at(sheet: &[f64; 835], at: usize, n: usize) -> [f64; 24]
+    requires { ⌜ (at + n ≤ 835) × (n ≤ 24) ⌝ }
+    ensures { λ r. ⌜ r ≡ numbersAt (now (sheet .entry)) 24 at n ⌝ }
+{
+    let mut out = [0.0; 24];
+    let mut i = 0;
+    while i < n {
+        out[i] = sheet[at + i];
+        i += 1;
+    }
+    out
+}
+
+// r rows of c, six apart.
+fn square_at(sheet: &[f64; 835], at: usize, r: usize, c: usize) -> [[f64; 6]; 6]
+    requires { ⌜ (at + r * 6 ≤ 835) × (r ≤ 6) × (c ≤ 6) ⌝ }
+    ensures { λ m. ⌜ m ≡ sixAt (now (sheet .entry)) at r c ⌝ }
+{
+    let mut out = [[0.0; 6]; 6];
+    let mut i = 0;
+    while i < r {
+        out[i] = six_at(sheet, at + i * 6, c);
+        i += 1;
+    }
+    out
+}
+
+// What a file that is not refused gives: Φ, the contrast, β, β_H, sigma2, the weights and the thetas.
+pub fn phi_of(s: &[u8]) -> [[f64; 6]; 6]
+    requires { ⌜ refusal (now s) ≡ 0 ⌝ }
+    ensures { λ r. ⌜ r ≡ phi (now (s .entry)) ⌝ }
+{
+    let z = sizes_of(s);
+    let p = z.coefficients;
+    let sheet = records::sheet_of(false, s);
+    square_at(&sheet, 750, p, p)
+}
+
+pub fn contrast_of(s: &[u8]) -> [[f64; 6]; 6]
+    requires { ⌜ refusal (now s) ≡ 0 ⌝ }
+    ensures { λ r. ⌜ r ≡ contrast (now (s .entry)) ⌝ }
+{
+    let z = sizes_of(s);
+    let rows = z.contrasts;
+    let p = z.coefficients;
+    let sheet = records::sheet_of(false, s);
+    square_at(&sheet, 793, rows, p)
+}
+
+pub fn beta_of(s: &[u8]) -> [f64; 6]
+    requires { ⌜ refusal (now s) ≡ 0 ⌝ }
+    ensures { λ r. ⌜ r ≡ beta (now (s .entry)) ⌝ }
+{
+    let z = sizes_of(s);
+    let p = z.coefficients;
+    let sheet = records::sheet_of(false, s);
+    six_at(&sheet, 787, p)
+}
+
+pub fn beta_h_of(s: &[u8]) -> [f64; 6]
+    requires { ⌜ refusal (now s) ≡ 0 ⌝ }
+    ensures { λ r. ⌜ r ≡ betaH (now (s .entry)) ⌝ }
+{
+    let z = sizes_of(s);
+    let p = z.coefficients;
+    let sheet = records::sheet_of(false, s);
+    six_at(&sheet, 829, p)
+}
+
+pub fn sigma2_of(s: &[u8]) -> f64
+    requires { ⌜ refusal (now s) ≡ 0 ⌝ }
+    ensures { λ r. ⌜ r ≡ sigma2 (now (s .entry)) ⌝ }
+{
+    let sheet = records::sheet_of(false, s);
+    sheet[786]
+}
+
+pub fn weights_of(s: &[u8]) -> [f64; 24]
+    requires { ⌜ refusal (now s) ≡ 0 ⌝ }
+    ensures { λ r. ⌜ r ≡ design (now (s .entry)) .weights ⌝ }
+{
+    let z = sizes_of(s);
+    let n = z.specimens;
+    let sheet = records::sheet_of(false, s);
+    twenty_four_at(&sheet, 726, n)
+}
+
+pub fn thetas_of(s: &[u8]) -> [f64; 3]
+    requires { ⌜ refusal (now s) ≡ 0 ⌝ }
+    ensures { λ r. ⌜ r ≡ design (now (s .entry)) .theta ⌝ }
+{
+    let z = sizes_of(s);
+    let n = z.thetas;
+    let sheet = records::sheet_of(false, s);
+    three_at(&sheet, 723, n)
 }

@@ -1,49 +1,54 @@
+-- `series::any_not_positive` meets its contract.
+use Prim.Native.Nat.{ℕ, _+_, _≤_, _-_}
+use mathlib.Core.Path.{_≡_, refl, sym, ap, _∙_}
+use mathlib.Core.Bool.{false, not}
+use denote.Ref.{now}
+use lib.ListN.{getD}
+use lib.Ieee.{ofBits}
+use Rattle.records.specs.Scan.{any}
+use Rattle.records.proofs.Laws.{any-miss, any-hit}
+use Rattle.series.specs.Checks.{notPositive}
+use native.Mathlib.Omega.{arith}
 use Rattle.series.proofs.any_not_positive.Statement.{statement}
 use Rattle.series.proofs.any_not_positive.Tie as tie
 use Rattle.series.proofs.any_not_positive.Reads as reads
 use Rattle.series.proofs.any_not_positive.Lts as lts
 
 abbrev Inv-loop : tie.InvT-loop
-Inv-loop sheet at m j₀ j = ?
+Inv-loop sheet at m j₀ j = (j ≤ m) × (at + m ≤ 835) × (notPositive sheet at j ≡ false)
 
 abbrev μ-loop : tie.MeasureT-loop
-μ-loop sheet at m j₀ j = ?
+μ-loop sheet at m j₀ j = m - j
 
--- src/lib.rt:338:5
 loop-holds : tie.Need-loop-holds Inv-loop μ-loop
-loop-holds c = ?
+unfolding notPositive any
+loop-holds c = (omega arith, c .pre, refl)
 
--- src/lib.rt:339:18
 add-if1 : tie.Need-add-if1 Inv-loop μ-loop
-add-if1 c = ?
+add-if1 c = omega arith
 
--- src/lib.rt:339:12
 mul-if1 : tie.Need-mul-if1 Inv-loop μ-loop
-mul-if1 c = ?
+mul-if1 c = omega arith
 
--- src/lib.rt:339:12
 element-copy-out-if1 : tie.Need-element-copy-out-if1 Inv-loop μ-loop
-element-copy-out-if1 c = ?
+element-copy-out-if1 c = omega arith
 
--- src/lib.rt:340:13
 returns : tie.Need-returns Inv-loop μ-loop
-returns c = ?
+unfolding notPositive ofBits
+returns c = sym (any-hit _ _ (c .before .before .before .loop .j) (omega arith) (cc))
 
--- src/lib.rt:342:9
 add-j : tie.Need-add-j Inv-loop μ-loop
-add-j c = ?
+add-j c = omega arith
 
--- src/lib.rt:338:5
 loop-less : tie.Need-loop-less Inv-loop μ-loop
-loop-less c = ?
+loop-less c = omega arith
 
--- src/lib.rt:338:5
 loop-again : tie.Need-loop-again Inv-loop μ-loop
-loop-again c = ?
+unfolding notPositive ofBits
+loop-again c = (omega arith, omega arith, any-miss _ _ (c .before .before .before .loop .inv .2) (cc))
 
--- src/lib.rt:333:1
 returns-2 : tie.Need-returns-2 Inv-loop μ-loop
-returns-2 c = ?
+returns-2 c = let e : c .before .loop .j ≡ c .before .before .args .m = omega arith in cc
 
 pub any-not-positive-spec : {M : Type 1} → statement M
 any-not-positive-spec =

@@ -1,3 +1,12 @@
+-- `series::any_wrong` meets its contract.
+use Prim.Native.Nat.{ℕ, _≤_, _-_}
+use mathlib.Core.Path.{_≡_, refl, sym, ap, _∙_}
+use mathlib.Core.Bool.{false}
+use Rattle.adjustment.specs.Blocks.{blockAt}
+use Rattle.records.specs.Scan.{any}
+use Rattle.records.proofs.Laws.{any-miss, any-hit}
+use Rattle.series.specs.Checks.{wrongBlock}
+use native.Mathlib.Omega.{arith}
 use Rattle.series.proofs.any_wrong.Statement.{statement}
 use Rattle.series.proofs.any_wrong.Tie as tie
 use Rattle.series.proofs.any_wrong.Reads as reads
@@ -5,46 +14,38 @@ use Rattle.series.proofs.any_wrong.Lts as lts
 use Rattle.series.proofs.wrong_block.Reads as wrong-block-reads
 
 abbrev Inv-loop : tie.InvT-loop
-Inv-loop n blocks b₀ b = ?
+Inv-loop n blocks b₀ b = (b ≤ n) × (n ≤ 3) × (any b (λ j. wrongBlock (blockAt blocks j)) ≡ false)
 
 abbrev μ-loop : tie.MeasureT-loop
-μ-loop n blocks b₀ b = ?
+μ-loop n blocks b₀ b = n - b
 
--- src/lib.rt:267:5
 loop-holds : tie.Need-loop-holds Inv-loop μ-loop
-loop-holds c = ?
+unfolding any
+loop-holds c = (omega arith, c .pre, refl)
 
--- src/lib.rt:268:24
 mul-wrong-block : tie.Need-mul-wrong-block Inv-loop μ-loop
-mul-wrong-block c = ?
+mul-wrong-block c = omega arith
 
--- src/lib.rt:268:24
 array-copy-out-wrong-block : tie.Need-array-copy-out-wrong-block Inv-loop μ-loop
-array-copy-out-wrong-block c = ?
+array-copy-out-wrong-block c = omega arith
 
--- src/lib.rt:268:12
 wrong-block-requires : tie.Need-wrong-block-requires Inv-loop μ-loop
-wrong-block-requires c κs = ?
+wrong-block-requires c κs = tt
 
--- src/lib.rt:269:13
 returns : tie.Need-returns Inv-loop μ-loop
-returns c = ?
+returns c = sym (any-hit _ _ (c .before .before .before .before .loop .b) (omega arith) (cc))
 
--- src/lib.rt:271:9
 add-b : tie.Need-add-b Inv-loop μ-loop
-add-b c = ?
+add-b c = omega arith
 
--- src/lib.rt:267:5
 loop-less : tie.Need-loop-less Inv-loop μ-loop
-loop-less c = ?
+loop-less c = omega arith
 
--- src/lib.rt:267:5
 loop-again : tie.Need-loop-again Inv-loop μ-loop
-loop-again c = ?
+loop-again c = (omega arith, omega arith, any-miss _ _ (c .before .before .before .before .loop .inv .2) (cc))
 
--- src/lib.rt:262:1
 returns-2 : tie.Need-returns-2 Inv-loop μ-loop
-returns-2 c = ?
+returns-2 c = let e : c .before .loop .b ≡ c .before .before .args .n = omega arith in cc
 
 pub any-wrong-spec : {M : Type 1} → statement M
 any-wrong-spec =

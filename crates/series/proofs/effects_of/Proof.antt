@@ -1,3 +1,14 @@
+-- `series::effects_of` meets its contract.
+use Prim.Native.Nat.{ℕ, _≤_, _<_, _-_}
+use mathlib.Core.Path.{_≡_, refl, sym, ap, _∙_}
+use mathlib.Core.Logic.{⊎-elim}
+use denote.Ref.{now}
+use Rattle.records.specs.Scan.{last}
+use Rattle.records.specs.Kinds.{kenwardRoger}
+use Rattle.records.specs.File.{count, columnOf, isCell}
+use Rattle.records.specs.Series.{blockOf}
+use Rattle.records.proofs.Laws.{last-more}
+use native.Mathlib.Omega.{arith}
 use Rattle.series.proofs.effects_of.Statement.{statement}
 use Rattle.series.proofs.effects_of.Tie as tie
 use Rattle.series.proofs.effects_of.Reads as reads
@@ -6,38 +17,39 @@ use Rattle.records.proofs.column_at.Reads as column-at-reads
 use Rattle.series.proofs.is_block.Reads as is-block-reads
 
 abbrev Inv-loop : tie.InvT-loop
-Inv-loop s b n v₀ i₀ v i = ?
+Inv-loop s b n v₀ i₀ v i = (n ≡ count s) × (i ≤ n) × (v ≡ last i (isCell kenwardRoger s 3 0 b 0) (columnOf s) 0) × (v ≤ 255)
 
 abbrev μ-loop : tie.MeasureT-loop
-μ-loop s b n v₀ i₀ v i = ?
+μ-loop s b n v₀ i₀ v i = n - i
 
--- src/lib.rt:209:5
 loop-holds : tie.Need-loop-holds Inv-loop μ-loop
-loop-holds c = ?
+unfolding last
+loop-holds c = (refl, omega arith, refl, omega arith)
 
--- src/lib.rt:210:12
 is-block-requires : tie.Need-is-block-requires Inv-loop μ-loop
-is-block-requires c κs = ?
+is-block-requires c κs = omega arith
 
--- src/lib.rt:211:13
 column-at-requires : tie.Need-column-at-requires Inv-loop μ-loop
-column-at-requires c κs = ?
+column-at-requires c κs = omega arith
 
--- src/lib.rt:213:9
 add-i : tie.Need-add-i Inv-loop μ-loop
-add-i c = ?
+add-i c = omega arith
 
--- src/lib.rt:209:5
 loop-less : tie.Need-loop-less Inv-loop μ-loop
-loop-less c = ?
+loop-less c = omega arith
 
--- src/lib.rt:209:5
 loop-again : tie.Need-loop-again Inv-loop μ-loop
-loop-again c = ?
+loop-again c =
+    let e = c .before .is-block .ensures in (
+      refl,
+      omega arith,
+      ⊎-elim (λ w. w .2 ∙ rw (last-more, ← e, w .0 .taken) (w .1 .ensures .0)) (λ w. w .1 ∙ rw (last-more, ← e, w .0 .left) (c .before .before .before .loop .inv .2)) (c .if1 .came),
+      ⊎-elim (λ w. omega arith) (λ w. omega arith) (c .if1 .came),
+    )
 
--- src/lib.rt:203:1
 returns : tie.Need-returns Inv-loop μ-loop
-returns c = ?
+unfolding blockOf
+returns c = let e : c .before .loop .i ≡ count (now (c .before .before .before .args .s)) = omega arith in (cc, omega arith)
 
 pub effects-of-spec : {M : Type 1} → statement M
 effects-of-spec =

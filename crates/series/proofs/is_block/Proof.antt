@@ -1,3 +1,9 @@
+-- `series::is_block` meets its contract.
+use borrow.Author.Tests.{eq-eqb, ne-eqb}
+use mathlib.Core.Path.{_≡_, refl, sym, ap, _∙_}
+use mathlib.Core.Bool.{Bool, true, false, _&&_}
+use Rattle.records.specs.Kinds.{kindAt, kenwardRoger}
+use Rattle.records.specs.File.{isCell}
 use borrow.Author.Needs.{needs}
 use Rattle.series.proofs.is_block.Statement.{statement}
 use Rattle.series.proofs.is_block.Tie as tie
@@ -6,21 +12,23 @@ use Rattle.series.proofs.is_block.Lts as lts
 use Rattle.records.proofs.kind_at.Reads as kind-at-reads
 use Rattle.records.proofs.row_at.Reads as row-at-reads
 
--- src/lib.rt:197:8
+and-one : (b : Bool) → b ≡ b && true
+and-one true = refl
+and-one false = refl
+
 kind-at-requires : tie.Need-kind-at-requires
 kind-at-requires c κs = search needs
 
--- src/lib.rt:198:9
 returns : tie.Need-returns
-returns c = ?
+unfolding isCell
+returns c = rw (← c .before .kind-at .ensures, ne-eqb _ _ (c .if1 .taken))
 
--- src/lib.rt:200:5
 row-at-requires : tie.Need-row-at-requires
 row-at-requires c κs = search needs
 
--- src/lib.rt:193:1
 returns-2 : tie.Need-returns-2
-returns-2 c = ?
+unfolding isCell kindAt kenwardRoger
+returns-2 c = rw (← c .before .before .kind-at .ensures, eq-eqb _ _ (c .before .if1 .left), ← c .row-at .ensures .0) (and-one _)
 
 pub is-block-spec : {M : Type 1} → statement M
 is-block-spec = tie.close (tie.spec kind-at-requires returns row-at-requires returns-2)

@@ -1,3 +1,13 @@
+-- `series::nonzero_in_row` meets its contract.
+use Prim.Native.Nat.{ℕ, _+_, _≤_, _-_}
+use mathlib.Core.Path.{_≡_, refl, sym, ap, _∙_}
+use mathlib.Core.Bool.{false, not}
+use denote.Ref.{now}
+use lib.ListN.{getD}
+use Rattle.records.specs.Scan.{any}
+use Rattle.records.proofs.Laws.{any-miss, any-hit}
+use Rattle.series.specs.Checks.{nonzeroInRow}
+use native.Mathlib.Omega.{arith}
 use Rattle.series.proofs.nonzero_in_row.Statement.{statement}
 use Rattle.series.proofs.nonzero_in_row.Tie as tie
 use Rattle.series.proofs.nonzero_in_row.Reads as reads
@@ -5,50 +15,43 @@ use Rattle.series.proofs.nonzero_in_row.Lts as lts
 use Rattle.arithmetic.proofs.plain.is_zero.Reads as is-zero-reads
 
 abbrev Inv-loop : tie.InvT-loop
-Inv-loop sheet at m j₀ j = ?
+Inv-loop sheet at m j₀ j = (j ≤ m) × (at + m ≤ 835) × (nonzeroInRow sheet at j ≡ false)
 
 abbrev μ-loop : tie.MeasureT-loop
-μ-loop sheet at m j₀ j = ?
+μ-loop sheet at m j₀ j = m - j
 
--- src/lib.rt:310:5
 loop-holds : tie.Need-loop-holds Inv-loop μ-loop
-loop-holds c = ?
+unfolding nonzeroInRow any
+loop-holds c = (omega arith, c .pre, refl)
 
--- src/lib.rt:311:46
 add-is-zero : tie.Need-add-is-zero Inv-loop μ-loop
-add-is-zero c = ?
+add-is-zero c = omega arith
 
--- src/lib.rt:311:40
 mul-is-zero : tie.Need-mul-is-zero Inv-loop μ-loop
-mul-is-zero c = ?
+mul-is-zero c = omega arith
 
--- src/lib.rt:311:40
 element-copy-out-is-zero : tie.Need-element-copy-out-is-zero Inv-loop μ-loop
-element-copy-out-is-zero c = ?
+element-copy-out-is-zero c = omega arith
 
--- src/lib.rt:311:13
 is-zero-requires : tie.Need-is-zero-requires Inv-loop μ-loop
-is-zero-requires c κs = ?
+is-zero-requires c κs = tt
 
--- src/lib.rt:312:13
 returns : tie.Need-returns Inv-loop μ-loop
-returns c = ?
+unfolding nonzeroInRow
+returns c = sym (any-hit _ _ (c .before .before .before .before .loop .j) (omega arith) (cc))
 
--- src/lib.rt:314:9
 add-j : tie.Need-add-j Inv-loop μ-loop
-add-j c = ?
+add-j c = omega arith
 
--- src/lib.rt:310:5
 loop-less : tie.Need-loop-less Inv-loop μ-loop
-loop-less c = ?
+loop-less c = omega arith
 
--- src/lib.rt:310:5
 loop-again : tie.Need-loop-again Inv-loop μ-loop
-loop-again c = ?
+unfolding nonzeroInRow
+loop-again c = (omega arith, omega arith, any-miss _ _ (c .before .before .before .before .loop .inv .2) (cc))
 
--- src/lib.rt:305:1
 returns-2 : tie.Need-returns-2 Inv-loop μ-loop
-returns-2 c = ?
+returns-2 c = let e : c .before .loop .j ≡ c .before .before .args .m = omega arith in cc
 
 pub nonzero-in-row-spec : {M : Type 1} → statement M
 nonzero-in-row-spec =

@@ -1,53 +1,57 @@
+-- `series::parameters_of` meets its contract.
+use Prim.Native.Nat.{ℕ, _≤_, _<_, _-_, _+_, _*_}
+use mathlib.Core.Path.{_≡_, refl, sym, ap, _∙_}
+use native.Mathlib.Nat.{mul-le-mul}
+use Rattle.adjustment.specs.Blocks.{blockAt}
+use Rattle.records.specs.Scan.{total}
+use Rattle.records.proofs.Laws.{total-more}
+use Rattle.series.specs.Checks.{parametersIn}
+use native.Mathlib.Omega.{arith}
 use Rattle.series.proofs.parameters_of.Statement.{statement}
 use Rattle.series.proofs.parameters_of.Tie as tie
 use Rattle.series.proofs.parameters_of.Reads as reads
 use Rattle.series.proofs.parameters_of.Lts as lts
 
+small : (k : ℕ) → k ≤ 255 → k * (k + 1) ≤ 65280
+small k h = let b : k + 1 ≤ 256 = omega arith in mul-le-mul h b
+
 abbrev Inv-loop : tie.InvT-loop
-Inv-loop n blocks t₀ b₀ t b = ?
+Inv-loop n blocks t₀ b₀ t b = (b ≤ n) × (n ≤ 3) × (t ≤ 32640 * b) × (t ≡ parametersIn blocks b)
 
 abbrev μ-loop : tie.MeasureT-loop
-μ-loop n blocks t₀ b₀ t b = ?
+μ-loop n blocks t₀ b₀ t b = n - b
 
--- src/lib.rt:283:5
 loop-holds : tie.Need-loop-holds Inv-loop μ-loop
-loop-holds c = ?
+unfolding parametersIn total
+loop-holds c = (omega arith, c .pre .0, omega arith, refl)
 
--- src/lib.rt:284:17
 mul-k : tie.Need-mul-k Inv-loop μ-loop
-mul-k c = ?
+mul-k c = omega arith
 
--- src/lib.rt:284:13
 element-copy-out-k : tie.Need-element-copy-out-k Inv-loop μ-loop
-element-copy-out-k c = ?
+element-copy-out-k c = omega arith
 
--- src/lib.rt:285:22
 add-t : tie.Need-add-t Inv-loop μ-loop
-add-t c = ?
+add-t c = let p = c .before .before .pre .1 (c .before .loop .b) in omega arith
 
--- src/lib.rt:285:17
 mul-t : tie.Need-mul-t Inv-loop μ-loop
-mul-t c = ?
+mul-t c = let p = c .before .before .pre .1 (c .before .loop .b) in omega (arith, small (blockAt (c .before .before .args .t1) (c .before .loop .b) .effects) (p .0))
 
--- src/lib.rt:285:13
 add-t-2 : tie.Need-add-t-2 Inv-loop μ-loop
-add-t-2 c = ?
+add-t-2 c = let p = c .before .before .pre .1 (c .before .loop .b) in omega (arith, small (blockAt (c .before .before .args .t1) (c .before .loop .b) .effects) (p .0))
 
--- src/lib.rt:286:9
 add-b : tie.Need-add-b Inv-loop μ-loop
-add-b c = ?
+add-b c = omega arith
 
--- src/lib.rt:283:5
 loop-less : tie.Need-loop-less Inv-loop μ-loop
-loop-less c = ?
+loop-less c = omega arith
 
--- src/lib.rt:283:5
 loop-again : tie.Need-loop-again Inv-loop μ-loop
-loop-again c = ?
+unfolding parametersIn
+loop-again c = let p = c .before .before .pre .1 (c .before .loop .b) in let h = small (blockAt (c .before .before .args .t1) (c .before .loop .b) .effects) (p .0) in (omega arith, omega arith, omega arith, rw total-more (cc))
 
--- src/lib.rt:277:1
 returns : tie.Need-returns Inv-loop μ-loop
-returns c = ?
+returns c = let e : c .before .loop .b ≡ c .before .before .args .n = omega arith in cc
 
 pub parameters-of-spec : {M : Type 1} → statement M
 parameters-of-spec =

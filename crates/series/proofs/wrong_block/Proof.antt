@@ -1,11 +1,14 @@
+-- `series::wrong_block` meets its contract.
+use mathlib.Core.Path.{_≡_, refl}
+use Rattle.series.specs.Checks.{wrongBlock}
 use Rattle.series.proofs.wrong_block.Statement.{statement}
 use Rattle.series.proofs.wrong_block.Tie as tie
 use Rattle.series.proofs.wrong_block.Reads as reads
 use Rattle.series.proofs.wrong_block.Lts as lts
 
--- src/lib.rt:256:1
 returns : tie.Need-returns
-returns c = ?
+unfolding wrongBlock
+returns c = refl
 
 pub wrong-block-spec : {M : Type 1} → statement M
 wrong-block-spec = tie.close (tie.spec returns)

@@ -1,0 +1,6 @@
+-- The laws of the series.
+pub mod Gathers
+pub mod Marks
+pub mod Numbers
+pub mod Values
+pub mod Accepted
