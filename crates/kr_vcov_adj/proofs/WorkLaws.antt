@@ -48,6 +48,10 @@ module _ (s n len : ℕ) (hn : n ≤ s) (h : 6 * (s * s) ≤ len) where
 pub square-held : (s n k a len : ℕ) → n ≤ s → 6 * (s * s) ≤ len → k < 6 → a ≡ square s k → Holds s a n n len
 square-held s n k a len hn h l e = rw e (square-holds s n len hn h k l)
 
+-- the same, of the square that the call was asked for
+pub square-found : (s n k a len : ℕ) → n ≤ s → 6 * (s * s) ≤ len → a ≡ square s k → k < 6 → Holds s a n n len
+square-found s n k a len hn h e l = square-held s n k a len hn h l e
+
 pub squares-apart : (s n j k a b : ℕ) → n ≤ s → (j ≡ k → ⊥) → a ≡ square s j → b ≡ square s k → Apart a (n * s) b (n * s)
 squares-apart s n j k a b hn o ea eb = rw (ea, eb) (blocks-apart (s * s) j k (n * s) (n * s) o (rows-in n s s hn) (rows-in n s s hn))
 

@@ -1,6 +1,6 @@
 -- `kr_vcov_adj::stacks::fill_sx` meets its contract.
 use Rattle.kr_vcov_adj.proofs.InformationLaws.{sx-is}
-use Rattle.kr_vcov_adj.proofs.WorkLaws.{square-held, part-held}
+use Rattle.kr_vcov_adj.proofs.WorkLaws.{square-found, part-held}
 use native.Mathlib.Omega.{arith}
 use mathlib.Core.Path.{_≡_, ap, _∙_}
 use borrow.Author.Needs.{needs}
@@ -16,7 +16,7 @@ part-at-requires c κs = search needs
 fill-o-requires : tie.Need-fill-o-requires
 fill-o-requires c κs =
     let g = c .before .before .before .before .before .before .pre in
-    (part-held _ _ _ 0 _ _ (g .0 .high) (g .0 .few) (g .0 .parts) (omega arith) (c .before .part-at .ensures .0), square-held _ _ 1 _ _ (g .0 .high) (g .0 .squares) (omega arith) (c .before .before .square-at .ensures .0), g .1)
+    (part-held _ _ _ 0 _ _ (g .0 .high) (g .0 .few) (g .0 .parts) (omega arith) (c .before .part-at .ensures .0), square-found _ _ _ _ _ (g .0 .high) (g .0 .squares) (c .before .before .square-at .ensures .0) (omega arith), g .1)
 
 same-length : tie.Need-same-length
 same-length c = search needs
