@@ -444,7 +444,7 @@ pub fn refusal(s: &[u8]) -> u32
 }
 
 // The numbers of the sheet from `at` on, as arrays of three, six and twenty-four.
-fn three_at(sheet: &[f64; 835], at: usize, n: usize) -> [f64; 3]
+pub fn three_at(sheet: &[f64; 835], at: usize, n: usize) -> [f64; 3]
     requires { ⌜ (at + n ≤ 835) × (n ≤ 3) ⌝ }
     ensures { λ r. ⌜ r ≡ numbersAt (now (sheet .entry)) 3 at n ⌝ }
 {
@@ -457,7 +457,7 @@ fn three_at(sheet: &[f64; 835], at: usize, n: usize) -> [f64; 3]
     out
 }
 
-fn six_at(sheet: &[f64; 835], at: usize, n: usize) -> [f64; 6]
+pub fn six_at(sheet: &[f64; 835], at: usize, n: usize) -> [f64; 6]
     requires { ⌜ (at + n ≤ 835) × (n ≤ 6) ⌝ }
     ensures { λ r. ⌜ r ≡ numbersAt (now (sheet .entry)) 6 at n ⌝ }
 {
@@ -470,7 +470,7 @@ fn six_at(sheet: &[f64; 835], at: usize, n: usize) -> [f64; 6]
     out
 }
 
-fn twenty_four_at(sheet: &[f64; 835], at: usize, n: usize) -> [f64; 24]
+pub fn twenty_four_at(sheet: &[f64; 835], at: usize, n: usize) -> [f64; 24]
     requires { ⌜ (at + n ≤ 835) × (n ≤ 24) ⌝ }
     ensures { λ r. ⌜ r ≡ numbersAt (now (sheet .entry)) 24 at n ⌝ }
 {
@@ -484,7 +484,7 @@ fn twenty_four_at(sheet: &[f64; 835], at: usize, n: usize) -> [f64; 24]
 }
 
 // r rows of c, six apart.
-fn square_at(sheet: &[f64; 835], at: usize, r: usize, c: usize) -> [[f64; 6]; 6]
+pub fn square_at(sheet: &[f64; 835], at: usize, r: usize, c: usize) -> [[f64; 6]; 6]
     requires { ⌜ (at + r * 6 ≤ 835) × (r ≤ 6) × (c ≤ 6) ⌝ }
     ensures { λ m. ⌜ m ≡ sixAt (now (sheet .entry)) at r c ⌝ }
 {
