@@ -4,3 +4,6 @@ pub mod Marks
 pub mod Numbers
 pub mod Values
 pub mod Accepted
+pub mod Pigeons
+pub mod Length
+pub mod Precisely
