@@ -1,20 +1,29 @@
 -- What holds of a file that is not refused.
 use Prim.Native.Nat.{ℕ, zero, suc, _+_, _*_, _%_, _<_, _≤_}
 use mathlib.Core.Path.{_≡_, refl, ap, ap₂, sym, _∙_}
-use mathlib.Core.Bool.{Bool, true, false, not, cond, _&&_, _||_}
+use mathlib.Core.Bool.{Bool, true, false, not, cond, _&&_, _||_, false≢true}
 use mathlib.Core.List.{List}
 use native.Mathlib.Omega.{arith}
+use native.Mathlib.Numerals.{add-one}
 use lib.Dec.{eqb, ltb}
 use lib.ListN.{length}
 use lib.Ieee.{le}
-use borrow.Author.Tests.{eqb-true, ltb-false, not-false}
+use borrow.Author.Tests.{le-leb, eqb-true, eqb-false, ltb-false, not-false}
 use Rattle.arithmetic.specs.Numbers.{plusZero}
 use Rattle.records.specs.Scan.{any, total}
 use Rattle.records.specs.Kinds.{kenwardRoger}
 use Rattle.records.specs.File.{count, badRecord, again, beyond, notFinite}
-use Rattle.records.specs.Series.{sizes, sigma2, incomplete, badSize, badWeight, misfit, zeroContrast, refusal}
-use Rattle.records.proofs.Laws.{or-false}
-use Rattle.series.specs.Gathered.{malformedFile}
+use Rattle.records.specs.Series.{specimens, coefficients, zColumns, blockCount, thetas, contrastRows, parametersOf, blockOf, design, sizes, sigma2, incomplete, badSize, badWeight, misfit, zeroContrast, refusal}
+use Rattle.records.proofs.Laws.{or-false, any-none}
+use mathlib.Core.Logic.{_⊎_, inl, inr, ⊎-elim}
+use Rattle.algebra.specs.Fold.{fold}
+use Rattle.algebra.specs.Table.{row}
+use Rattle.algebra.proofs.FoldLaws.{fold-more, fold-none, fold-ext}
+use Rattle.algebra.proofs.TableLaws.{row-at}
+use Rattle.adjustment.specs.declared.Block.{Block}
+use Rattle.adjustment.specs.Blocks.{noBlock, blockAt, columnsBefore, placesBefore}
+use Rattle.series.specs.Gathered.{sizesOf, Small, malformedFile}
+use Rattle.series.proofs.Gathers.{small}
 use Rattle.series.proofs.Numbers.{refusal-cases, malformed-none}
 
 -- none of the reasons holds
@@ -62,4 +71,110 @@ accepted s e =
       weighed = f .0;
       fits = g .0;
       nonzero = h .0;
+    }
+
+-- ---- its sizes: document 01, "Limits"
+pub record Limits (s : List ℕ) : Type 0 where
+  pub specimen : 1 ≤ specimens s
+  pub specimens : specimens s ≤ 24
+  pub coefficient : 1 ≤ coefficients s
+  pub coefficients : coefficients s ≤ 6
+  pub columns : zColumns s ≤ 24
+  pub blocks : blockCount s ≤ 3
+  pub thetas : thetas s ≤ 3
+  pub contrasts : contrastRows s ≤ 6
+
+pub limits : (s : List ℕ) → refusal s ≡ 0 → Limits s
+unfolding sizesOf
+limits s e =
+    let h = small s (accepted s e .good) in
+    record {
+      specimen = omega arith;
+      specimens = h .specimens;
+      coefficient = omega arith;
+      coefficients = h .coefficients;
+      columns = h .columns;
+      blocks = h .blocks;
+      thetas = h .thetas;
+      contrasts = h .contrasts;
+    }
+
+-- ---- its blocks: "each m ≥ 1 groups of k = 1 or 2 effects; block parameters at most 3 over all blocks", and they fit Z and the thetas
+pub record Blocked (s : List ℕ) : Type 0 where
+  pub effects : (b : ℕ) → b < blockCount s → (blockOf s b .effects ≡ 1) ⊎ (blockOf s b .effects ≡ 2)
+  pub groups : (b : ℕ) → b < blockCount s → 1 ≤ blockOf s b .groups
+  pub parameters : total (blockCount s) (λ b. parametersOf (blockOf s b)) ≤ 3
+  pub columns : total (blockCount s) (λ b. blockOf s b .groups * blockOf s b .effects) ≡ zColumns s
+  pub thetas : thetas s ≡ total (blockCount s) (λ b. parametersOf (blockOf s b))
+
+one-or-two : (k m : ℕ) → not (eqb k 1 || eqb k 2) || eqb m 0 ≡ false → ((k ≡ 1) ⊎ (k ≡ 2)) × (1 ≤ m)
+one-or-two k m e =
+    let o = or-false (not (eqb k 1 || eqb k 2)) (eqb m 0) e in
+    (go (eqb k 1) refl (eqb k 2) refl (not-false (eqb k 1 || eqb k 2) (o .0)), let q = eqb-false m 0 (o .1) in omega arith)
+  where
+    go : (a : Bool) → eqb k 1 ≡ a → (b : Bool) → eqb k 2 ≡ b → a || b ≡ true → (k ≡ 1) ⊎ (k ≡ 2)
+    go true p b q h = inl (eqb-true k 1 p)
+    go false p true q h = inr (eqb-true k 2 q)
+    go false p false q h = absurd (false≢true h)
+
+wrong : List ℕ → ℕ → Bool
+wrong s b = not (eqb (blockOf s b .effects) 1 || eqb (blockOf s b .effects) 2) || eqb (blockOf s b .groups) 0
+
+sized-none : (s : List ℕ) → badSize s ≡ false → (any (blockCount s) (wrong s) ≡ false) × (ltb 3 (total (blockCount s) (λ b. parametersOf (blockOf s b))) ≡ false)
+unfolding badSize wrong
+sized-none s e = or-false (any (blockCount s) (wrong s)) (ltb 3 (total (blockCount s) (λ b. parametersOf (blockOf s b)))) e
+
+fits-none : (s : List ℕ) → misfit s ≡ false
+    → (total (blockCount s) (λ b. blockOf s b .groups * blockOf s b .effects) ≡ zColumns s) × (thetas s ≡ total (blockCount s) (λ b. parametersOf (blockOf s b)))
+unfolding misfit
+fits-none s e =
+    let o = or-false (not (eqb (total (blockCount s) (λ b. blockOf s b .groups * blockOf s b .effects)) (zColumns s))) (not (eqb (thetas s) (total (blockCount s) (λ b. parametersOf (blockOf s b))))) e in
+    (eqb-true _ _ (not-false _ (o .0)), eqb-true _ _ (not-false _ (o .1)))
+
+pub blocked : (s : List ℕ) → refusal s ≡ 0 → Blocked s
+unfolding wrong
+blocked s e =
+    let a = accepted s e in
+    let w = sized-none s (a .sized) in
+    let f = fits-none s (a .fits) in
+    record {
+      effects = λ b l. one-or-two (blockOf s b .effects) (blockOf s b .groups) (any-none (blockCount s) (wrong s) b l (w .0)) .0;
+      groups = λ b l. one-or-two (blockOf s b .effects) (blockOf s b .groups) (any-none (blockCount s) (wrong s) b l (w .0)) .1;
+      parameters = ltb-false 3 (total (blockCount s) (λ b. parametersOf (blockOf s b))) (w .1);
+      columns = f .0;
+      thetas = f .1;
+    }
+
+-- ---- and as the adjustment asks it of the design's blocks
+fold-total : (n : ℕ) (f : ℕ → ℕ) → fold 0 n (λ i x. x + f i) 0 ≡ total n f
+unfolding fold total
+fold-total zero f = refl
+fold-total (suc n) f = rw (le-leb 0 n (omega arith)) (ap (λ (x : ℕ). x + f n) (fold-total n f))
+
+pub record SoundBlocks (s : List ℕ) : Type 0 where
+  pub few : blockCount s ≤ 3
+  pub small : (b : ℕ) → b < blockCount s → blockAt (design s .blocks) b .effects ≤ 2
+  pub counted : columnsBefore (design s .blocks) (blockCount s) ≡ zColumns s
+  pub thetas : placesBefore (design s .blocks) (blockCount s) ≤ 3
+
+block-read : (s : List ℕ) → blockCount s ≤ 3 → (b : ℕ) → b < blockCount s → blockAt (row noBlock 3 (blockCount s) (blockOf s)) b ≡ blockOf s b
+block-read s l b h = row-at noBlock 3 (blockCount s) (blockOf s) b noBlock h l
+
+pub sound-blocks : (s : List ℕ) → refusal s ≡ 0 → SoundBlocks s
+unfolding design columnsBefore placesBefore
+sound-blocks s e =
+    let l = limits s e .blocks in
+    let k = blocked s e in
+    record {
+      few = l;
+      small = λ b h. let q = ap (λ (x : Block). x .effects) (block-read s l b h) in ⊎-elim (λ r. omega arith) (λ r. omega arith) (k .effects b h);
+      counted =
+          fold-ext 0 (blockCount s) (λ i x. x + blockAt (row noBlock 3 (blockCount s) (blockOf s)) i .groups * blockAt (row noBlock 3 (blockCount s) (blockOf s)) i .effects) (λ i x. x + blockOf s i .groups * blockOf s i .effects) 0 (λ i _ h x. ap (λ (y : Block). x + y .groups * y .effects) (block-read s l i h))
+          ∙ fold-total (blockCount s) (λ b. blockOf s b .groups * blockOf s b .effects)
+          ∙ k .columns;
+      thetas =
+          let q = fold-ext 0 (blockCount s) (λ i x. x + parametersOf (blockAt (row noBlock 3 (blockCount s) (blockOf s)) i)) (λ i x. x + parametersOf (blockOf s i)) 0 (λ i _ h x. ap (λ (y : Block). x + parametersOf y) (block-read s l i h)) in
+          let r = fold-total (blockCount s) (λ b. parametersOf (blockOf s b)) in
+          let p = k .parameters in
+          omega arith;
     }

@@ -90,27 +90,130 @@ unfolding refusal
 number-precisely s n h = record { to = first-gives (reasons s) n h; from = gives-first (reasons s) n }
 
 -- ---- the same, number by number, in the order of the table
-chain : Bool → Bool → Bool → Bool → Bool → Bool → Bool → ℕ
+miss : (b : Bool) (m n x : ℕ) → (m ≡ n → ⊥) → cond b m x ≡ n → (b ≡ false) × (x ≡ n)
+miss true m n x h e = absurd (h e)
+miss false m n x h e = (refl, e)
+
+hit : (b : Bool) (m x : ℕ) → (x ≡ m → ⊥) → cond b m x ≡ m → b ≡ true
+hit true m x h e = refl
+hit false m x h e = absurd (h e)
+
+-- a chain none of whose numbers is n does not give n
+other : (b : Bool) (m n x : ℕ) → (m ≡ n → ⊥) → (x ≡ n → ⊥) → cond b m x ≡ n → ⊥
+other true m n x h k e = h e
+other false m n x h k e = k e
+
+abbrev chain : Bool → Bool → Bool → Bool → Bool → Bool → Bool → ℕ
 chain a b c d e f g = cond a 2 (cond b 3 (cond c 4 (cond d 5 (cond e 6 (cond f 7 (cond g 8 0))))))
 
--- what the chain's number says of the first condition that holds
-data Says : Bool → Bool → Bool → Bool → Bool → Bool → Bool → ℕ → Type 0 where
-  says-two : {b c d e f g : Bool} → Says true b c d e f g 2
-  says-three : {c d e f g : Bool} → Says false true c d e f g 3
-  says-four : {d e f g : Bool} → Says false false true d e f g 4
-  says-five : {e f g : Bool} → Says false false false true e f g 5
-  says-six : {f g : Bool} → Says false false false false true f g 6
-  says-seven : {g : Bool} → Says false false false false false true g 7
-  says-eight : Says false false false false false false true 8
-  says-none : Says false false false false false false false 0
+module _ (a b c d e f g : Bool) where
+  two-to : chain a b c d e f g ≡ 2 → (a ≡ true)
+  two-to h =
+      hit a 2 (cond b 3 (cond c 4 (cond d 5 (cond e 6 (cond f 7 (cond g 8 0)))))) (other b 3 2 (cond c 4 (cond d 5 (cond e 6 (cond f 7 (cond g 8 0))))) (λ q. omega arith) (other c 4 2 (cond d 5 (cond e 6 (cond f 7 (cond g 8 0)))) (λ q. omega arith) (other d 5 2 (cond e 6 (cond f 7 (cond g 8 0))) (λ q. omega arith) (other e 6 2 (cond f 7 (cond g 8 0)) (λ q. omega arith) (other f 7 2 (cond g 8 0) (λ q. omega arith) (other g 8 2 0 (λ q. omega arith) (λ q. omega arith))))))) h
 
-says : (a b c d e f g : Bool) → Says a b c d e f g (chain a b c d e f g)
-unfolding chain
-says true b c d e f g = says-two
-says false true c d e f g = says-three
-says false false true d e f g = says-four
-says false false false true e f g = says-five
-says false false false false true f g = says-six
-says false false false false false true g = says-seven
-says false false false false false false true = says-eight
-says false false false false false false false = says-none
+  two-from : (a ≡ true) → chain a b c d e f g ≡ 2
+  two-from h = rw h
+
+  three-to : chain a b c d e f g ≡ 3 → (a ≡ false) × (b ≡ true)
+  three-to h =
+      let m0 = miss a 2 3 (cond b 3 (cond c 4 (cond d 5 (cond e 6 (cond f 7 (cond g 8 0)))))) (λ q. omega arith) h in
+      (m0 .0, hit b 3 (cond c 4 (cond d 5 (cond e 6 (cond f 7 (cond g 8 0))))) (other c 4 3 (cond d 5 (cond e 6 (cond f 7 (cond g 8 0)))) (λ q. omega arith) (other d 5 3 (cond e 6 (cond f 7 (cond g 8 0))) (λ q. omega arith) (other e 6 3 (cond f 7 (cond g 8 0)) (λ q. omega arith) (other f 7 3 (cond g 8 0) (λ q. omega arith) (other g 8 3 0 (λ q. omega arith) (λ q. omega arith)))))) (m0 .1))
+
+  three-from : (a ≡ false) × (b ≡ true) → chain a b c d e f g ≡ 3
+  three-from h = rw (h .0, h .1)
+
+  four-to : chain a b c d e f g ≡ 4 → (a ≡ false) × (b ≡ false) × (c ≡ true)
+  four-to h =
+      let m0 = miss a 2 4 (cond b 3 (cond c 4 (cond d 5 (cond e 6 (cond f 7 (cond g 8 0)))))) (λ q. omega arith) h in
+      let m1 = miss b 3 4 (cond c 4 (cond d 5 (cond e 6 (cond f 7 (cond g 8 0))))) (λ q. omega arith) (m0 .1) in
+      (m0 .0, m1 .0, hit c 4 (cond d 5 (cond e 6 (cond f 7 (cond g 8 0)))) (other d 5 4 (cond e 6 (cond f 7 (cond g 8 0))) (λ q. omega arith) (other e 6 4 (cond f 7 (cond g 8 0)) (λ q. omega arith) (other f 7 4 (cond g 8 0) (λ q. omega arith) (other g 8 4 0 (λ q. omega arith) (λ q. omega arith))))) (m1 .1))
+
+  four-from : (a ≡ false) × (b ≡ false) × (c ≡ true) → chain a b c d e f g ≡ 4
+  four-from h = rw (h .0, h .1, h .2)
+
+  five-to : chain a b c d e f g ≡ 5 → (a ≡ false) × (b ≡ false) × (c ≡ false) × (d ≡ true)
+  five-to h =
+      let m0 = miss a 2 5 (cond b 3 (cond c 4 (cond d 5 (cond e 6 (cond f 7 (cond g 8 0)))))) (λ q. omega arith) h in
+      let m1 = miss b 3 5 (cond c 4 (cond d 5 (cond e 6 (cond f 7 (cond g 8 0))))) (λ q. omega arith) (m0 .1) in
+      let m2 = miss c 4 5 (cond d 5 (cond e 6 (cond f 7 (cond g 8 0)))) (λ q. omega arith) (m1 .1) in
+      (m0 .0, m1 .0, m2 .0, hit d 5 (cond e 6 (cond f 7 (cond g 8 0))) (other e 6 5 (cond f 7 (cond g 8 0)) (λ q. omega arith) (other f 7 5 (cond g 8 0) (λ q. omega arith) (other g 8 5 0 (λ q. omega arith) (λ q. omega arith)))) (m2 .1))
+
+  five-from : (a ≡ false) × (b ≡ false) × (c ≡ false) × (d ≡ true) → chain a b c d e f g ≡ 5
+  five-from h = rw (h .0, h .1, h .2, h .3)
+
+  six-to : chain a b c d e f g ≡ 6 → (a ≡ false) × (b ≡ false) × (c ≡ false) × (d ≡ false) × (e ≡ true)
+  six-to h =
+      let m0 = miss a 2 6 (cond b 3 (cond c 4 (cond d 5 (cond e 6 (cond f 7 (cond g 8 0)))))) (λ q. omega arith) h in
+      let m1 = miss b 3 6 (cond c 4 (cond d 5 (cond e 6 (cond f 7 (cond g 8 0))))) (λ q. omega arith) (m0 .1) in
+      let m2 = miss c 4 6 (cond d 5 (cond e 6 (cond f 7 (cond g 8 0)))) (λ q. omega arith) (m1 .1) in
+      let m3 = miss d 5 6 (cond e 6 (cond f 7 (cond g 8 0))) (λ q. omega arith) (m2 .1) in
+      (m0 .0, m1 .0, m2 .0, m3 .0, hit e 6 (cond f 7 (cond g 8 0)) (other f 7 6 (cond g 8 0) (λ q. omega arith) (other g 8 6 0 (λ q. omega arith) (λ q. omega arith))) (m3 .1))
+
+  six-from : (a ≡ false) × (b ≡ false) × (c ≡ false) × (d ≡ false) × (e ≡ true) → chain a b c d e f g ≡ 6
+  six-from h = rw (h .0, h .1, h .2, h .3, h .4)
+
+  seven-to : chain a b c d e f g ≡ 7 → (a ≡ false) × (b ≡ false) × (c ≡ false) × (d ≡ false) × (e ≡ false) × (f ≡ true)
+  seven-to h =
+      let m0 = miss a 2 7 (cond b 3 (cond c 4 (cond d 5 (cond e 6 (cond f 7 (cond g 8 0)))))) (λ q. omega arith) h in
+      let m1 = miss b 3 7 (cond c 4 (cond d 5 (cond e 6 (cond f 7 (cond g 8 0))))) (λ q. omega arith) (m0 .1) in
+      let m2 = miss c 4 7 (cond d 5 (cond e 6 (cond f 7 (cond g 8 0)))) (λ q. omega arith) (m1 .1) in
+      let m3 = miss d 5 7 (cond e 6 (cond f 7 (cond g 8 0))) (λ q. omega arith) (m2 .1) in
+      let m4 = miss e 6 7 (cond f 7 (cond g 8 0)) (λ q. omega arith) (m3 .1) in
+      (m0 .0, m1 .0, m2 .0, m3 .0, m4 .0, hit f 7 (cond g 8 0) (other g 8 7 0 (λ q. omega arith) (λ q. omega arith)) (m4 .1))
+
+  seven-from : (a ≡ false) × (b ≡ false) × (c ≡ false) × (d ≡ false) × (e ≡ false) × (f ≡ true) → chain a b c d e f g ≡ 7
+  seven-from h = rw (h .0, h .1, h .2, h .3, h .4, h .5)
+
+  eight-to : chain a b c d e f g ≡ 8 → (a ≡ false) × (b ≡ false) × (c ≡ false) × (d ≡ false) × (e ≡ false) × (f ≡ false) × (g ≡ true)
+  eight-to h =
+      let m0 = miss a 2 8 (cond b 3 (cond c 4 (cond d 5 (cond e 6 (cond f 7 (cond g 8 0)))))) (λ q. omega arith) h in
+      let m1 = miss b 3 8 (cond c 4 (cond d 5 (cond e 6 (cond f 7 (cond g 8 0))))) (λ q. omega arith) (m0 .1) in
+      let m2 = miss c 4 8 (cond d 5 (cond e 6 (cond f 7 (cond g 8 0)))) (λ q. omega arith) (m1 .1) in
+      let m3 = miss d 5 8 (cond e 6 (cond f 7 (cond g 8 0))) (λ q. omega arith) (m2 .1) in
+      let m4 = miss e 6 8 (cond f 7 (cond g 8 0)) (λ q. omega arith) (m3 .1) in
+      let m5 = miss f 7 8 (cond g 8 0) (λ q. omega arith) (m4 .1) in
+      (m0 .0, m1 .0, m2 .0, m3 .0, m4 .0, m5 .0, hit g 8 0 (λ q. omega arith) (m5 .1))
+
+  eight-from : (a ≡ false) × (b ≡ false) × (c ≡ false) × (d ≡ false) × (e ≡ false) × (f ≡ false) × (g ≡ true) → chain a b c d e f g ≡ 8
+  eight-from h = rw (h .0, h .1, h .2, h .3, h .4, h .5, h .6)
+
+  none-to : chain a b c d e f g ≡ 0 → (a ≡ false) × (b ≡ false) × (c ≡ false) × (d ≡ false) × (e ≡ false) × (f ≡ false) × (g ≡ false)
+  none-to h =
+      let m0 = miss a 2 0 (cond b 3 (cond c 4 (cond d 5 (cond e 6 (cond f 7 (cond g 8 0)))))) (λ q. omega arith) h in
+      let m1 = miss b 3 0 (cond c 4 (cond d 5 (cond e 6 (cond f 7 (cond g 8 0))))) (λ q. omega arith) (m0 .1) in
+      let m2 = miss c 4 0 (cond d 5 (cond e 6 (cond f 7 (cond g 8 0)))) (λ q. omega arith) (m1 .1) in
+      let m3 = miss d 5 0 (cond e 6 (cond f 7 (cond g 8 0))) (λ q. omega arith) (m2 .1) in
+      let m4 = miss e 6 0 (cond f 7 (cond g 8 0)) (λ q. omega arith) (m3 .1) in
+      let m5 = miss f 7 0 (cond g 8 0) (λ q. omega arith) (m4 .1) in
+      let m6 = miss g 8 0 0 (λ q. omega arith) (m5 .1) in
+      (m0 .0, m1 .0, m2 .0, m3 .0, m4 .0, m5 .0, m6 .0)
+
+  none-from : (a ≡ false) × (b ≡ false) × (c ≡ false) × (d ≡ false) × (e ≡ false) × (f ≡ false) × (g ≡ false) → chain a b c d e f g ≡ 0
+  none-from h = rw (h .0, h .1, h .2, h .3, h .4, h .5, h .6)
+
+-- refusals 2 to 8, and 0
+pub record Precisely (s : List ℕ) : Type 0 where
+  pub two : Iff (refusal s ≡ 2) ((malformedFile s ≡ true))
+  pub three : Iff (refusal s ≡ 3) ((malformedFile s ≡ false) × (badSize s ≡ true))
+  pub four : Iff (refusal s ≡ 4) ((malformedFile s ≡ false) × (badSize s ≡ false) × (any (count s) (notFinite s) ≡ true))
+  pub five : Iff (refusal s ≡ 5) ((malformedFile s ≡ false) × (badSize s ≡ false) × (any (count s) (notFinite s) ≡ false) × (le (sigma2 s) plusZero ≡ true))
+  pub six : Iff (refusal s ≡ 6) ((malformedFile s ≡ false) × (badSize s ≡ false) × (any (count s) (notFinite s) ≡ false) × (le (sigma2 s) plusZero ≡ false) × (badWeight s ≡ true))
+  pub seven : Iff (refusal s ≡ 7) ((malformedFile s ≡ false) × (badSize s ≡ false) × (any (count s) (notFinite s) ≡ false) × (le (sigma2 s) plusZero ≡ false) × (badWeight s ≡ false) × (misfit s ≡ true))
+  pub eight : Iff (refusal s ≡ 8) ((malformedFile s ≡ false) × (badSize s ≡ false) × (any (count s) (notFinite s) ≡ false) × (le (sigma2 s) plusZero ≡ false) × (badWeight s ≡ false) × (misfit s ≡ false) × (zeroContrast s ≡ true))
+  pub accepted : Iff (refusal s ≡ 0) ((malformedFile s ≡ false) × (badSize s ≡ false) × (any (count s) (notFinite s) ≡ false) × (le (sigma2 s) plusZero ≡ false) × (badWeight s ≡ false) × (misfit s ≡ false) × (zeroContrast s ≡ false))
+
+through : {A : Type 0} (x y n : ℕ) → x ≡ y → (y ≡ n → A) → (A → y ≡ n) → Iff (x ≡ n) A
+through x y n e f g = record { to = λ h. f (sym e ∙ h); from = λ h. e ∙ g h }
+
+pub precisely : (s : List ℕ) → Precisely s
+precisely s =
+    record {
+      two = through (refusal s) (cond (malformedFile s) 2 (cond (badSize s) 3 (cond (any (count s) (notFinite s)) 4 (cond (le (sigma2 s) plusZero) 5 (cond (badWeight s) 6 (cond (misfit s) 7 (cond (zeroContrast s) 8 0))))))) 2 (refusal-cases s) (two-to (malformedFile s) (badSize s) (any (count s) (notFinite s)) (le (sigma2 s) plusZero) (badWeight s) (misfit s) (zeroContrast s)) (two-from (malformedFile s) (badSize s) (any (count s) (notFinite s)) (le (sigma2 s) plusZero) (badWeight s) (misfit s) (zeroContrast s));
+      three = through (refusal s) (cond (malformedFile s) 2 (cond (badSize s) 3 (cond (any (count s) (notFinite s)) 4 (cond (le (sigma2 s) plusZero) 5 (cond (badWeight s) 6 (cond (misfit s) 7 (cond (zeroContrast s) 8 0))))))) 3 (refusal-cases s) (three-to (malformedFile s) (badSize s) (any (count s) (notFinite s)) (le (sigma2 s) plusZero) (badWeight s) (misfit s) (zeroContrast s)) (three-from (malformedFile s) (badSize s) (any (count s) (notFinite s)) (le (sigma2 s) plusZero) (badWeight s) (misfit s) (zeroContrast s));
+      four = through (refusal s) (cond (malformedFile s) 2 (cond (badSize s) 3 (cond (any (count s) (notFinite s)) 4 (cond (le (sigma2 s) plusZero) 5 (cond (badWeight s) 6 (cond (misfit s) 7 (cond (zeroContrast s) 8 0))))))) 4 (refusal-cases s) (four-to (malformedFile s) (badSize s) (any (count s) (notFinite s)) (le (sigma2 s) plusZero) (badWeight s) (misfit s) (zeroContrast s)) (four-from (malformedFile s) (badSize s) (any (count s) (notFinite s)) (le (sigma2 s) plusZero) (badWeight s) (misfit s) (zeroContrast s));
+      five = through (refusal s) (cond (malformedFile s) 2 (cond (badSize s) 3 (cond (any (count s) (notFinite s)) 4 (cond (le (sigma2 s) plusZero) 5 (cond (badWeight s) 6 (cond (misfit s) 7 (cond (zeroContrast s) 8 0))))))) 5 (refusal-cases s) (five-to (malformedFile s) (badSize s) (any (count s) (notFinite s)) (le (sigma2 s) plusZero) (badWeight s) (misfit s) (zeroContrast s)) (five-from (malformedFile s) (badSize s) (any (count s) (notFinite s)) (le (sigma2 s) plusZero) (badWeight s) (misfit s) (zeroContrast s));
+      six = through (refusal s) (cond (malformedFile s) 2 (cond (badSize s) 3 (cond (any (count s) (notFinite s)) 4 (cond (le (sigma2 s) plusZero) 5 (cond (badWeight s) 6 (cond (misfit s) 7 (cond (zeroContrast s) 8 0))))))) 6 (refusal-cases s) (six-to (malformedFile s) (badSize s) (any (count s) (notFinite s)) (le (sigma2 s) plusZero) (badWeight s) (misfit s) (zeroContrast s)) (six-from (malformedFile s) (badSize s) (any (count s) (notFinite s)) (le (sigma2 s) plusZero) (badWeight s) (misfit s) (zeroContrast s));
+      seven = through (refusal s) (cond (malformedFile s) 2 (cond (badSize s) 3 (cond (any (count s) (notFinite s)) 4 (cond (le (sigma2 s) plusZero) 5 (cond (badWeight s) 6 (cond (misfit s) 7 (cond (zeroContrast s) 8 0))))))) 7 (refusal-cases s) (seven-to (malformedFile s) (badSize s) (any (count s) (notFinite s)) (le (sigma2 s) plusZero) (badWeight s) (misfit s) (zeroContrast s)) (seven-from (malformedFile s) (badSize s) (any (count s) (notFinite s)) (le (sigma2 s) plusZero) (badWeight s) (misfit s) (zeroContrast s));
+      eight = through (refusal s) (cond (malformedFile s) 2 (cond (badSize s) 3 (cond (any (count s) (notFinite s)) 4 (cond (le (sigma2 s) plusZero) 5 (cond (badWeight s) 6 (cond (misfit s) 7 (cond (zeroContrast s) 8 0))))))) 8 (refusal-cases s) (eight-to (malformedFile s) (badSize s) (any (count s) (notFinite s)) (le (sigma2 s) plusZero) (badWeight s) (misfit s) (zeroContrast s)) (eight-from (malformedFile s) (badSize s) (any (count s) (notFinite s)) (le (sigma2 s) plusZero) (badWeight s) (misfit s) (zeroContrast s));
+      accepted = through (refusal s) (cond (malformedFile s) 2 (cond (badSize s) 3 (cond (any (count s) (notFinite s)) 4 (cond (le (sigma2 s) plusZero) 5 (cond (badWeight s) 6 (cond (misfit s) 7 (cond (zeroContrast s) 8 0))))))) 0 (refusal-cases s) (none-to (malformedFile s) (badSize s) (any (count s) (notFinite s)) (le (sigma2 s) plusZero) (badWeight s) (misfit s) (zeroContrast s)) (none-from (malformedFile s) (badSize s) (any (count s) (notFinite s)) (le (sigma2 s) plusZero) (badWeight s) (misfit s) (zeroContrast s));
+    }
