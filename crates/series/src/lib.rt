@@ -4,7 +4,7 @@ ghost use mathlib.Core.Bool.{Bool, true, false, not, cond, _&&_, _||_};
 ghost use Prim.Native.Nat.{ℕ, _+_, _*_, _%_, _≤_, _<_, max};
 ghost use mathlib.Core.List.{List};
 ghost use lib.Dec.{eqb, ltb};
-ghost use lib.ListN.{length, getD};
+ghost use lib.ListN.{length, getD, take, drop};
 ghost use lib.Ieee.{nan, le};
 ghost use Rattle.arithmetic.specs.Numbers.{plusZero};
 ghost use Rattle.algebra.specs.Table.{row};
@@ -565,4 +565,19 @@ pub fn thetas_of(s: &[u8]) -> [f64; 3]
     let n = z.thetas;
     let sheet = records::sheet_of(false, s);
     three_at(&sheet, 723, n)
+}
+
+// The parts of a sheet that hold X, six numbers to a row, and Z, twenty-four to a row.
+pub fn x_part(sheet: &[f64]) -> &[f64]
+    requires { ⌜ length (now sheet) ≡ 835 ⌝ }
+    ensures { λ r. ⌜ (now r ≡ take 144 (drop 0 (now (sheet .entry)))) × (length (now r) ≡ 144) ⌝ }
+{
+    &sheet[0..144]
+}
+
+pub fn z_part(sheet: &[f64]) -> &[f64]
+    requires { ⌜ length (now sheet) ≡ 835 ⌝ }
+    ensures { λ r. ⌜ (now r ≡ take 576 (drop 144 (now (sheet .entry)))) × (length (now r) ≡ 576) ⌝ }
+{
+    &sheet[144..720]
 }
