@@ -6,8 +6,7 @@ use mathlib.Core.List.{List}
 use native.Mathlib.Omega.{arith}
 use lib.Dec.{eqb}
 use borrow.Author.Tests.{eqb-true}
-use Rattle.records.specs.declared.Kind.{Kind}
-use Rattle.records.specs.Scan.{any, most}
+use Rattle.records.specs.Scan.{any}
 use Rattle.records.specs.Kinds.{Table, kindAt}
 use Rattle.records.specs.File.{count, kindOf, rowOf, columnOf, badRecord, rows, columns}
 use Rattle.records.proofs.Laws.{any-none, most-le}

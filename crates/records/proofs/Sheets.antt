@@ -1,10 +1,9 @@
 -- What stands in a slot after the first n records.
-use Prim.Native.Nat.{ℕ, zero, suc, _+_, _<_, _≤_}
+use Prim.Native.Nat.{ℕ, zero, suc, _+_, _<_}
 use mathlib.Core.Path.{_≡_, refl, ap, ap₂, sym, _∙_}
 use mathlib.Core.Bool.{Bool, true, false, _||_, cond}
 use mathlib.Core.List.{List}
 use native.Mathlib.Omega.{arith}
-use native.Mathlib.Numerals.{add-one}
 use native.Mathlib.Decide.{ℕ-discrete}
 use lib.Dec.{eqb}
 use lib.ListN.{length, getD, set, replicate, length-set, length-replicate, getD-replicate}
@@ -18,7 +17,7 @@ use Rattle.records.specs.Scan.{any, last}
 use Rattle.records.specs.Kinds.{Table, kindAt}
 use Rattle.records.specs.File.{count, kindOf, rowOf, columnOf, countOf, valueOf, badRecord, isCell, again, has, cell}
 use Rattle.records.specs.Sheet.{tableOf, slot, slotOf, flagsAfter, sheetAfter}
-use Rattle.records.proofs.Laws.{or-true, any-more, any-none, any-same, last-more, last-same}
+use Rattle.records.proofs.Laws.{or-true, any-none, any-same, last-more, last-same}
 use Rattle.records.proofs.Slots.{Inside, good-inside, slot-cell, slot-fits}
 
 -- a list into which each record stores a value at a place: what the last that stored at j stored there

@@ -1,10 +1,9 @@
 -- Each cell has a slot of its own.
-use Prim.Native.Nat.{ℕ, zero, suc, _+_, _-_, _*_, _<_, _≤_}
-use mathlib.Core.Path.{_≡_, refl, ap, ap₂, sym, _∙_}
+use Prim.Native.Nat.{ℕ, _+_, _-_, _*_, _<_, _≤_}
+use mathlib.Core.Path.{_≡_, refl, ap, sym, _∙_}
 use mathlib.Core.Bool.{Bool, true, false, not, _||_, _&&_, cond, false≢true}
-use mathlib.Core.Logic.{⊎-elim, _⊎_}
 use mathlib.Core.List.{List}
-use native.Mathlib.Nat.{mul-le-mul, eq-or-lt-of-le}
+use native.Mathlib.Nat.{mul-le-mul}
 use native.Mathlib.Omega.{arith}
 use native.Mathlib.Decide.{decLt}
 use lib.Dec.{eqb, ltb, leb}
@@ -13,7 +12,7 @@ use borrow.Author.Tests.{eq-eqb, eqb-true, ltb-true, lt-ltb, le-ltb, leb-true, n
 use Rattle.records.specs.declared.Kind.{Kind}
 use Rattle.records.specs.Scan.{any, total}
 use Rattle.records.specs.Kinds.{Table, kindAt, unread, kenwardRoger, satterthwaite}
-use Rattle.records.specs.File.{count, kindOf, rowOf, columnOf, countOf, outOf, badRecord, isCell}
+use Rattle.records.specs.File.{kindOf, rowOf, columnOf, countOf, outOf, badRecord, isCell}
 use Rattle.records.specs.Sheet.{tableOf, slots, firstSlot, offset, slot, slotOf}
 use Rattle.records.proofs.Laws.{and-true, or-false, same-truth, any-none, total-more, total-le}
 

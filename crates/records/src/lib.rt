@@ -1,12 +1,11 @@
 // The reader of record files: what a file says, cell by cell. The functions that take `call` read the kinds of Satterthwaite's call where it is
 // true, and those of Kenward and Roger's where it is false.
 ghost use mathlib.Core.Path.{_≡_};
-ghost use mathlib.Core.Bool.{Bool, true, false, cond};
+ghost use mathlib.Core.Bool.{false, cond};
 ghost use lib.Dec.{eqb};
-ghost use Prim.Native.Nat.{ℕ, _+_, _*_, _≤_, _<_, max};
-ghost use lib.ListN.{length, getD};
-ghost use lib.Ieee.{le};
-ghost use Rattle.records.specs.Scan.{any, most};
+ghost use Prim.Native.Nat.{_+_, _≤_, _<_, max};
+ghost use lib.ListN.{getD};
+ghost use Rattle.records.specs.Scan.{any};
 ghost use Rattle.records.specs.Kinds.{cells, blocks, unread, kindAt, kenwardRoger, satterthwaite};
 ghost use Rattle.records.specs.File.{count, kindOf, rowOf, columnOf, paddingOf, countOf, bitsOf, valueOf, outOf, badRecord, again, rows, columns, notFinite};
 ghost use Rattle.records.specs.Sheet.{tableOf, firstSlot, offset, slotOf, flagsAfter, sheetAfter};

@@ -1,10 +1,9 @@
 -- What holds of a file that is not refused.
 use Prim.Native.Nat.{ℕ, zero, suc, _+_, _*_, _%_, _<_, _≤_}
-use mathlib.Core.Path.{_≡_, refl, ap, ap₂, sym, _∙_}
-use mathlib.Core.Bool.{Bool, true, false, not, cond, _&&_, _||_, false≢true}
+use mathlib.Core.Path.{_≡_, refl, ap, sym, _∙_}
+use mathlib.Core.Bool.{Bool, true, false, not, cond, _||_, false≢true}
 use mathlib.Core.List.{List}
 use native.Mathlib.Omega.{arith}
-use native.Mathlib.Numerals.{add-one}
 use lib.Dec.{eqb, ltb}
 use lib.ListN.{length}
 use lib.Ieee.{le}
@@ -18,11 +17,11 @@ use Rattle.records.proofs.Laws.{or-false, any-none}
 use mathlib.Core.Logic.{_⊎_, inl, inr, ⊎-elim}
 use Rattle.algebra.specs.Fold.{fold}
 use Rattle.algebra.specs.Table.{row}
-use Rattle.algebra.proofs.FoldLaws.{fold-more, fold-none, fold-ext}
+use Rattle.algebra.proofs.FoldLaws.{fold-ext}
 use Rattle.algebra.proofs.TableLaws.{row-at}
 use Rattle.adjustment.specs.declared.Block.{Block}
 use Rattle.adjustment.specs.Blocks.{noBlock, blockAt, columnsBefore, placesBefore}
-use Rattle.series.specs.Gathered.{sizesOf, Small, malformedFile}
+use Rattle.series.specs.Gathered.{sizesOf, malformedFile}
 use Rattle.series.proofs.Gathers.{small}
 use Rattle.series.proofs.Numbers.{refusal-cases, malformed-none}
 

@@ -1,13 +1,13 @@
 -- Laws of the sizes that the code gathers.
 use Prim.Native.Nat.{ℕ, zero, suc, _+_, _*_, _<_, _≤_, max}
-use mathlib.Core.Path.{_≡_, refl, ap, ap₂, sym, _∙_}
-use mathlib.Core.Bool.{Bool, true, false, not, cond, _&&_, _||_}
+use mathlib.Core.Path.{_≡_, refl, sym, _∙_}
+use mathlib.Core.Bool.{Bool, true, false, not, cond, _&&_}
 use mathlib.Core.List.{List, [], _∷_}
 use native.Mathlib.Omega.{arith}
 use native.Mathlib.Nat.{mul-le-mul}
 use native.Mathlib.Decide.{decLt}
 use lib.Dec.{eqb, ltb}
-use lib.ListN.{length, getD, set, replicate, List·getD-eq-default}
+use lib.ListN.{getD, set, replicate, List·getD-eq-default}
 use mathlib.Core.Logic.{_⊎_, inl, inr}
 use borrow.Author.Tests.{ltb-false}
 use Rattle.adjustment.specs.declared.Block.{Block}
@@ -17,7 +17,7 @@ use Rattle.records.specs.Sheet.{firstSlot, slots}
 use Rattle.records.proofs.Laws.{any-none}
 use Rattle.series.specs.declared.Sizes.{Sizes}
 use Rattle.series.specs.Gathered.{sizesOf, tableFor, Small}
-use Rattle.records.specs.Kinds.{Table, kindAt, unread, kenwardRoger}
+use Rattle.records.specs.Kinds.{kindAt, unread, kenwardRoger}
 use Rattle.records.specs.File.{count, rows, columns, badRecord}
 use Rattle.records.specs.Series.{sizes, specimens, coefficients}
 use Rattle.records.specs.Scan.{any, total}

@@ -1,16 +1,16 @@
 -- A file that is longer than every cell's record together is refused with 2, so a program may read into a buffer that holds one byte more.
 use Prim.Native.Nat.{ℕ, _%_, _<_, _≤_}
-use mathlib.Core.Path.{_≡_, refl, sym, ap, _∙_}
-use mathlib.Core.Bool.{Bool, true, false, not, cond, false≢true}
+use mathlib.Core.Path.{_≡_, refl, sym, _∙_}
+use mathlib.Core.Bool.{Bool, true, false, cond, false≢true}
 use mathlib.Core.List.{List}
 use native.Mathlib.Omega.{arith}
 use lib.Dec.{eqb}
 use lib.ListN.{length}
 use borrow.Author.Tests.{eq-eqb, eqb-true, not-false}
 use Rattle.records.specs.Scan.{any}
-use Rattle.records.specs.Kinds.{kindAt, kenwardRoger}
+use Rattle.records.specs.Kinds.{kenwardRoger}
 use Rattle.records.specs.File.{count, kindOf, rowOf, columnOf, countOf, badRecord, isCell, again}
-use Rattle.records.specs.Sheet.{slot, slotOf}
+use Rattle.records.specs.Sheet.{slotOf}
 use Rattle.records.specs.Series.{refusal}
 use Rattle.records.proofs.Laws.{any-none}
 use Rattle.records.proofs.Slots.{good-inside, slot-cell, slot-fits}

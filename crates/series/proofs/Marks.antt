@@ -1,27 +1,27 @@
 -- What the flags say is missing is what the file misses.
-use Prim.Native.Nat.{ℕ, zero, suc, _+_, _*_, _<_, _≤_}
-use mathlib.Core.Path.{_≡_, refl, ap, ap₂, sym, _∙_}
+use Prim.Native.Nat.{ℕ, zero, suc, _+_, _*_, _<_}
+use mathlib.Core.Path.{_≡_, refl, ap, _∙_}
 use mathlib.Core.Bool.{Bool, true, false, not, cond, _&&_, _||_}
 use mathlib.Core.List.{List}
 use mathlib.Core.Logic.{_⊎_, inl, inr, ⊎-elim}
 use native.Mathlib.Omega.{arith}
 use lib.Dec.{eqb}
 use lib.ListN.{getD}
-use lib.Ieee.{Float, nan}
+use lib.Ieee.{nan}
 use borrow.Author.Tests.{eqb-true}
 use Rattle.records.specs.declared.Kind.{Kind}
-use Rattle.records.specs.Scan.{any, total}
-use Rattle.records.specs.Kinds.{Table, kindAt, unread, kenwardRoger}
-use Rattle.records.specs.File.{count, badRecord, has, cell, missing}
-use Rattle.records.specs.Sheet.{firstSlot, slots, offset, slot, flagsAfter, sheetAfter}
+use Rattle.records.specs.Scan.{any}
+use Rattle.records.specs.Kinds.{Table, kindAt, kenwardRoger}
+use Rattle.records.specs.File.{count, badRecord, has, missing}
+use Rattle.records.specs.Sheet.{firstSlot, offset, slot, flagsAfter, sheetAfter}
 use Rattle.records.specs.Series.{sizes, incomplete, number}
-use Rattle.records.proofs.Laws.{any-same, any-none}
-use Rattle.records.proofs.Slots.{Inside, each-kind}
+use Rattle.records.proofs.Laws.{any-same}
+use Rattle.records.proofs.Slots.{each-kind}
 use Rattle.records.proofs.Sheets.{cell-flag, cell-value}
 use Rattle.series.specs.declared.Sizes.{Sizes}
 use Rattle.series.specs.Gathered.{sizesOf, tableFor, Small}
 use Rattle.series.specs.Checks.{gapInRow, gaps, missingIn}
-use Rattle.series.proofs.Gathers.{Below, size-below, sizes-table, small}
+use Rattle.series.proofs.Gathers.{size-below, sizes-table, small}
 
 -- a block's kind has one column
 one-column : Kind → Bool

@@ -1,14 +1,14 @@
 -- What the code reads off the sheet and the array of blocks is what the file says.
-use Prim.Native.Nat.{ℕ, zero, suc, _+_, _*_, _%_, _<_, _≤_, max}
-use mathlib.Core.Path.{_≡_, refl, ap, ap₂, sym, _∙_}
+use Prim.Native.Nat.{ℕ, zero, suc, _+_, _*_, _%_, _<_, _≤_}
+use mathlib.Core.Path.{_≡_, refl, ap, ap₂}
 use mathlib.Core.Bool.{Bool, true, false, not, cond, _&&_, _||_}
-use mathlib.Core.List.{List, [], _∷_}
+use mathlib.Core.List.{List}
 use native.Mathlib.Omega.{arith}
 use lib.Dec.{eqb, ltb}
 use lib.ListN.{length, getD}
 use lib.Ieee.{Float, nan, le}
 use Rattle.arithmetic.specs.Numbers.{plusZero, isZero}
-use Rattle.algebra.specs.Table.{row, table}
+use Rattle.algebra.specs.Table.{row}
 use Rattle.algebra.proofs.TableLaws.{row-at}
 use Rattle.adjustment.specs.declared.Block.{Block}
 use Rattle.adjustment.specs.Blocks.{noBlock, blockAt}
@@ -18,7 +18,7 @@ use Rattle.records.specs.File.{count, badRecord, again, beyond, notFinite, pres
 use Rattle.records.specs.Sheet.{firstSlot, slots, sheetAfter}
 use Rattle.records.specs.Series.{specimens, coefficients, blockCount, contrastRows, sizes, number, sigma2, blockOf, parametersOf, incomplete, badSize, badWeight, misfit, zeroContrast, reasons, refusal}
 use Rattle.records.proofs.Laws.{any-same, or-false}
-use Rattle.series.specs.Gathered.{sizesOf, Small, malformedFile}
+use Rattle.series.specs.Gathered.{sizesOf, malformedFile}
 use Rattle.series.specs.Checks.{nonzeroInRow, nonzeros, notPositive, wrongBlock, parametersIn, columnsIn, badSizeIn, misfitIn, badWeightIn, zeroContrastIn, lateRefusal}
 use Rattle.series.proofs.Gathers.{small}
 use Rattle.series.proofs.Marks.{number-at}

@@ -1,6 +1,6 @@
 -- Each number holds precisely under its condition: the first line of a list of (number, condition) whose condition holds gives the number.
-use Prim.Native.Nat.{ℕ, zero, suc, _<_, _≤_, suc-le-suc}
-use mathlib.Core.Path.{_≡_, refl, sym, ap, _∙_}
+use Prim.Native.Nat.{ℕ, zero, suc, _<_, suc-le-suc}
+use mathlib.Core.Path.{_≡_, refl, sym, _∙_}
 use mathlib.Core.Bool.{Bool, true, false, cond, false≢true}
 use mathlib.Core.List.{List, [], _∷_}
 use native.Mathlib.Nat.{not-suc-le-zero, le-of-suc-le-suc}

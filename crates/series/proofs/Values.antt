@@ -1,15 +1,13 @@
 -- The arrays that the code reads off the sheet are the series' own, and so are the parts of the sheet that hold X and Z.
-use Prim.Native.Nat.{ℕ, zero, suc, _+_, _*_, _<_, _≤_}
-use mathlib.Core.Path.{_≡_, refl, ap, ap₂, sym, _∙_}
-use mathlib.Core.Bool.{Bool, false}
+use Prim.Native.Nat.{ℕ, _+_, _*_, _<_, _≤_}
+use mathlib.Core.Path.{_≡_, refl, ap, sym, _∙_}
+use mathlib.Core.Bool.{false}
 use mathlib.Core.List.{List, []}
 use native.Mathlib.Omega.{arith}
-use native.Mathlib.Nat.{mul-le-mul}
 use lib.ListN.{length, getD, set, replicate, take, drop, length-replicate}
 use lib.Seq.{getD-take, getD-drop, ext-getD}
-use lib.Ieee.{Float, nan}
+use lib.Ieee.{nan}
 use Rattle.arithmetic.specs.Numbers.{plusZero}
-use Rattle.algebra.specs.Fold.{fold}
 use Rattle.algebra.specs.Table.{row, table}
 use Rattle.algebra.proofs.FoldLaws.{fold-ext, length-span}
 use Rattle.algebra.proofs.TableLaws.{row-at, table-row, table-ext, length-table}
@@ -18,7 +16,7 @@ use Rattle.records.specs.Kinds.{kindAt, kenwardRoger}
 use Rattle.records.specs.File.{count, badRecord}
 use Rattle.records.specs.Sheet.{firstSlot, slots, sheetAfter}
 use Rattle.records.specs.Series.{specimens, coefficients, zColumns, contrastRows, thetas, number, design, phi, beta, betaH, contrast}
-use Rattle.series.specs.Gathered.{sizesOf, Small}
+use Rattle.series.specs.Gathered.{sizesOf}
 use Rattle.series.specs.Checks.{numbersAt, sixAt}
 use Rattle.series.proofs.Gathers.{small}
 use Rattle.series.proofs.Marks.{number-at}

@@ -3,7 +3,6 @@ use Prim.Native.Nat.{ℕ, _%_, _≤_}
 use mathlib.Core.Bool.{Bool, cond, not, _&&_, _||_}
 use mathlib.Core.List.{List, [], _∷_}
 use Rattle.series.specs.declared.Sizes.{Sizes}
-use Rattle.adjustment.specs.declared.Block.{Block}
 use Rattle.records.specs.Kinds.{Table, cells, blocks, unread, kenwardRoger}
 use lib.Dec.{eqb}
 use lib.ListN.{length}

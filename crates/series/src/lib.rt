@@ -1,19 +1,14 @@
 // A Kenward–Roger series as its record file gives it, and the refusals that come before any computing (kenward_roger).
 ghost use mathlib.Core.Path.{_≡_};
-ghost use mathlib.Core.Bool.{Bool, true, false, not, cond, _&&_, _||_};
-ghost use Prim.Native.Nat.{ℕ, _+_, _*_, _%_, _≤_, _<_, max};
-ghost use mathlib.Core.List.{List};
-ghost use lib.Dec.{eqb, ltb};
-ghost use lib.ListN.{length, getD, take, drop};
-ghost use lib.Ieee.{nan, le};
-ghost use Rattle.arithmetic.specs.Numbers.{plusZero};
+ghost use mathlib.Core.Bool.{cond};
+ghost use Prim.Native.Nat.{ℕ, _+_, _*_, _≤_, _<_, max};
+ghost use lib.ListN.{length, take, drop};
 ghost use Rattle.algebra.specs.Table.{row};
 ghost use Rattle.adjustment.specs.Blocks.{noBlock, blockAt};
-ghost use Rattle.records.specs.Scan.{any, total};
+ghost use Rattle.records.specs.Scan.{any};
 ghost use Rattle.records.specs.Kinds.{kindAt, kenwardRoger};
-ghost use Rattle.records.specs.File.{count, columnOf, countOf, isCell, badRecord, again, beyond};
-ghost use Rattle.records.specs.Sheet.{flagsAfter, sheetAfter};
-ghost use Rattle.records.specs.Series.{blockOf, incomplete, badSize, misfit, refusal, sigma2, phi, contrast, beta, betaH, design, coefficients};
+ghost use Rattle.records.specs.File.{count, isCell, beyond};
+ghost use Rattle.records.specs.Series.{blockOf, refusal, sigma2, phi, contrast, beta, betaH, design};
 ghost use Rattle.series.specs.Gathered.{sizesOf, tableFor, Small, malformedFile};
 ghost use Rattle.series.specs.Checks.{gapInRow, gaps, missingIn, nonzeroInRow, nonzeros, notPositive, wrongBlock, parametersIn, columnsIn, numbersAt, sixAt, badSizeIn, misfitIn, badWeightIn, zeroContrastIn, lateRefusal};
 

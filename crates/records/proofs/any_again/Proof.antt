@@ -1,15 +1,15 @@
 -- `records::any_again` meets its contract.
 use Prim.Native.Nat.{ℕ, _≤_, _-_}
-use mathlib.Core.Path.{_≡_, refl, sym, ap, ap₂, _∙_}
+use mathlib.Core.Path.{_≡_, refl, sym, ap₂, _∙_}
 use mathlib.Core.List.{List}
 use lib.ListN.{getD}
-use mathlib.Core.Bool.{Bool, false, true}
+use mathlib.Core.Bool.{Bool, false}
 use denote.Ref.{now}
 use Rattle.records.specs.Scan.{any}
-use Rattle.records.specs.File.{count, badRecord, again}
-use Rattle.records.specs.Sheet.{tableOf, slotOf, flagsAfter}
+use Rattle.records.specs.File.{count, again}
+use Rattle.records.specs.Sheet.{tableOf, flagsAfter}
 use Rattle.records.proofs.Laws.{any-none, any-miss, any-hit}
-use Rattle.records.proofs.Sheets.{flags-start, flags-next, flag-again, length-flags}
+use Rattle.records.proofs.Sheets.{flags-start, flags-next, flag-again}
 use native.Mathlib.Omega.{arith}
 use Rattle.records.proofs.any_again.Statement.{statement}
 use Rattle.records.proofs.any_again.Tie as tie

@@ -1,6 +1,5 @@
 -- `records::bad_record` meets its contract.
 use borrow.Author.Tests.{eq-eqb, ne-eqb}
-use mathlib.Core.Path.{_≡_, sym}
 use Rattle.records.specs.File.{badRecord}
 use borrow.Author.Needs.{needs}
 use Rattle.records.proofs.bad_record.Statement.{statement}

@@ -1,6 +1,5 @@
 -- `records::columns_in` meets its contract.
 use borrow.Author.Tests.{eq-eqb, ne-eqb}
-use mathlib.Core.Path.{_≡_, sym}
 use borrow.Author.Needs.{needs}
 use Rattle.records.proofs.columns_in.Statement.{statement}
 use Rattle.records.proofs.columns_in.Tie as tie

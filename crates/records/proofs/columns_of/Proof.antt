@@ -1,6 +1,6 @@
 -- `records::columns_of` meets its contract.
-use Prim.Native.Nat.{ℕ, _+_, _≤_, _-_, max}
-use mathlib.Core.Path.{_≡_, refl, sym, ap, _∙_}
+use Prim.Native.Nat.{ℕ, _+_, _≤_, _-_}
+use mathlib.Core.Path.{_≡_, refl, ap, _∙_}
 use mathlib.Core.Bool.{cond}
 use denote.Ref.{now}
 use lib.Dec.{eqb}

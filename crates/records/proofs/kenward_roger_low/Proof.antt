@@ -1,6 +1,6 @@
 -- `records::kenward_roger_low` meets its contract.
-use mathlib.Core.Path.{_≡_, refl, sym, ap, ap₂, _∙_}
-use lib.ListN.{getD, List·getD-eq-default}
+use mathlib.Core.Path.{sym, _∙_}
+use lib.ListN.{List·getD-eq-default}
 use Rattle.records.specs.Kinds.{kenwardRoger, unread}
 use Rattle.records.proofs.Laws.{same-eleven}
 use borrow.Author.Needs.{needs}

@@ -1,7 +1,6 @@
 -- `records::kind_of` meets its contract.
 use Prim.Native.Nat.{ℕ, _<_, _≤_, _-_}
-use mathlib.Core.Path.{_≡_, sym, ap, _∙_}
-use mathlib.Core.List.{[]}
+use mathlib.Core.Path.{ap, _∙_}
 use lib.ListN.{getD}
 use Rattle.records.specs.Kinds.{kenwardRoger, satterthwaite, unread}
 use Rattle.records.proofs.Slots.{kind-low, kind-high}

@@ -1,6 +1,5 @@
 -- `records::out_of` meets its contract.
 use borrow.Author.Tests.{lt-ltb, le-ltb}
-use mathlib.Core.Path.{_≡_, sym}
 use Rattle.records.specs.File.{outOf}
 use borrow.Author.Needs.{needs}
 use Rattle.records.proofs.out_of.Statement.{statement}

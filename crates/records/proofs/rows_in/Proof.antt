@@ -1,6 +1,5 @@
 -- `records::rows_in` meets its contract.
 use borrow.Author.Tests.{eq-eqb, ne-eqb}
-use mathlib.Core.Path.{_≡_, sym}
 use borrow.Author.Needs.{needs}
 use Rattle.records.proofs.rows_in.Statement.{statement}
 use Rattle.records.proofs.rows_in.Tie as tie

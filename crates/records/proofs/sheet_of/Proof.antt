@@ -1,11 +1,10 @@
 -- `records::sheet_of` meets its contract.
-use Prim.Native.Nat.{ℕ, _≤_, _-_}
-use mathlib.Core.Path.{_≡_, refl, sym, ap, _∙_}
+use Prim.Native.Nat.{_≤_, _-_}
+use mathlib.Core.Path.{_≡_, refl, ap, _∙_}
 use denote.Ref.{now}
 use lib.Ieee.{ofBits}
-use Rattle.records.specs.Scan.{any}
-use Rattle.records.specs.File.{count, badRecord}
-use Rattle.records.specs.Sheet.{tableOf, slotOf, sheetAfter}
+use Rattle.records.specs.File.{count}
+use Rattle.records.specs.Sheet.{tableOf, sheetAfter}
 use Rattle.records.proofs.Laws.{any-none}
 use Rattle.records.proofs.Sheets.{sheet-start, sheet-next}
 use native.Mathlib.Omega.{arith}

@@ -1,6 +1,6 @@
 -- `records::slot_at` meets its contract.
-use Prim.Native.Nat.{ℕ, _+_, _<_, _≤_}
-use mathlib.Core.Path.{_≡_, refl, sym, ap, _∙_}
+use Prim.Native.Nat.{_+_, _<_, _≤_}
+use mathlib.Core.Path.{_≡_, ap}
 use denote.Ref.{now}
 use Rattle.records.specs.declared.Kind.{Kind}
 use Rattle.records.specs.File.{kindOf, rowOf, columnOf, countOf}

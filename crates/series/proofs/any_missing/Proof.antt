@@ -1,6 +1,6 @@
 -- `series::any_missing` meets its contract.
-use Prim.Native.Nat.{ℕ, _≤_, _-_}
-use mathlib.Core.Path.{_≡_, refl, sym, ap, _∙_}
+use Prim.Native.Nat.{_≤_, _-_}
+use mathlib.Core.Path.{_≡_, refl, sym}
 use mathlib.Core.Bool.{false}
 use Rattle.records.specs.Scan.{any}
 use Rattle.records.proofs.Laws.{any-miss, any-hit}

@@ -1,9 +1,7 @@
 -- `series::any_not_positive` meets its contract.
-use Prim.Native.Nat.{ℕ, _+_, _≤_, _-_}
-use mathlib.Core.Path.{_≡_, refl, sym, ap, _∙_}
-use mathlib.Core.Bool.{false, not}
-use denote.Ref.{now}
-use lib.ListN.{getD}
+use Prim.Native.Nat.{_+_, _≤_, _-_}
+use mathlib.Core.Path.{_≡_, refl, sym}
+use mathlib.Core.Bool.{false}
 use lib.Ieee.{ofBits}
 use Rattle.records.specs.Scan.{any}
 use Rattle.records.proofs.Laws.{any-miss, any-hit}

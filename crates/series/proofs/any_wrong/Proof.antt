@@ -1,6 +1,6 @@
 -- `series::any_wrong` meets its contract.
-use Prim.Native.Nat.{ℕ, _≤_, _-_}
-use mathlib.Core.Path.{_≡_, refl, sym, ap, _∙_}
+use Prim.Native.Nat.{_≤_, _-_}
+use mathlib.Core.Path.{_≡_, refl, sym}
 use mathlib.Core.Bool.{false}
 use Rattle.adjustment.specs.Blocks.{blockAt}
 use Rattle.records.specs.Scan.{any}

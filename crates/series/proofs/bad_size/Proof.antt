@@ -1,5 +1,4 @@
 -- `series::bad_size` meets its contract.
-use mathlib.Core.Path.{_≡_, refl, sym, ap, _∙_}
 use Rattle.series.specs.Checks.{badSizeIn}
 use borrow.Author.Needs.{needs}
 use Rattle.series.proofs.bad_size.Statement.{statement}

@@ -1,5 +1,4 @@
 -- `series::bad_weight` meets its contract.
-use mathlib.Core.Path.{_≡_, refl, sym, ap, _∙_}
 use Rattle.series.specs.Checks.{badWeightIn}
 use native.Mathlib.Omega.{arith}
 use borrow.Author.Needs.{needs}

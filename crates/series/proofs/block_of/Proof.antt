@@ -1,6 +1,5 @@
 -- `series::block_of` meets its contract.
 use Rattle.records.specs.Series.{blockOf}
-use mathlib.Core.Path.{_≡_}
 use borrow.Author.Needs.{needs}
 use Rattle.series.proofs.block_of.Statement.{statement}
 use Rattle.series.proofs.block_of.Tie as tie

@@ -1,14 +1,11 @@
 -- `series::blocks_of` meets its contract.
-use Prim.Native.Nat.{ℕ, _≤_, _-_, _+_}
-use mathlib.Core.Path.{_≡_, refl, sym, ap, _∙_}
-use mathlib.Core.List.{List}
+use Prim.Native.Nat.{_≤_, _-_}
+use mathlib.Core.Path.{_≡_, ap}
 use denote.Ref.{now}
 use lib.ListN.{set, replicate}
-use Rattle.algebra.specs.Fold.{fold}
 use Rattle.algebra.specs.Table.{row}
 use Rattle.algebra.proofs.FoldLaws.{fold-start, fold-next, fold-end}
-use Rattle.adjustment.specs.declared.Block.{Block}
-use Rattle.adjustment.specs.Blocks.{noBlock, blockAt}
+use Rattle.adjustment.specs.Blocks.{noBlock}
 use Rattle.records.specs.Series.{blockOf}
 use Rattle.series.proofs.Gathers.{set-bounded, Bounded, none-bounded}
 use native.Mathlib.Omega.{arith}

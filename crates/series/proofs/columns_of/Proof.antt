@@ -1,6 +1,6 @@
 -- `series::columns_of` meets its contract.
-use Prim.Native.Nat.{ℕ, _≤_, _<_, _-_, _+_, _*_}
-use mathlib.Core.Path.{_≡_, refl, sym, ap, _∙_}
+use Prim.Native.Nat.{ℕ, _≤_, _-_, _*_}
+use mathlib.Core.Path.{_≡_, refl}
 use native.Mathlib.Nat.{mul-le-mul}
 use Rattle.adjustment.specs.Blocks.{blockAt}
 use Rattle.records.specs.Scan.{total}

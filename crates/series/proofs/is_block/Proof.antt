@@ -1,6 +1,6 @@
 -- `series::is_block` meets its contract.
 use borrow.Author.Tests.{eq-eqb, ne-eqb}
-use mathlib.Core.Path.{_≡_, refl, sym, ap, _∙_}
+use mathlib.Core.Path.{_≡_, refl}
 use mathlib.Core.Bool.{Bool, true, false, _&&_}
 use Rattle.records.specs.Kinds.{kindAt, kenwardRoger}
 use Rattle.records.specs.File.{isCell}

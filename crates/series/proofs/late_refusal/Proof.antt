@@ -1,5 +1,4 @@
 -- `series::late_refusal` meets its contract.
-use mathlib.Core.Path.{_≡_, refl, sym, ap, _∙_}
 use lib.Ieee.{ofBits}
 use Rattle.records.specs.Scan.{first}
 use Rattle.series.specs.Checks.{lateRefusal}

@@ -1,5 +1,4 @@
 -- `series::misfit` meets its contract.
-use mathlib.Core.Path.{_≡_, refl, sym, ap, _∙_}
 use borrow.Author.Tests.{eq-eqb, ne-eqb}
 use Rattle.series.specs.Checks.{misfitIn}
 use borrow.Author.Needs.{needs}

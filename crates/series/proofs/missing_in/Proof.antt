@@ -1,6 +1,5 @@
 -- `series::missing_in` meets its contract.
 use borrow.Author.Tests.{eq-eqb, ne-eqb}
-use mathlib.Core.Path.{_≡_, refl, sym, ap, _∙_}
 use Rattle.series.specs.Checks.{missingIn}
 use Rattle.series.proofs.Gathers.{kind-fits}
 use native.Mathlib.Omega.{arith}

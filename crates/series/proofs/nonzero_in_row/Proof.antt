@@ -1,9 +1,7 @@
 -- `series::nonzero_in_row` meets its contract.
-use Prim.Native.Nat.{ℕ, _+_, _≤_, _-_}
-use mathlib.Core.Path.{_≡_, refl, sym, ap, _∙_}
-use mathlib.Core.Bool.{false, not}
-use denote.Ref.{now}
-use lib.ListN.{getD}
+use Prim.Native.Nat.{_+_, _≤_, _-_}
+use mathlib.Core.Path.{_≡_, refl, sym}
+use mathlib.Core.Bool.{false}
 use Rattle.records.specs.Scan.{any}
 use Rattle.records.proofs.Laws.{any-miss, any-hit}
 use Rattle.series.specs.Checks.{nonzeroInRow}

@@ -1,11 +1,11 @@
 -- `series::phi_of` meets its contract.
-use mathlib.Core.Path.{_≡_, refl, sym, ap, ap₂, _∙_}
+use mathlib.Core.Path.{ap₂, _∙_}
 use mathlib.Core.List.{List}
 use denote.Ref.{now}
 use lib.Ieee.{Float}
 use Rattle.series.specs.declared.Sizes.{Sizes}
 use Rattle.series.specs.Gathered.{Small}
-use Rattle.series.specs.Checks.{numbersAt, sixAt}
+use Rattle.series.specs.Checks.{sixAt}
 use Rattle.series.proofs.Gathers.{small}
 use Rattle.series.proofs.Values.{phi-read}
 use Rattle.series.proofs.Accepted.{accepted}

@@ -1,6 +1,6 @@
 -- `series::refusal` meets its contract.
 use Prim.Native.Nat.{ℕ, _≤_}
-use mathlib.Core.Path.{_≡_, refl, sym, ap, ap₂, _∙_}
+use mathlib.Core.Path.{_≡_, sym, ap, _∙_}
 use mathlib.Core.Bool.{Bool, false, cond}
 use mathlib.Core.List.{List}
 use denote.Ref.{now}
@@ -14,7 +14,7 @@ use Rattle.records.specs.File.{count}
 use Rattle.records.specs.Sheet.{sheetAfter}
 use Rattle.records.specs.Series.{blockCount, blockOf, badSize, sigma2, badWeight, misfit, zeroContrast}
 use Rattle.series.specs.declared.Sizes.{Sizes}
-use Rattle.series.specs.Gathered.{sizesOf, Small, malformedFile}
+use Rattle.series.specs.Gathered.{sizesOf, malformedFile}
 use Rattle.series.specs.Checks.{badSizeIn, lateRefusal}
 use Rattle.series.proofs.Gathers.{small}
 use Rattle.series.proofs.Numbers.{size-read, late-read, refusal-cases, malformed-good}

@@ -1,11 +1,10 @@
 -- `series::six_at` meets its contract.
-use Prim.Native.Nat.{ℕ, _+_, _≤_, _-_}
-use mathlib.Core.Path.{_≡_, refl, sym, ap, _∙_}
+use Prim.Native.Nat.{_+_, _≤_, _-_}
+use mathlib.Core.Path.{_≡_, refl}
 use denote.Ref.{now}
 use lib.ListN.{getD, set, replicate}
 use lib.Ieee.{nan, ofBits}
 use Rattle.arithmetic.specs.Numbers.{plusZero}
-use Rattle.algebra.specs.Fold.{fold}
 use Rattle.algebra.specs.Table.{row}
 use Rattle.algebra.proofs.FoldLaws.{fold-start, fold-next, fold-end}
 use Rattle.series.specs.Checks.{numbersAt}

@@ -1,8 +1,7 @@
 -- `series::size_of` meets its contract.
 use Prim.Native.Nat.{ℕ}
-use mathlib.Core.Path.{_≡_, refl, sym, ap, _∙_}
-use lib.ListN.{getD, List·getD-eq-default}
-use Rattle.records.specs.declared.Kind.{Kind}
+use mathlib.Core.Path.{sym, ap, _∙_}
+use lib.ListN.{List·getD-eq-default}
 use Rattle.records.specs.Kinds.{unread, cells, blocks}
 use Rattle.records.proofs.Laws.{same-eleven}
 use Rattle.series.specs.Gathered.{tableFor}

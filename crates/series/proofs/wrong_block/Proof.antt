@@ -1,5 +1,5 @@
 -- `series::wrong_block` meets its contract.
-use mathlib.Core.Path.{_≡_, refl}
+use mathlib.Core.Path.{refl}
 use Rattle.series.specs.Checks.{wrongBlock}
 use Rattle.series.proofs.wrong_block.Statement.{statement}
 use Rattle.series.proofs.wrong_block.Tie as tie
