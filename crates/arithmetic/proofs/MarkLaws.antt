@@ -2,24 +2,25 @@
 -- It is shut here: what it rests on, a range of exponents, may change without a change above. Each marked step implies that its operands bear as much, and keeps
 -- the relation `Moves` between a number and that of a second run whose inputs were scaled.
 use mathlib.Core.Path.{_≡_, refl, sym, ap, _∙_, subst}
-use Prim.Native.Nat.{ℕ, _+_, _≤_}
+use Prim.Native.Nat.{ℕ, zero, suc, _+_, _-_, _≤_}
 use native.Mathlib.Nat.{le-trans}
 use mathlib.Core.Bool.{Bool, true, false, not, _&&_, _||_}
 use mathlib.Core.Logic.{_⊎_, inl, inr}
 use lib.IntN.{ℤ, natAbs, _+ℤ_, _-ℤ_}
 use lib.Dec.{T, lit≤}
-use lib.Ieee.{Float, binary64, fits, neg, add, sub, mul, div}
-use lib.Ieee.Fits.{and-l, and-r, neg-fits}
+use lib.Ieee.{Float, nan, inf, fin, binary64, prec, emax, low, fits, neg, add, sub, mul, div}
+use lib.Ieee.Fits.{and-l, and-r, neg-fits, mul-fits}
 use Rattle.arithmetic.specs.declared.Marked.{Marked}
 use Rattle.arithmetic.specs.Numbers.{magnitude, isZero}
-use Rattle.arithmetic.specs.Scale.{scale}
+use Rattle.arithmetic.specs.Scale.{scale, powerOfTwo}
 use Rattle.arithmetic.specs.SquareRoot.{squareRoot}
 use Rattle.arithmetic.specs.Marks.{inRange, marked, given, stepMark, lostProduct, lostQuotient, markedAdd, markedSub, markedMul, markedDiv, markedRoot, markedNeg, markedMagnitude, also}
 use Rattle.arithmetic.proofs.ScaleLaws.{scale-neg}
 use Rattle.arithmetic.proofs.Operations.{Zero, Safe}
 use Rattle.arithmetic.proofs.Rounding.{Within}
-use Rattle.arithmetic.proofs.Ranges.{safe-within, zero-safe}
+use Rattle.arithmetic.proofs.Ranges.{within-mono, safe-within, zero-safe}
 use Rattle.arithmetic.proofs.RangeTest.{or-cases, zero-of-test, test-of-zero, range-cases}
+use Rattle.arithmetic.proofs.PowerOfTwo.{normal-is-mul}
 use Rattle.arithmetic.proofs.PlainLaws.{magnitude-scale, magnitude-fits}
 use Rattle.arithmetic.proofs.Tied.{Tied, add-tied, sub-tied, mul-tied, div-tied}
 use Rattle.arithmetic.proofs.RootWhole.{root-scale}
@@ -171,6 +172,23 @@ range-safe u t x n k i = go (range-cases x i)
     go (inl z) = zero-safe binary64 u x z
     go (inr w) = safe-within binary64 u 274 1875 221 x (le-trans n k) (lit≤ tt) (lit≤ tt) w
 
+-- ---- the operands of a step: they can be scaled too, and are f64 numbers again
+safe-fits : (u : ℤ) (x : Float) → Safe binary64 u x → T (fits binary64 x) → T (fits binary64 (scale u x))
+safe-fits u nan k f = f
+safe-fits u (inf s) k f = f
+safe-fits u (fin s zero e) k f = f
+safe-fits u (fin s (suc m) e) k f =
+    subst (λ (y : Float). T (fits binary64 y)) (normal-is-mul binary64 u (fin s (suc m) e) f (within-mono binary64 (prec binary64) (low binary64 + suc (emax binary64)) (prec binary64 - 1) (low binary64 + suc (emax binary64)) (scale u (fin s (suc m) e)) (lit≤ tt) (lit≤ tt) (k .1)))
+    (mul-fits binary64 (fin s (suc m) e) (powerOfTwo u))
+
+operands-in-range : (a b : Marked) (r : Float) → T (stepMark a b r) → T (inRange (a .value)) × T (inRange (b .value))
+unfolding stepMark
+operands-in-range a b r t =
+    let m = a .inside && b .inside in
+    let n = inRange (a .value) && inRange (b .value) in
+    let i = and-r m n (and-l (m && n) (inRange r) t) in
+    (and-l (inRange (a .value)) (inRange (b .value)) i, and-r (inRange (a .value)) (inRange (b .value)) i)
+
 module _ {t : ℕ} where
   pub add-moves : (u : ℤ) → natAbs u ≤ t → (a b a' b' : Marked) → Moves t u a a' → Moves t u b b' → Moves t u (markedAdd a b) (markedAdd a' b')
   unfolding markedAdd
@@ -202,6 +220,29 @@ module _ {t : ℕ} where
       let r = div binary64 x (b .value) in
       let s = step-parts a b r (and-l (stepMark a b r) (not (lostQuotient x r)) (h .mark)) in
       div-tied u v (p (at h (s .0))) (q (at h (s .1))) (range-safe (u -ℤ v) t r n (h .small) (s .2)) (numerator-zero x r (and-r (stepMark a b r) (not (lostQuotient x r)) (h .mark)))
+
+  pub sub-operands : (u : ℤ) → natAbs u ≤ t → (a b : Marked) → Bears t (markedSub a b) → T (fits binary64 (a .value)) → T (fits binary64 (b .value))
+      → T (fits binary64 (scale u (a .value))) × T (fits binary64 (scale u (b .value)))
+  unfolding markedSub
+  sub-operands u n a b h f g =
+      let p = operands-in-range a b (sub binary64 (a .value) (b .value)) (h .mark) in
+      (safe-fits u (a .value) (range-safe u t (a .value) n (h .small) (p .0)) f, safe-fits u (b .value) (range-safe u t (b .value) n (h .small) (p .1)) g)
+
+  pub mul-operands : (u : ℤ) → natAbs u ≤ t → (a b : Marked) → Bears t (markedMul a b) → T (fits binary64 (a .value)) → T (fits binary64 (b .value))
+      → T (fits binary64 (scale u (a .value))) × T (fits binary64 (scale u (b .value)))
+  unfolding markedMul
+  mul-operands u n a b h f g =
+      let r = mul binary64 (a .value) (b .value) in
+      let p = operands-in-range a b r (and-l (stepMark a b r) (not (lostProduct (a .value) (b .value) r)) (h .mark)) in
+      (safe-fits u (a .value) (range-safe u t (a .value) n (h .small) (p .0)) f, safe-fits u (b .value) (range-safe u t (b .value) n (h .small) (p .1)) g)
+
+  pub div-operands : (u : ℤ) → natAbs u ≤ t → (a b : Marked) → Bears t (markedDiv a b) → T (fits binary64 (a .value)) → T (fits binary64 (b .value))
+      → T (fits binary64 (scale u (a .value))) × T (fits binary64 (scale u (b .value)))
+  unfolding markedDiv
+  div-operands u n a b h f g =
+      let r = div binary64 (a .value) (b .value) in
+      let p = operands-in-range a b r (and-l (stepMark a b r) (not (lostQuotient (a .value) r)) (h .mark)) in
+      (safe-fits u (a .value) (range-safe u t (a .value) n (h .small) (p .0)) f, safe-fits u (b .value) (range-safe u t (b .value) n (h .small) (p .1)) g)
 
   -- a root halves the shift, whatever its size
   pub root-moves : (u : ℤ) (a a' : Marked) → Moves t (u +ℤ u) a a' → Moves t u (markedRoot a) (markedRoot a')
