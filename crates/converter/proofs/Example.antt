@@ -55,7 +55,7 @@ unfolding fits
 written = record {
   sigma2 = tt;
   beta = only (λ i. T (fits binary64 (getD betaSix i nan))) tt;
-  betaH = only (λ i. T (fits binary64 (getD (plusZero ∷ []) i nan))) tt;
+  betaH = λ r. only (λ i. T (fits binary64 (getD (plusZero ∷ []) i nan))) tt;
   contrast = λ i j h l. only (λ i. T (fits binary64 (at floats (pullInput .contrast) i j))) (only (λ j. T (fits binary64 (at floats (pullInput .contrast) 0 j))) tt j l) i h;
 }
 
@@ -63,7 +63,7 @@ converted : (k m : ℤ) → Converted k (λ i. m) 1 1 pullInput (pullConverted k
 converted k m = record {
   sigma2 = refl;
   beta = only (λ i. getD (pullConverted k m .beta) i nan ≡ scale k (getD betaSix i nan)) refl;
-  betaH = only (λ i. getD (plusZero ∷ []) i nan ≡ scale k (getD (plusZero ∷ []) i nan)) refl;
+  betaH = λ r. only (λ i. getD (plusZero ∷ []) i nan ≡ scale k (getD (plusZero ∷ []) i nan)) refl;
   contrast = λ i j h l. only (λ i. at floats (pullConverted k m .contrast) i j ≡ scale m (at floats (pullInput .contrast) i j))
       (only (λ j. at floats (pullConverted k m .contrast) 0 j ≡ scale m (at floats (pullInput .contrast) 0 j)) refl j l) i h;
 }

@@ -6,3 +6,4 @@ pub mod MovingTest
 pub mod MovingRun
 pub mod MovingSeries
 pub mod Example
+pub mod MovingInput

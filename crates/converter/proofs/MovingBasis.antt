@@ -9,7 +9,7 @@ use mathlib.Core.Bool.{Bool, true, false, cond, true≢false, false≢true}
 use mathlib.Core.List.{List, []}
 use mathlib.Core.Logic.{_⊎_, inl, inr}
 use lib.Dec.{T, eqb, ltb, lt→ltb}
-use lib.IntN.{ℤ, pos}
+use lib.IntN.{ℤ, pos, natAbs}
 use lib.ListN.{getD}
 use lib.Ieee.{Float, nan, inf, fin, binary64, fits, up, down, div, lt, eq}
 use lib.Ieee.Fits.{div-fits, up-pos}
@@ -23,7 +23,7 @@ use Rattle.arithmetic.proofs.Tied.{Tied}
 use Rattle.arithmetic.proofs.ScaleLaws.{scale-zero}
 use Rattle.arithmetic.proofs.PlainLaws.{not-below, magnitude-zero, magnitude-scale, magnitude-fits}
 use Rattle.arithmetic.proofs.RangeTest.{test-of-zero}
-use Rattle.arithmetic.proofs.MarkLaws.{Bears, Moves, given-moves}
+use Rattle.arithmetic.proofs.MarkLaws.{Bears, Moves, given-moves, div-operands}
 use Rattle.algebra.specs.Kind.{floats, marks}
 use Rattle.algebra.specs.Product.{at}
 use Rattle.algebra.proofs.FoldLaws.{fold-both, fold-steps}
@@ -34,7 +34,7 @@ use Rattle.contrast_basis.specs.Order.{indexAt}
 use Rattle.contrast_basis.specs.Basis.{Rows, Basis, largest, dividedCell, divided, sweepsTo, norms, singular, rankOf, basisRows, contrastBasis}
 use Rattle.contrast_basis.proofs.Rank.{rank-most}
 use Rattle.converter.specs.Converted.{WrittenCells}
-use Rattle.converter.proofs.MovingSmall.{tied-nil, allMarks-cells, values-agree}
+use Rattle.converter.proofs.MovingSmall.{tied-still, tied-nil, allMarks-cells, values-agree}
 
 -- ---- the largest magnitude
 magnitude-tied : (u : ℤ) (x x' : Float) → Tied u x x' → Tied u (magnitude x) (magnitude x')
@@ -158,6 +158,23 @@ module _ {t : ℕ} (p i : ℕ) (u : ℤ) (l l' : Rows) (e : (j : ℕ) → j < p 
       go false q =
           let k : scale u x ≡ x = zero-row (getD l i []) p (λ j o. e j o .fine) q j h u in
           given-moves (pos 0) x x' (record { fine = e j h .fine; moved = e j h .moved ∙ k ∙ sym (scale-zero x) })
+
+-- what was divided can be scaled, and is an f64 number again
+pub divided-fits : {t : ℕ} (p i : ℕ) (u : ℤ) → natAbs u ≤ t → (l : Rows) → ((j : ℕ) → j < p → T (fits binary64 (at floats l i j))) → (j : ℕ) → j < p → Bears t (dividedCell p l i j)
+    → T (fits binary64 (scale u (at floats l i j)))
+unfolding dividedCell
+divided-fits {t} p i u n l f j h b = go (lt plusZero s) refl b
+  where
+    s : Float
+    s = largest p (getD l i [])
+
+    x : Float
+    x = at floats l i j
+
+    go : (e : Bool) → lt plusZero s ≡ e → Bears t (cond e (markedDiv (given x) (given s)) (given x)) → T (fits binary64 (scale u x))
+    go true e k =
+        div-operands u n (given x) (given s) k (f j h) (largest-tied p (pos 0) (getD l i []) (getD l i []) (λ j o. tied-still (at floats l i j) (f j o)) .fine) .0
+    go false e k = rw (zero-row (getD l i []) p f e j h u) (f j h)
 
 -- ---- the basis, from the divided rows
 unfoldable fromRows : ℕ → ℕ → Rows → Marked → Basis

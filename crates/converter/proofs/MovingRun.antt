@@ -46,7 +46,7 @@ ps-at p N ps x hN r h =
     (omega (arith, length-replicate 4 (blank (given plusZero) 6 6), hN))
 
 -- ---- a test's mark
-inside-seen : {t : ℕ} (c : Cutoffs) (s : Scaled) (beta betaH : List Float) (b : Basis) → t ≤ 221 → tested c s beta betaH b .entry .inside ≡ true → Bears t (testSeen c s beta betaH b)
+pub inside-seen : {t : ℕ} (c : Cutoffs) (s : Scaled) (beta betaH : List Float) (b : Basis) → t ≤ 221 → tested c s beta betaH b .entry .inside ≡ true → Bears t (testSeen c s beta betaH b)
 unfolding tested
 inside-seen c s beta betaH b h e = inside-bears (testSeen c s beta betaH b) h (of-eq e)
 
@@ -55,7 +55,7 @@ basis-is : (b b' : Basis) → SameBasis b b' → basisOf (b .rows) (b .rank) (b'
 basis-is b b' e = ap (λ (x : Rows). basisOf x (b .rank) (b' .seen)) (sym (e .rows)) ∙ ap (λ (x : ℕ). basisOf (b' .rows) x (b' .seen)) (sym (e .rank))
 
 -- a row of the unit matrix
-unit-tied : (p i : ℕ) → p ≤ 6 → (r j : ℕ) → r < 1 → j < p → Tied (pos 0) (at floats (unitRow p i) r j) (at floats (unitRow p i) r j)
+pub unit-tied : (p i : ℕ) → p ≤ 6 → (r j : ℕ) → r < 1 → j < p → Tied (pos 0) (at floats (unitRow p i) r j) (at floats (unitRow p i) r j)
 unfolding unitRow fits
 unit-tied p i hp r j h l =
     tied-still (at floats (unitRow p i) r j)
@@ -179,9 +179,22 @@ some n f = go (decLt 0 n)
     go (yes h) = h
     go (no h) = absurd (f (omega arith))
 
-double-small : (k : ℤ) → natAbs k ≤ 32 → natAbs (k +ℤ k) ≤ 64
+pub double-small : (k : ℤ) → natAbs k ≤ 32 → natAbs (k +ℤ k) ≤ 64
 double-small (pos a) h = omega arith
 double-small (negsuc a) h = omega arith
+
+-- a run that is inside: each of its tests is
+module _ (c : Cutoffs) (p N rows : ℕ) (phi : Rows) (a : Adjustment) (x : Input) (hp : p ≤ 6) (inside : Inside p rows (runOn c p N rows phi a x)) where
+  pub coefficient-inside : (i : ℕ) → i < p → coefficientTest c (scaledBy p N phi (x .sigma2) a) (x .beta) i .entry .inside ≡ true
+  unfolding scaledBy
+  coefficient-inside i h =
+      ap (λ (e : Entry). e .inside) (sym (run-coefficient c (scaledBy p N phi (x .sigma2) a) (x .beta) (x .betaH) rows (x .contrast) hp i h)) ∙ inside .coefficient i h
+
+  pub contrast-inside : eqb rows 0 ≡ false → contrastTest c (scaledBy p N phi (x .sigma2) a) (x .beta) (x .betaH) rows (x .contrast) .entry .inside ≡ true
+  unfolding scaledBy
+  contrast-inside h =
+      ap (λ (e : Entry). e .inside) (sym (run-contrast c (scaledBy p N phi (x .sigma2) a) (x .beta) (x .betaH) rows (x .contrast) hp h))
+      ∙ inside .contrast (some rows (eqb-false rows 0 h))
 
 module _ (c : Cutoffs) (p N rows : ℕ) (k : ℤ) (m : ℕ → ℤ) (phi : Rows) (a : Adjustment) (x x' : Input) (sizes : Sizes p N rows) (near : natAbs k ≤ 32)
     (units : WrittenUnits p N phi a) (written : Written p rows x) (converted : Converted k m p rows x x') (inside : Inside p rows (runOn c p N rows phi a x)) where
@@ -191,8 +204,8 @@ module _ (c : Cutoffs) (p N rows : ℕ) (k : ℤ) (m : ℕ → ℤ) (phi : Rows)
   beta-tied : (i : ℕ) → i < p → Tied k (getD (x .beta) i nan) (getD (x' .beta) i nan)
   beta-tied i h = record { fine = written .beta i h; moved = converted .beta i h }
 
-  betaH-tied : (i : ℕ) → i < p → Tied k (getD (x .betaH) i nan) (getD (x' .betaH) i nan)
-  betaH-tied i h = record { fine = written .betaH i h; moved = converted .betaH i h }
+  betaH-tied : 0 < rows → (i : ℕ) → i < p → Tied k (getD (x .betaH) i nan) (getD (x' .betaH) i nan)
+  betaH-tied r i h = record { fine = written .betaH r i h; moved = converted .betaH r i h }
 
   contrast-tied : (i j : ℕ) → i < rows → j < p → Tied (m i) (at floats (x .contrast) i j) (at floats (x' .contrast) i j)
   contrast-tied i j h l = record { fine = written .contrast i j h l; moved = converted .contrast i j h l }
@@ -203,17 +216,6 @@ module _ (c : Cutoffs) (p N rows : ℕ) (k : ℤ) (m : ℕ → ℤ) (phi : Rows)
   abbrev after : Scaled
   after = scaledBy p N phi (x' .sigma2) a
 
-  coefficient-inside : (i : ℕ) → i < p → coefficientTest c before (x .beta) i .entry .inside ≡ true
-  unfolding scaledBy
-  coefficient-inside i h =
-      ap (λ (e : Entry). e .inside) (sym (run-coefficient c before (x .beta) (x .betaH) rows (x .contrast) (sizes .coefficients) i h)) ∙ inside .coefficient i h
-
-  contrast-inside : eqb rows 0 ≡ false → contrastTest c before (x .beta) (x .betaH) rows (x .contrast) .entry .inside ≡ true
-  unfolding scaledBy
-  contrast-inside h =
-      ap (λ (e : Entry). e .inside) (sym (run-contrast c before (x .beta) (x .betaH) rows (x .contrast) (sizes .coefficients) h))
-      ∙ inside .contrast (some rows (eqb-false rows 0 h))
-
   coefficients-survive : Survives (coefficientsTo p c before (x .beta)) (coefficientsTo p c after (x' .beta))
   unfolding coefficientsTo
   coefficients-survive =
@@ -221,7 +223,7 @@ module _ (c : Cutoffs) (p N rows : ℕ) (k : ℤ) (m : ℕ → ℤ) (phi : Rows)
       (record { refused = false; entries = replicate 7 noEntry }) (record { refused = false; entries = replicate 7 noEntry }) (record { refusal = refl; same = refl })
       (λ i h l r r' q. with-survives i (coefficientTest c before (x .beta) i) (coefficientTest c after (x' .beta) i) r r'
       (coefficient-survives c p N (sizes .some) (sizes .coefficients) (sizes .matrices) k (lit≤ tt) (double-small k near) phi a units (x .sigma2) (x' .sigma2) sigma2-tied
-      (x .beta) (x' .beta) beta-tied i (coefficient-inside i l)) q)
+      (x .beta) (x' .beta) beta-tied i (coefficient-inside c p N rows phi a x (sizes .coefficients) inside i l)) q)
 
   -- DEMAND 3, over the definitions of the run. A Kenward–Roger run with every entry in use marked inside: with sigma2 times 4^k, k from -32 to 32, β and β_H times 2^k, and each
   -- contrast row times a power of two of its own, the second run is refused where the first is, and F, df and rank of every entry are the same bits, or none where they were none.
@@ -247,11 +249,11 @@ module _ (c : Cutoffs) (p N rows : ℕ) (k : ℤ) (m : ℕ → ℤ) (phi : Rows)
           let r1 : 1 ≤ rows = some rows (eqb-false rows 0 e) in
           with-survives 6 t t' r r'
           (contrast-survives c p N (sizes .some) (sizes .coefficients) (sizes .matrices) k (lit≤ tt) (double-small k near) phi a units (x .sigma2) (x' .sigma2) sigma2-tied
-          (x .beta) (x' .beta) beta-tied (x .betaH) (x' .betaH) betaH-tied rows r1 (sizes .contrast) m (x .contrast) (x' .contrast) contrast-tied (contrast-inside e))
+          (x .beta) (x' .beta) beta-tied (x .betaH) (x' .betaH) (betaH-tied r1) rows r1 (sizes .contrast) m (x .contrast) (x' .contrast) contrast-tied (contrast-inside c p N rows phi a x (sizes .coefficients) inside e))
           coefficients-survive
 
   -- and no number of the adjustment's output, scaled or not, becomes or ceases to be finite
   pub finite-survives : outputNotFinite p N phi (x' .sigma2) a ≡ outputNotFinite p N phi (x .sigma2) a
   finite-survives =
       output-survives c p N (sizes .some) (sizes .coefficients) (sizes .matrices) k (lit≤ tt) (double-small k near) phi a units (x .sigma2) (x' .sigma2) sigma2-tied (x .beta)
-      (x' .beta) beta-tied 0 (coefficient-inside 0 (sizes .some))
+      (x' .beta) beta-tied 0 (coefficient-inside c p N rows phi a x (sizes .coefficients) inside 0 (sizes .some))

@@ -69,6 +69,7 @@ scaling-bears {t} s seen h =
 -- every matrix of a test
 pub record TestBears (t : ℕ) (c : Cutoffs) (s : Scaled) (beta betaH : List Float) (b : Basis) : Type 0 where
   pub scaling : ScalingBears t s (b .seen)
+  pub d : BearsCells t (s .p) 1 (difference (s .p) beta betaH)
   pub x : BearsCells t (b .rank) (s .p) (xRows c s beta betaH b)
   pub u : (i : ℕ) → i < s .matrices → BearsCells t (s .p) (s .p) (getD (us c s beta betaH b) i [])
   pub v : BearsCells t (b .rank) (b .rank) (vRows c s beta betaH b)
@@ -79,7 +80,8 @@ pub test-bears : {t : ℕ} (c : Cutoffs) (s : Scaled) (beta betaH : List Float) 
 unfolding testSeen uSeen
 test-bears {t} c s beta betaH b h =
     record {
-      scaling = scaling-bears s (b .seen) (allMarks-first p 1 d s0 (allMarks-first q q a s1 (allMarks-first q p x s1a h2)));
+      scaling = scaling-bears s (b .seen) (allMarks-first p 1 d s0 h1);
+      d = allMarks-cells p 1 d s0 h1;
       x = allMarks-cells q p x s1a h2;
       u = stack-cells (s .matrices) p p (us c s beta betaH b) s2a h3;
       v = allMarks-cells q q v s3a h4;
@@ -160,6 +162,9 @@ test-bears {t} c s beta betaH b h =
 
     h2 : Bears t s2
     h2 = allMarks-first p p tp s2 (stack-first (s .matrices) p p (us c s beta betaH b) s2a h3)
+
+    h1 : Bears t s1
+    h1 = allMarks-first q q a s1 (allMarks-first q p x s1a h2)
 
 -- ---- two tests
 pub record SameVerdict (x x' : Tested) : Type 0 where

@@ -6,8 +6,8 @@ use mathlib.Core.List.{List}
 use lib.Dec.{T}
 use lib.IntN.{ℤ, _+ℤ_}
 use lib.ListN.{getD}
-use lib.Ieee.{Float, nan, binary64, fits}
-use Rattle.arithmetic.specs.Scale.{scale}
+use lib.Ieee.{Float, nan, binary64, fits, mul}
+use Rattle.arithmetic.specs.Scale.{scale, powerOfTwo}
 use Rattle.algebra.specs.Kind.{floats}
 use Rattle.algebra.specs.Product.{at}
 use Rattle.adjustment.specs.declared.Cutoffs.{Cutoffs}
@@ -28,12 +28,19 @@ pub record Input : Type 0 where
 abbrev pub runOn : Cutoffs → ℕ → ℕ → ℕ → Rows → Adjustment → Input → Run
 runOn c p N rows phi a x = runOf c (scaledBy p N phi (x .sigma2) a) (x .beta) (x .betaH) rows (x .contrast)
 
--- the same input, scaled exactly
+-- the same input, scaled exactly; β_H is used where there is a contrast
 pub record Converted (k : ℤ) (m : ℕ → ℤ) (p rows : ℕ) (x x' : Input) : Type 0 where
   pub sigma2 : x' .sigma2 ≡ scale (k +ℤ k) (x .sigma2)
   pub beta : (i : ℕ) → i < p → getD (x' .beta) i nan ≡ scale k (getD (x .beta) i nan)
-  pub betaH : (i : ℕ) → i < p → getD (x' .betaH) i nan ≡ scale k (getD (x .betaH) i nan)
+  pub betaH : 0 < rows → (i : ℕ) → i < p → getD (x' .betaH) i nan ≡ scale k (getD (x .betaH) i nan)
   pub contrast : (i j : ℕ) → i < rows → j < p → at floats (x' .contrast) i j ≡ scale (m i) (at floats (x .contrast) i j)
+
+-- the same input, each number multiplied by its power of two as f64
+pub record Multiplied (k : ℤ) (m : ℕ → ℤ) (p rows : ℕ) (x x' : Input) : Type 0 where
+  pub sigma2 : x' .sigma2 ≡ mul binary64 (x .sigma2) (powerOfTwo (k +ℤ k))
+  pub beta : (i : ℕ) → i < p → getD (x' .beta) i nan ≡ mul binary64 (getD (x .beta) i nan) (powerOfTwo k)
+  pub betaH : 0 < rows → (i : ℕ) → i < p → getD (x' .betaH) i nan ≡ mul binary64 (getD (x .betaH) i nan) (powerOfTwo k)
+  pub contrast : (i j : ℕ) → i < rows → j < p → at floats (x' .contrast) i j ≡ mul binary64 (at floats (x .contrast) i j) (powerOfTwo (m i))
 
 -- ---- what every record file gives
 -- p coefficients, N matrices P and rows of a contrast (0: none) within document 01's limits
@@ -51,7 +58,7 @@ WrittenCells r c a = (i j : ℕ) → i < r → j < c → T (fits binary64 (at fl
 pub record Written (p rows : ℕ) (x : Input) : Type 0 where
   pub sigma2 : T (fits binary64 (x .sigma2))
   pub beta : (i : ℕ) → i < p → T (fits binary64 (getD (x .beta) i nan))
-  pub betaH : (i : ℕ) → i < p → T (fits binary64 (getD (x .betaH) i nan))
+  pub betaH : 0 < rows → (i : ℕ) → i < p → T (fits binary64 (getD (x .betaH) i nan))
   pub contrast : WrittenCells rows p (x .contrast)
 
 -- and those of Φ, which is m, and of the adjustment, in residual units
