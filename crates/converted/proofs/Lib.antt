@@ -1,0 +1,2 @@
+-- The laws of the converted file.
+pub mod Bytes
