@@ -1,2 +1,4 @@
 -- The laws of the converted file.
 pub mod Bytes
+pub mod Fields
+pub mod Values
