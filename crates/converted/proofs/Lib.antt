@@ -2,3 +2,6 @@
 pub mod Bytes
 pub mod Fields
 pub mod Values
+pub mod Scans
+pub mod SameFile
+pub mod SameSeries
