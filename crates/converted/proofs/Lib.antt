@@ -5,3 +5,4 @@ pub mod Values
 pub mod Scans
 pub mod SameFile
 pub mod SameSeries
+pub mod Cells
