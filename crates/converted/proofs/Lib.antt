@@ -6,3 +6,5 @@ pub mod Scans
 pub mod SameFile
 pub mod SameSeries
 pub mod Cells
+pub mod Limits
+pub mod Refusals
