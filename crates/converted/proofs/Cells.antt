@@ -93,6 +93,9 @@ module _ (g : Change) (s : List ℕ) (h : InRange g s) (b : Small g s) where
       go true e = ap isFinite (value-exact i l e) ∙ finite-scale (g .shift (kindOf s i) (rowOf s i)) (valueOf s i)
       go false e = ap isFinite (value-other g s i e)
 
+  pub anyNotFinite-same : any (count (converted g s)) (notFinite (converted g s)) ≡ any (count s) (notFinite s)
+  anyNotFinite-same = ap (λ (n : ℕ). any n (notFinite (converted g s))) (count-same (converted-alike g s)) ∙ any-same (count s) (notFinite (converted g s)) (notFinite s) notFinite-same
+
   -- a cell moves whether a record names it or not
   pub cell-moves : (t : Table) (k n r c : ℕ) → g .rewrites k ≡ true → cell t (converted g s) k n r c ≡ scale (g .shift k r) (cell t s k n r c)
   cell-moves t k n r c e =

@@ -8,3 +8,5 @@ pub mod SameSeries
 pub mod Cells
 pub mod Limits
 pub mod Refusals
+pub mod Named
+pub mod Series

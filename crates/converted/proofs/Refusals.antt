@@ -20,9 +20,9 @@ use Rattle.records.specs.Series.{specimens, coefficients, contrastRows, sizes, 
 use Rattle.converted.specs.Converted.{Change, kenwardRogerShift, kenwardRogerChange, converted}
 use Rattle.converted.proofs.Fields.{Alike, converted-alike}
 use Rattle.converted.proofs.Scans.{any-same}
-use Rattle.converted.proofs.SameFile.{count-same, rows-same, columns-same, present-same, again-same, beyond-same}
+use Rattle.converted.proofs.SameFile.{count-same, rows-same, columns-same, anyAgain-same, anyBeyond-same}
 use Rattle.converted.proofs.SameSeries.{sizes-same, incomplete-same, badSize-same, misfit-same}
-use Rattle.converted.proofs.Cells.{InRange, Small, cell-other, cell-moves, notFinite-same, anyBad-same}
+use Rattle.converted.proofs.Cells.{InRange, Small, cell-other, cell-moves, anyNotFinite-same, anyBad-same}
 use Rattle.converted.proofs.Limits.{passed, Within, within-limits, among}
 
 -- ---- what a file that is not refused passes
@@ -108,13 +108,8 @@ module _ (k m : ℤ) (s : List ℕ) where
   a : Alike s (converted (kenwardRogerChange k m) s)
   a = converted-alike (kenwardRogerChange k m) s
 
-  anyAgain-same : any (count (converted g s)) (again kenwardRoger (converted g s)) ≡ any (count s) (again kenwardRoger s)
-  anyAgain-same = ap (λ (n : ℕ). any n (again kenwardRoger (converted g s))) (count-same a) ∙ any-same (count s) (again kenwardRoger (converted g s)) (again kenwardRoger s) (λ i l. again-same a kenwardRoger i)
-
-  anyBeyond-same : any (count (converted g s)) (beyond (sizes (converted g s)) (converted g s)) ≡ any (count s) (beyond (sizes s) s)
-  anyBeyond-same =
-      ap₂ (λ (n : ℕ) (z : Table). any n (beyond z (converted g s))) (count-same a) (sizes-same a)
-      ∙ any-same (count s) (beyond (sizes s) (converted g s)) (beyond (sizes s) s) (λ i l. beyond-same a (sizes s) i)
+  anyBeyondSizes-same : any (count (converted g s)) (beyond (sizes (converted g s)) (converted g s)) ≡ any (count s) (beyond (sizes s) s)
+  anyBeyondSizes-same = ap (λ (z : Table). any (count (converted g s)) (beyond z (converted g s))) (sizes-same a) ∙ anyBeyond-same a (sizes s)
 
   pub badWeight-same : badWeight (converted g s) ≡ badWeight s
   unfolding badWeight
@@ -124,9 +119,6 @@ module _ (k m : ℤ) (s : List ℕ) where
       (any-same (specimens s) _ _ (λ i l. ap (λ (x : Float). le x plusZero) (cell-other g s kenwardRoger 5 0 i 0 refl))))
 
   module _ (h : InRange (kenwardRogerChange k m) s) (b : Small (kenwardRogerChange k m) s) where
-    anyNotFinite-same : any (count (converted g s)) (notFinite (converted g s)) ≡ any (count s) (notFinite s)
-    anyNotFinite-same = ap (λ (n : ℕ). any n (notFinite (converted g s))) (count-same a) ∙ any-same (count s) (notFinite (converted g s)) (notFinite s) (notFinite-same g s h b)
-
     pub sigma2-same : le (sigma2 (converted g s)) plusZero ≡ le (sigma2 s) plusZero
     sigma2-same = ap (λ (x : Float). le x plusZero) (cell-moves g s h b kenwardRoger 7 0 0 0 refl) ∙ le-scale (g .shift 7 0) (sigma2 s) plusZero
 
@@ -140,7 +132,7 @@ module _ (k m : ℤ) (s : List ℕ) where
     pub reasons-same : reasons (converted g s) ≡ reasons s
     unfolding reasons
     reasons-same =
-        rw (ap (λ (n : ℕ). n % 16) (a .size), anyBad-same g s kenwardRoger (no-blocks k m), anyAgain-same, anyBeyond-same, incomplete-same a, badSize-same a, anyNotFinite-same, sigma2-same, badWeight-same, misfit-same a, zeroContrast-same)
+        rw (ap (λ (n : ℕ). n % 16) (a .size), anyBad-same g s kenwardRoger (no-blocks k m), anyAgain-same a kenwardRoger, anyBeyondSizes-same, incomplete-same a, badSize-same a, anyNotFinite-same g s h b, sigma2-same, badWeight-same, misfit-same a, zeroContrast-same)
 
     pub refusal-same : refusal (converted g s) ≡ refusal s
     unfolding refusal

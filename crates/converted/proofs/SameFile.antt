@@ -71,3 +71,10 @@ module _ {s s' : List ℕ} (a : Alike s s') where
       go : (b : Bool) → (b ≡ true → bitsOf s' i ≡ bitsOf s i) → cond b (not (eqb (bitsOf s' i) 0)) false ≡ cond b (not (eqb (bitsOf s i) 0)) false
       go true h = ap (λ (n : ℕ). not (eqb n 0)) (h refl)
       go false h = refl
+
+  -- the scans of all records
+  pub anyAgain-same : (t : Table) → any (count s') (again t s') ≡ any (count s) (again t s)
+  anyAgain-same t = ap (λ (n : ℕ). any n (again t s')) count-same ∙ any-same (count s) (again t s') (again t s) (λ i l. again-same t i)
+
+  pub anyBeyond-same : (z : Table) → any (count s') (beyond z s') ≡ any (count s) (beyond z s)
+  anyBeyond-same z = ap (λ (n : ℕ). any n (beyond z s')) count-same ∙ any-same (count s) (beyond z s') (beyond z s) (λ i l. beyond-same z i)
