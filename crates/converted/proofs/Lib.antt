@@ -10,3 +10,6 @@ pub mod Limits
 pub mod Refusals
 pub mod Named
 pub mod Series
+pub mod Sizes
+pub mod Input
+pub mod Satterthwaite
