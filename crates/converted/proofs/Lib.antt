@@ -13,3 +13,4 @@ pub mod Series
 pub mod Sizes
 pub mod Input
 pub mod Satterthwaite
+pub mod Examples

@@ -12,7 +12,7 @@ use Rattle.arithmetic.proofs.Operations.{Zero, Safe}
 use Rattle.arithmetic.proofs.Rounding.{Within}
 use Rattle.arithmetic.proofs.Ranges.{safe-within, zero-safe, within-mono}
 use Rattle.arithmetic.proofs.RangeTest.{range-cases}
-use Rattle.arithmetic.proofs.PowerOfTwo.{scale-is-mul, normal-is-mul}
+use Rattle.arithmetic.proofs.PowerOfTwo.{scale-is-mul, normal-is-mul, power-fits}
 use Rattle.arithmetic.proofs.Tied.{Tied}
 
 -- a result that can be scaled is scaled by f64 multiplication
@@ -37,3 +37,7 @@ mul-exact u x t n i = safe-is-mul u x t (range-safe u x n i)
 
 pub mul-tied : (u : ℤ) (x : Float) → T (fits binary64 x) → natAbs u ≤ 221 → T (inRange x) → Tied u x (mul binary64 x (powerOfTwo u))
 mul-tied u x t n i = record { fine = t; moved = mul-exact u x t n i }
+
+-- and the power is an f64 itself
+pub power-written : (u : ℤ) → natAbs u ≤ 221 → T (fits binary64 (powerOfTwo u))
+power-written u n = power-fits u (le-trans n (lit≤ tt))
