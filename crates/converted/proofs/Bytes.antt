@@ -1,23 +1,19 @@
 -- The bytes of the converted file by their positions: what is kept, and what a rewritten record holds. For any change and any file, its length a multiple of 16 or not.
-use Prim.Native.Nat.{ℕ, zero, suc, _+_, _-_, _*_, _/_, _%_, _^_, _≤_, _<_}
+use Prim.Native.Nat.{ℕ, _+_, _-_, _*_, _/_, _%_, _^_, _≤_, _<_}
 use native.Mathlib.Omega.{arith}
-use native.Mathlib.Nat.{mod-lt, div-add-mod, zero-lt-suc, div-lt-iff-lt-mul}
+use native.Mathlib.Nat.{div-add-mod}
 use native.Mathlib.Decide.{decLt}
-use mathlib.Core.Path.{_≡_, refl, sym, ap, _∙_, subst}
-use mathlib.Core.Bool.{Bool, true, false, _&&_, cond, true≢false}
+use mathlib.Core.Path.{_≡_, refl, sym, ap, _∙_}
+use mathlib.Core.Bool.{Bool, true, false, _&&_}
 use mathlib.Core.List.{List}
-use lib.Dec.{T, leb, ltb, leb→le, ltb→lt, le→leb, lt→ltb}
-use lib.ListN.{length, getD, length-replicate, replicate, List·getD-eq-default}
+use lib.Dec.{T, leb, ltb, leb→le, le→leb, lt→ltb}
+use lib.ListN.{length, length-replicate, replicate, List·getD-eq-default}
 use lib.Ieee.Bits.{is-true}
-use lib.Ieee.{binary64, mul, toBits, ofBits}
-use lib.Ieee.Bits.{ofBits-toBits, toBits-lt}
-use lib.Ieee.Fits.{mul-fits}
-use Rattle.arithmetic.specs.Scale.{powerOfTwo}
 use Rattle.algebra.specs.Table.{row}
 use Rattle.algebra.proofs.TableLaws.{row-at}
 use Rattle.algebra.proofs.FoldLaws.{length-span}
 use Rattle.little_endian.specs.Bytes.{byte, word, long, bytesOf}
-use Rattle.records.specs.File.{count, kindOf, rowOf, columnOf, paddingOf, countOf, bitsOf, valueOf}
+use Rattle.records.specs.File.{count, kindOf}
 use Rattle.converted.specs.Converted.{Change, newBits, newByte, converted}
 
 -- ---- eight bytes hold a number below 2 ^ 64

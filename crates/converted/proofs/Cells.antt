@@ -1,12 +1,12 @@
 -- The numbers in the cells of the converted file, for any change and any table of kinds: a cell of a kind that is not rewritten keeps its number, any other holds the f64 product with
 -- the power of two of its kind and row, and this product is exact where the number is a zero or in the mark's range.
-use Prim.Native.Nat.{ℕ, zero, _<_, _≤_}
+use Prim.Native.Nat.{ℕ, _<_, _≤_}
 use mathlib.Core.Path.{_≡_, refl, sym, ap, _∙_, subst}
-use mathlib.Core.Bool.{Bool, true, false, not, _&&_, _||_, cond}
+use mathlib.Core.Bool.{Bool, true, false, not, _&&_, _||_}
 use mathlib.Core.List.{List}
-use lib.IntN.{ℤ, pos, natAbs}
+use lib.IntN.{ℤ, natAbs}
 use lib.Dec.{T, eqb, eqb→eq}
-use lib.Ieee.{Float, binary64, fits, mul, ofBits}
+use lib.Ieee.{Float, binary64, fits, mul}
 use lib.Ieee.Bits.{ofBits-fits}
 use lib.Ieee.Fits.{and-l, and-r}
 use Rattle.arithmetic.specs.Numbers.{plusZero, isFinite}
@@ -20,8 +20,8 @@ use Rattle.records.specs.Kinds.{Table, kindAt}
 use Rattle.records.specs.File.{count, kindOf, rowOf, columnOf, countOf, bitsOf, valueOf, isCell, cell, badRecord, notFinite}
 use Rattle.converted.specs.Converted.{Change, converted}
 use Rattle.converted.proofs.Fields.{Alike, converted-alike, bits-other, value-other, value-new}
-use Rattle.converted.proofs.Values.{mul-exact, mul-tied}
-use Rattle.converted.proofs.Scans.{any-same, last-both, last-same, last-holds}
+use Rattle.converted.proofs.Values.{mul-exact}
+use Rattle.converted.proofs.Scans.{any-same, last-both, last-holds}
 use Rattle.converted.proofs.SameFile.{count-same, isCell-same, badRecord-same}
 
 -- a record that names a cell has its kind and row

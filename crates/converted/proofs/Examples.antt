@@ -1,7 +1,7 @@
 -- Converted files, computed: document 01's `pulltest` series with a second contrast row, and a Satterthwaite series of one coefficient and one parameter.
 use Prim.Native.Nat.{ℕ}
 use mathlib.Core.Path.{_≡_, refl}
-use mathlib.Core.List.{List, [], _∷_, _++_}
+use mathlib.Core.List.{List, _∷_, _++_}
 use lib.IntN.{pos, negsuc}
 use lib.Ieee.{mul, ofBits, toBits}
 use Rattle.algebra.specs.Fold.{fold}

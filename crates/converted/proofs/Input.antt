@@ -1,6 +1,6 @@
 -- The input of a Kenward–Roger run from the file and from the converted file. Where the numbers that a change of converter multiplies are zeros or in the mark's range, as the marks of a run
 -- that is inside say, the converted file is not refused before any computing, and its input is the file's, scaled exactly.
-use Prim.Native.Nat.{ℕ, _+_, _<_, _≤_, max}
+use Prim.Native.Nat.{ℕ, _<_, _≤_, max}
 use native.Mathlib.Omega.{arith}
 use mathlib.Core.Path.{_≡_, refl, sym, ap, ap₂, _∙_, subst}
 use mathlib.Core.Bool.{Bool, true, false, not, _&&_, cond, true≢false}
@@ -8,7 +8,7 @@ use mathlib.Core.List.{List}
 use lib.Dec.{T, eqb}
 use lib.IntN.{ℤ, pos, natAbs, _+ℤ_, _*ℤ_}
 use lib.ListN.{getD}
-use lib.Ieee.{Float, nan, binary64}
+use lib.Ieee.{Float, nan}
 use borrow.Author.Tests.{eqb-false}
 use Rattle.arithmetic.specs.Scale.{scale}
 use Rattle.arithmetic.specs.Marks.{inRange}
@@ -17,14 +17,14 @@ use Rattle.algebra.specs.Product.{at}
 use Rattle.records.specs.Kinds.{kindAt, kenwardRoger}
 use Rattle.records.specs.File.{count, kindOf, rowOf, columnOf, countOf, valueOf, cell, rows, present}
 use Rattle.records.specs.Series.{coefficients, contrastRows, sizes, number, sigma2, beta, betaH, contrast, refusal}
-use Rattle.converted.specs.Converted.{Change, kenwardRogerShift, kenwardRogerChange, converted}
+use Rattle.converted.specs.Converted.{kenwardRogerShift, kenwardRogerChange, converted}
 use Rattle.converted.proofs.Fields.{converted-alike}
 use Rattle.converted.proofs.SameFile.{rows-same, columns-same}
 use Rattle.converted.proofs.Cells.{InRange, Small, cell-moves}
 use Rattle.converted.proofs.Limits.{Within, within-limits, within-sizes, among}
 use Rattle.converted.proofs.Refusals.{Accepted, accepted, small, refusal-same}
 use Rattle.converted.proofs.Named.{value-is-cell}
-use Rattle.converted.proofs.Sizes.{Sized, sized, beta-at, betaH-at, contrast-at}
+use Rattle.converted.proofs.Sizes.{sized, beta-at, betaH-at, contrast-at}
 
 -- sigma2, the cells of β and those of the contrast are zeros or in the mark's range; so are those of β_H where there is a contrast
 pub record InputInRange (s : List ℕ) : Type 0 where

@@ -1,9 +1,9 @@
 -- What a file that is not refused says of its records: each lies within its kind's limits and within the sizes. With any table of kinds.
-use Prim.Native.Nat.{ℕ, zero, suc, _+_, _*_, _<_, _≤_, max}
+use Prim.Native.Nat.{ℕ, zero, suc, _+_, _<_, _≤_, max}
 use native.Mathlib.Omega.{arith}
 use mathlib.Core.Path.{_≡_, refl, sym, ap, _∙_, subst}
-use mathlib.Core.Bool.{Bool, true, false, not, _&&_, _||_, cond, true≢false, false≢true}
-use mathlib.Core.List.{List, [], _∷_}
+use mathlib.Core.Bool.{Bool, true, false, not, _||_, cond, true≢false}
+use mathlib.Core.List.{List, _∷_}
 use lib.Dec.{T, eqb, ltb, ltb→lt, eqb→eq}
 use Rattle.arithmetic.proofs.PlainLaws.{of-eq, clash}
 use Rattle.arithmetic.proofs.RangeTest.{or-cases}

@@ -1,29 +1,28 @@
 -- The Kenward–Roger call's refusals before any computing are the same for the converted file, where each rewritten value is a zero or in the mark's range.
-use Prim.Native.Nat.{ℕ, zero, suc, _+_, _*_, _/_, _%_, _<_, _≤_}
+use Prim.Native.Nat.{ℕ, zero, suc, _+_, _*_, _%_, _<_, _≤_}
 use native.Mathlib.Omega.{arith}
 use native.Mathlib.Nat.{mul-le-mul, le-trans}
-use mathlib.Core.Path.{_≡_, refl, sym, ap, ap₂, _∙_, subst}
-use mathlib.Core.Bool.{Bool, true, false, not, _&&_, _||_, cond}
-use mathlib.Core.List.{List, [], _∷_}
-use lib.Dec.{T, eqb, ltb}
+use mathlib.Core.Path.{_≡_, refl, ap, _∙_}
+use mathlib.Core.Bool.{Bool, true, false, not, _&&_}
+use mathlib.Core.List.{List}
+use lib.Dec.{eqb}
 use lib.IntN.{ℤ, pos, negsuc, negℤ, natAbs, _+ℤ_, _*ℤ_}
 use lib.ListN.{length}
 use lib.Ieee.{Float, le}
 use Rattle.arithmetic.specs.Numbers.{plusZero, isZero}
-use Rattle.arithmetic.specs.Scale.{scale}
 use Rattle.arithmetic.proofs.PlainLaws.{clash, zero-scale}
 use Rattle.arithmetic.proofs.ScaleLaws.{le-scale}
 use Rattle.records.specs.Scan.{any, first}
 use Rattle.records.specs.Kinds.{Table, kindAt, kenwardRoger}
-use Rattle.records.specs.File.{count, kindOf, rowOf, valueOf, badRecord, again, beyond, present, notFinite}
+use Rattle.records.specs.File.{count, kindOf, rowOf, badRecord, again, beyond, present, notFinite}
 use Rattle.records.specs.Series.{specimens, coefficients, contrastRows, sizes, number, sigma2, incomplete, badSize, badWeight, misfit, zeroContrast, reasons, refusal}
 use Rattle.converted.specs.Converted.{Change, kenwardRogerShift, kenwardRogerChange, converted}
 use Rattle.converted.proofs.Fields.{Alike, converted-alike}
 use Rattle.converted.proofs.Scans.{any-same}
-use Rattle.converted.proofs.SameFile.{count-same, rows-same, columns-same, anyAgain-same, anyBeyond-same}
+use Rattle.converted.proofs.SameFile.{rows-same, columns-same, anyAgain-same, anyBeyond-same}
 use Rattle.converted.proofs.SameSeries.{sizes-same, incomplete-same, badSize-same, misfit-same}
 use Rattle.converted.proofs.Cells.{InRange, Small, cell-other, cell-moves, anyNotFinite-same, anyBad-same}
-use Rattle.converted.proofs.Limits.{passed, Within, within-limits, among}
+use Rattle.converted.proofs.Limits.{passed, within-limits, among}
 
 -- ---- what a file that is not refused passes
 pub record Accepted (s : List ℕ) : Type 0 where

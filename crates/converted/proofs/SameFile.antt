@@ -1,15 +1,15 @@
 -- Two files whose records name the same cells (`Alike`) get the same answers to every question on cells and sizes, with any table of kinds.
-use Prim.Native.Nat.{ℕ, _+_, _<_, _/_}
-use mathlib.Core.Path.{_≡_, refl, sym, ap, _∙_}
+use Prim.Native.Nat.{ℕ, _+_, _/_}
+use mathlib.Core.Path.{_≡_, refl, ap, _∙_}
 use mathlib.Core.Bool.{Bool, true, false, not, _||_, cond}
 use mathlib.Core.List.{List}
 use lib.Dec.{eqb}
 use Rattle.records.specs.declared.Kind.{Kind}
-use Rattle.records.specs.Scan.{any, most, last}
+use Rattle.records.specs.Scan.{any, most}
 use Rattle.records.specs.Kinds.{Table, kindAt}
 use Rattle.records.specs.File.{count, kindOf, rowOf, columnOf, paddingOf, countOf, bitsOf, outOf, badRecord, isCell, again, has, rows, columns, present, beyond, missing}
 use Rattle.converted.proofs.Fields.{Alike}
-use Rattle.converted.proofs.Scans.{any-same, most-same, last-same}
+use Rattle.converted.proofs.Scans.{any-same, most-same}
 
 module _ {s s' : List ℕ} (a : Alike s s') where
   pub count-same : count s' ≡ count s

@@ -1,17 +1,17 @@
 -- The sizes and blocks of a Kenward–Roger series that two alike files give, and the refusals that ask of nothing else.
-use Prim.Native.Nat.{ℕ, _+_, _*_, _/_, _<_, max}
-use mathlib.Core.Path.{_≡_, refl, sym, ap, ap₂, _∙_}
-use mathlib.Core.Bool.{Bool, true, false, not, _&&_, _||_, cond}
+use Prim.Native.Nat.{ℕ, _*_}
+use mathlib.Core.Path.{_≡_, ap, ap₂, _∙_}
+use mathlib.Core.Bool.{Bool, not, _&&_, _||_}
 use mathlib.Core.List.{List}
 use lib.Dec.{eqb, ltb}
 use Rattle.adjustment.specs.declared.Block.{Block}
-use Rattle.records.specs.Scan.{any, last, total}
+use Rattle.records.specs.Scan.{last}
 use Rattle.records.specs.Kinds.{Table, kenwardRoger}
-use Rattle.records.specs.File.{count, columnOf, countOf, isCell, rows, columns, present, again, beyond, missing}
-use Rattle.records.specs.Series.{specimens, coefficients, zColumns, blockCount, thetas, contrastRows, sizes, blockOf, parametersOf, incomplete, badSize, misfit}
+use Rattle.records.specs.File.{count, columnOf, countOf, isCell, missing}
+use Rattle.records.specs.Series.{zColumns, blockCount, thetas, sizes, blockOf, parametersOf, incomplete, badSize, misfit}
 use Rattle.converted.proofs.Fields.{Alike}
 use Rattle.converted.proofs.Scans.{any-same, last-same, total-same}
-use Rattle.converted.proofs.SameFile.{count-same, rows-same, columns-same, present-same, isCell-same, missing-same}
+use Rattle.converted.proofs.SameFile.{count-same, rows-same, columns-same, isCell-same, missing-same}
 
 module _ {s s' : List ℕ} (a : Alike s s') where
   pub sizes-same : sizes s' ≡ sizes s

@@ -1,15 +1,15 @@
 -- The same laws at the Satterthwaite call's change: its powers are small for every file, and it rewrites no block, for there is none.
-use Prim.Native.Nat.{ℕ, zero, suc, _+_, _≤_}
+use Prim.Native.Nat.{ℕ, _≤_}
 use native.Mathlib.Omega.{arith}
-use mathlib.Core.Path.{_≡_, refl, sym, _∙_}
+use mathlib.Core.Path.{_≡_, refl}
 use mathlib.Core.Bool.{Bool, true, false}
 use mathlib.Core.List.{List}
-use lib.IntN.{ℤ, natAbs, _+ℤ_}
+use lib.IntN.{ℤ, natAbs}
 use Rattle.arithmetic.proofs.PlainLaws.{clash}
 use Rattle.records.specs.Scan.{any}
 use Rattle.records.specs.Kinds.{kindAt, satterthwaite}
 use Rattle.records.specs.File.{count, kindOf, rowOf, badRecord}
-use Rattle.converted.specs.Converted.{Change, satterthwaiteShift, satterthwaiteChange, converted}
+use Rattle.converted.specs.Converted.{satterthwaiteShift, satterthwaiteChange, converted}
 use Rattle.converted.proofs.Cells.{Small, anyBad-same}
 use Rattle.converted.proofs.Limits.{among}
 use Rattle.converted.proofs.Refusals.{abs-double}

@@ -1,7 +1,7 @@
 -- Scans of two files that agree: the questions `any`, `most`, `last` and `total` ask only of the numbers below their bound.
 use Prim.Native.Nat.{ℕ, zero, suc, _+_, _<_, max}
 use native.Mathlib.Omega.{arith}
-use mathlib.Core.Path.{_≡_, refl, sym, ap, ap₂, _∙_}
+use mathlib.Core.Path.{_≡_, refl, ap₂}
 use mathlib.Core.Bool.{Bool, true, false, _||_, cond}
 use Rattle.records.specs.Scan.{any, most, last, total}
 

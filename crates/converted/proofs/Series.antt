@@ -1,34 +1,19 @@
--- The Kenward–Roger series of the converted file: its design and Φ are the file's; sigma2, β, β_H and the contrast are the file's times their powers of two, exactly.
-use Prim.Native.Nat.{ℕ, _+_, _<_, _≤_, max}
-use native.Mathlib.Omega.{arith}
-use mathlib.Core.Path.{_≡_, refl, sym, ap, ap₂, _∙_, subst, fun-ext}
-use mathlib.Core.Bool.{Bool, true, false, not, _&&_, cond}
-use mathlib.Core.List.{List, []}
-use lib.Dec.{T, eqb}
-use lib.IntN.{ℤ, pos, natAbs, _+ℤ_, _*ℤ_}
-use lib.ListN.{getD}
-use lib.Ieee.{Float, nan, binary64, fits}
-use Rattle.arithmetic.specs.Numbers.{plusZero}
-use Rattle.arithmetic.specs.Scale.{scale}
-use Rattle.arithmetic.specs.Marks.{inRange}
-use Rattle.arithmetic.proofs.Tied.{Tied}
-use Rattle.algebra.specs.Kind.{floats}
-use Rattle.algebra.specs.Product.{at}
-use Rattle.algebra.specs.Table.{row, table}
-use Rattle.algebra.proofs.TableLaws.{row-at, table-at}
-use Rattle.adjustment.specs.declared.Block.{Block}
-use Rattle.adjustment.specs.Blocks.{noBlock}
-use Rattle.adjustment.specs.Covariance.{Rows, Design}
-use Rattle.records.specs.Kinds.{kindAt, kenwardRoger}
-use Rattle.records.specs.File.{count, kindOf, rowOf, columnOf, countOf, valueOf, cell, rows, columns, present}
-use Rattle.records.specs.Series.{specimens, coefficients, zColumns, blockCount, thetas, contrastRows, sizes, number, sigma2, blockOf, design, phi, beta, betaH, contrast, refusal}
-use Rattle.converted.specs.Converted.{Change, kenwardRogerShift, kenwardRogerChange, converted}
+-- The Kenward–Roger series of the converted file: its design and Φ are the file's, whatever the powers.
+use Prim.Native.Nat.{ℕ, max}
+use mathlib.Core.Path.{_≡_, refl, ap, fun-ext}
+use mathlib.Core.Bool.{false}
+use mathlib.Core.List.{List}
+use lib.IntN.{ℤ}
+use lib.Ieee.{Float}
+use Rattle.records.specs.Kinds.{kenwardRoger}
+use Rattle.records.specs.File.{present}
+use Rattle.records.specs.Series.{specimens, coefficients, zColumns, blockCount, thetas, number, blockOf, design, phi}
+use Rattle.converted.specs.Converted.{kenwardRogerChange, converted}
 use Rattle.converted.proofs.Fields.{Alike, converted-alike}
 use Rattle.converted.proofs.SameFile.{rows-same, columns-same, present-same}
 use Rattle.converted.proofs.SameSeries.{blockOf-same}
-use Rattle.converted.proofs.Cells.{InRange, Small, cell-fits, cell-other, cell-moves}
+use Rattle.converted.proofs.Cells.{cell-other}
 
--- ---- what the file gives, whatever its powers: no condition
 module _ (k m : ℤ) (s : List ℕ) where
   a : Alike s (converted (kenwardRogerChange k m) s)
   a = converted-alike (kenwardRogerChange k m) s
