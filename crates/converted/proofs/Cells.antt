@@ -1,18 +1,16 @@
 -- The numbers in the cells of the converted file, for any change and any table of kinds: a cell of a kind that is not rewritten keeps its number, any other holds the f64 product with
--- the power of two of its kind and row, and this product is exact where the number is a zero or in the mark's range.
-use Prim.Native.Nat.{ℕ, _<_, _≤_}
+-- the power of two of its kind and row, and this product is the number scaled where the number scaled is an f64 number.
+use Prim.Native.Nat.{ℕ, _<_}
 use mathlib.Core.Path.{_≡_, refl, sym, ap, _∙_, subst}
 use mathlib.Core.Bool.{Bool, true, false, not, _&&_, _||_}
 use mathlib.Core.List.{List}
-use lib.IntN.{ℤ, natAbs}
+use lib.IntN.{ℤ}
 use lib.Dec.{T, eqb, eqb→eq}
 use lib.Ieee.{Float, binary64, fits, mul}
 use lib.Ieee.Bits.{ofBits-fits}
 use lib.Ieee.Fits.{and-l, and-r}
 use Rattle.arithmetic.specs.Numbers.{plusZero, isFinite}
 use Rattle.arithmetic.specs.Scale.{scale, powerOfTwo}
-use Rattle.arithmetic.specs.Marks.{inRange}
-use Rattle.arithmetic.proofs.Tied.{Tied}
 use Rattle.arithmetic.proofs.PlainLaws.{of-eq, finite-scale}
 use Rattle.arithmetic.proofs.PowerOfTwo.{scale-is-mul}
 use Rattle.records.specs.Scan.{any, last}
@@ -20,7 +18,6 @@ use Rattle.records.specs.Kinds.{Table, kindAt}
 use Rattle.records.specs.File.{count, kindOf, rowOf, columnOf, countOf, bitsOf, valueOf, isCell, cell, badRecord, notFinite}
 use Rattle.converted.specs.Converted.{Change, converted}
 use Rattle.converted.proofs.Fields.{Alike, converted-alike, bits-other, value-other, value-new}
-use Rattle.converted.proofs.Values.{mul-exact}
 use Rattle.converted.proofs.Scans.{any-same, last-both, last-holds}
 use Rattle.converted.proofs.SameFile.{count-same, isCell-same, badRecord-same}
 
@@ -64,26 +61,15 @@ module _ (g : Change) (s : List ℕ) where
         (λ i l p. let q = isCell-names t s k n r c i p in subst (λ (v : ℕ). valueOf (converted g s) i ≡ mul binary64 (valueOf s i) (powerOfTwo (g .shift k v))) (q .1)
         (subst (λ (v : ℕ). valueOf (converted g s) i ≡ mul binary64 (valueOf s i) (powerOfTwo (g .shift v (rowOf s i)))) (q .0) (value-new g s i l (ap (g .rewrites) (q .0) ∙ e))))
 
-    -- the product is exact
-    pub cell-exact : g .rewrites k ≡ true → natAbs (g .shift k r) ≤ 221 → T (inRange (cell t s k n r c)) → cell t (converted g s) k n r c ≡ scale (g .shift k r) (cell t s k n r c)
-    cell-exact e b h = cell-product e ∙ mul-exact (g .shift k r) (cell t s k n r c) (cell-fits t s k n r c) b h
-
-    pub cell-tied : g .rewrites k ≡ true → natAbs (g .shift k r) ≤ 221 → T (inRange (cell t s k n r c)) → Tied (g .shift k r) (cell t s k n r c) (cell t (converted g s) k n r c)
-    cell-tied e b h = record { fine = cell-fits t s k n r c; moved = cell-exact e b h }
-
 -- ---- a file whose rewritten values can all be scaled
--- each value that the change rewrites is a zero or in the mark's range
-pub record InRange (g : Change) (s : List ℕ) : Type 0 where
-  pub inside : (i : ℕ) → i < count s → g .rewrites (kindOf s i) ≡ true → T (inRange (valueOf s i))
+-- each value that the change rewrites is, times its power of two, an f64 number again
+pub record Exact (g : Change) (s : List ℕ) : Type 0 where
+  pub again : (i : ℕ) → i < count s → g .rewrites (kindOf s i) ≡ true → T (fits binary64 (scale (g .shift (kindOf s i) (rowOf s i)) (valueOf s i)))
 
--- each moves by at most 2 ^ 221, either way
-pub record Small (g : Change) (s : List ℕ) : Type 0 where
-  pub shifts : (i : ℕ) → i < count s → g .rewrites (kindOf s i) ≡ true → natAbs (g .shift (kindOf s i) (rowOf s i)) ≤ 221
-
-module _ (g : Change) (s : List ℕ) (h : InRange g s) (b : Small g s) where
+module _ (g : Change) (s : List ℕ) (h : Exact g s) where
   -- "exact scaling by powers of two": what f64 multiplication gives is the value scaled
   pub value-exact : (i : ℕ) → i < count s → g .rewrites (kindOf s i) ≡ true → valueOf (converted g s) i ≡ scale (g .shift (kindOf s i) (rowOf s i)) (valueOf s i)
-  value-exact i l e = value-new g s i l e ∙ mul-exact (g .shift (kindOf s i) (rowOf s i)) (valueOf s i) (ofBits-fits binary64 (bitsOf s i)) (b .shifts i l e) (h .inside i l e)
+  value-exact i l e = value-new g s i l e ∙ scale-is-mul binary64 (g .shift (kindOf s i) (rowOf s i)) (valueOf s i) (h .again i l e)
 
   pub notFinite-same : (i : ℕ) → i < count s → notFinite (converted g s) i ≡ notFinite s i
   unfolding notFinite

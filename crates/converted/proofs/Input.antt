@@ -1,37 +1,36 @@
--- The input of a Kenward–Roger run from the file and from the converted file. Where the numbers that a change of converter multiplies are zeros or in the mark's range, as the marks of a run
--- that is inside say, the converted file is not refused before any computing, and its input is the file's, scaled exactly.
+-- The input of a Kenward–Roger run from the file and from the converted file. Each number that a change of converter multiplies is the f64 product with its power of
+-- two; where the numbers, scaled, are f64 numbers again, as the marks of a run that is inside say, the refusals before any computing stay.
 use Prim.Native.Nat.{ℕ, _<_, _≤_, max}
 use native.Mathlib.Omega.{arith}
 use mathlib.Core.Path.{_≡_, refl, sym, ap, ap₂, _∙_, subst}
 use mathlib.Core.Bool.{Bool, true, false, not, _&&_, cond, true≢false}
 use mathlib.Core.List.{List}
 use lib.Dec.{T, eqb}
-use lib.IntN.{ℤ, pos, natAbs, _+ℤ_, _*ℤ_}
+use lib.IntN.{ℤ, _+ℤ_}
 use lib.ListN.{getD}
-use lib.Ieee.{Float, nan}
+use lib.Ieee.{Float, nan, binary64, fits, mul}
 use borrow.Author.Tests.{eqb-false}
-use Rattle.arithmetic.specs.Scale.{scale}
-use Rattle.arithmetic.specs.Marks.{inRange}
+use Rattle.arithmetic.specs.Scale.{scale, powerOfTwo}
 use Rattle.algebra.specs.Kind.{floats}
 use Rattle.algebra.specs.Product.{at}
 use Rattle.records.specs.Kinds.{kindAt, kenwardRoger}
 use Rattle.records.specs.File.{count, kindOf, rowOf, columnOf, countOf, valueOf, cell, rows, present}
-use Rattle.records.specs.Series.{coefficients, contrastRows, sizes, number, sigma2, beta, betaH, contrast, refusal}
+use Rattle.records.specs.Series.{coefficients, contrastRows, sizes, number, sigma2, beta, betaH, contrast, reasons}
 use Rattle.converted.specs.Converted.{kenwardRogerShift, kenwardRogerChange, converted}
 use Rattle.converted.proofs.Fields.{converted-alike}
 use Rattle.converted.proofs.SameFile.{rows-same, columns-same}
-use Rattle.converted.proofs.Cells.{InRange, Small, cell-moves}
+use Rattle.converted.proofs.Cells.{Exact, cell-product}
 use Rattle.converted.proofs.Limits.{Within, within-limits, within-sizes, among}
-use Rattle.converted.proofs.Refusals.{Accepted, accepted, small, refusal-same}
+use Rattle.converted.proofs.Refusals.{Accepted, reasons-same}
 use Rattle.converted.proofs.Named.{value-is-cell}
 use Rattle.converted.proofs.Sizes.{sized, beta-at, betaH-at, contrast-at}
 
--- sigma2, the cells of β and those of the contrast are zeros or in the mark's range; so are those of β_H where there is a contrast
-pub record InputInRange (s : List ℕ) : Type 0 where
-  pub variance : T (inRange (sigma2 s))
-  pub estimates : (i : ℕ) → i < coefficients s → T (inRange (getD (beta s) i nan))
-  pub hypotheses : (i : ℕ) → i < coefficients s → 0 < contrastRows s → T (inRange (getD (betaH s) i nan))
-  pub lines : (i j : ℕ) → i < contrastRows s → j < coefficients s → T (inRange (at floats (contrast s) i j))
+-- sigma2, the cells of β and those of the contrast are, scaled, f64 numbers again; so are those of β_H where there is a contrast
+pub record InputExact (k : ℤ) (m : ℕ → ℤ) (s : List ℕ) : Type 0 where
+  pub variance : T (fits binary64 (scale (k +ℤ k) (sigma2 s)))
+  pub estimates : (i : ℕ) → i < coefficients s → T (fits binary64 (scale k (getD (beta s) i nan)))
+  pub hypotheses : (i : ℕ) → i < coefficients s → 0 < contrastRows s → T (fits binary64 (scale k (getD (betaH s) i nan)))
+  pub lines : (i j : ℕ) → i < contrastRows s → j < coefficients s → T (fits binary64 (scale (m i) (at floats (contrast s) i j)))
 
 -- ---- so are the values of all records that hold them
 guarded : (a b : Bool) (r p : ℕ) → r < cond (a && b) p 0 → (r < p) × (b ≡ true)
@@ -52,7 +51,11 @@ some-rows s h = go (eqb (rows s 9) 0) refl h
 none : (n : ℕ) → n < 1 → 0 ≡ n
 none n h = omega arith
 
-module _ (s : List ℕ) (c : Accepted s) (h : InputInRange s) where
+module _ (k : ℤ) (m : ℕ → ℤ) (s : List ℕ) (c : Accepted s) (h : InputExact k m s) where
+  -- record i's value, scaled by what its kind and row say, is an f64 number
+  abbrev Again : ℤ → Float → Type 0
+  Again u x = T (fits binary64 (scale u x))
+
   p6 : coefficients s ≤ 6
   p6 = sized s c .coefficients
 
@@ -67,55 +70,49 @@ module _ (s : List ℕ) (c : Accepted s) (h : InputInRange s) where
   value-at z i l e n =
       ap₂ (λ (y w : ℕ). cell kenwardRoger s y w (rowOf s i) (columnOf s i)) (sym e) (none (countOf s i) n) ∙ value-is-cell kenwardRoger s (c .once) i l
 
-  variance-in : (i : ℕ) → i < count s → kindOf s i ≡ 7 → T (inRange (valueOf s i))
-  unfolding kindAt kenwardRoger
+  variance-in : (i : ℕ) → i < count s → kindOf s i ≡ 7 → Again (kenwardRogerShift k m 7 (rowOf s i)) (valueOf s i)
+  unfolding kindAt kenwardRoger kenwardRogerShift
   variance-in i l e =
       let w = limit 7 i l e in
-      subst (λ (x : Float). T (inRange x)) (ap₂ (λ (y z : ℕ). number s 7 y z) (none (rowOf s i) (w .row)) (none (columnOf s i) (w .column refl)) ∙ value-at 7 i l e (w .number refl)) (h .variance)
+      subst (Again (k +ℤ k)) (ap₂ (λ (y z : ℕ). number s 7 y z) (none (rowOf s i) (w .row)) (none (columnOf s i) (w .column refl)) ∙ value-at 7 i l e (w .number refl)) (h .variance)
 
-  estimates-in : (i : ℕ) → i < count s → kindOf s i ≡ 8 → T (inRange (valueOf s i))
-  unfolding kindAt kenwardRoger sizes
+  estimates-in : (i : ℕ) → i < count s → kindOf s i ≡ 8 → Again (kenwardRogerShift k m 8 (rowOf s i)) (valueOf s i)
+  unfolding kindAt kenwardRoger sizes kenwardRogerShift
   estimates-in i l e =
       let w = limit 8 i l e in
       let z : rowOf s i < coefficients s = size 8 i l e .row in
-      subst (λ (x : Float). T (inRange x)) (beta-at s p6 (rowOf s i) z ∙ ap (λ (y : ℕ). number s 8 (rowOf s i) y) (none (columnOf s i) (w .column refl)) ∙ value-at 8 i l e (w .number refl)) (h .estimates (rowOf s i) z)
+      subst (Again k) (beta-at s p6 (rowOf s i) z ∙ ap (λ (y : ℕ). number s 8 (rowOf s i) y) (none (columnOf s i) (w .column refl)) ∙ value-at 8 i l e (w .number refl)) (h .estimates (rowOf s i) z)
 
-  lines-in : (i : ℕ) → i < count s → kindOf s i ≡ 9 → T (inRange (valueOf s i))
-  unfolding kindAt kenwardRoger sizes
+  lines-in : (i : ℕ) → i < count s → kindOf s i ≡ 9 → Again (kenwardRogerShift k m 9 (rowOf s i)) (valueOf s i)
+  unfolding kindAt kenwardRoger sizes kenwardRogerShift
   lines-in i l e =
       let w = limit 9 i l e in
       let r : rowOf s i < contrastRows s = size 9 i l e .row in
       let z : columnOf s i < coefficients s = size 9 i l e .column refl in
-      subst (λ (x : Float). T (inRange x)) (contrast-at s p6 (sized s c .contrast) (rowOf s i) (columnOf s i) r z ∙ value-at 9 i l e (w .number refl)) (h .lines (rowOf s i) (columnOf s i) r z)
+      subst (Again (m (rowOf s i))) (contrast-at s p6 (sized s c .contrast) (rowOf s i) (columnOf s i) r z ∙ value-at 9 i l e (w .number refl)) (h .lines (rowOf s i) (columnOf s i) r z)
 
-  hypotheses-in : (i : ℕ) → i < count s → kindOf s i ≡ 10 → T (inRange (valueOf s i))
-  unfolding kindAt kenwardRoger sizes
+  hypotheses-in : (i : ℕ) → i < count s → kindOf s i ≡ 10 → Again (kenwardRogerShift k m 10 (rowOf s i)) (valueOf s i)
+  unfolding kindAt kenwardRoger sizes kenwardRogerShift
   hypotheses-in i l e =
       let w = limit 10 i l e in
       let z = guarded (present s 10) (present s 9) (rowOf s i) (coefficients s) (size 10 i l e .row) in
-      subst (λ (x : Float). T (inRange x)) (betaH-at s p6 (rowOf s i) (z .0) ∙ ap (λ (y : ℕ). number s 10 (rowOf s i) y) (none (columnOf s i) (w .column refl)) ∙ value-at 10 i l e (w .number refl))
+      subst (Again k) (betaH-at s p6 (rowOf s i) (z .0) ∙ ap (λ (y : ℕ). number s 10 (rowOf s i) y) (none (columnOf s i) (w .column refl)) ∙ value-at 10 i l e (w .number refl))
       (h .hypotheses (rowOf s i) (z .0) (some-rows s (z .1)))
 
-  pub in-range : (k m : ℤ) → InRange (kenwardRogerChange k m) s
-  in-range k m = record {
-    inside = λ i l e. among 7 8 9 10 (λ z. kindOf s i ≡ z → T (inRange (valueOf s i))) (variance-in i l) (estimates-in i l) (lines-in i l) (hypotheses-in i l) (kindOf s i) e refl;
+  pub input-exact : Exact (kenwardRogerChange k m) s
+  input-exact = record {
+    again = λ i l e. among 7 8 9 10 (λ z. kindOf s i ≡ z → Again (kenwardRogerShift k m z (rowOf s i)) (valueOf s i)) (variance-in i l) (estimates-in i l) (lines-in i l) (hypotheses-in i l) (kindOf s i) e refl;
   }
 
--- ---- the input of the run, scaled exactly
-pub record Moved (k m : ℤ) (s s' : List ℕ) : Type 0 where
-  pub variance : sigma2 s' ≡ scale (k +ℤ k) (sigma2 s)
-  pub estimates : (i : ℕ) → i < coefficients s → getD (beta s') i nan ≡ scale k (getD (beta s) i nan)
-  pub hypotheses : (i : ℕ) → i < coefficients s → getD (betaH s') i nan ≡ scale k (getD (betaH s) i nan)
-  pub lines : (i j : ℕ) → i < contrastRows s → j < coefficients s → at floats (contrast s') i j ≡ scale (m *ℤ pos i) (at floats (contrast s) i j)
-
-module _ (k m : ℤ) (s : List ℕ) (hp : coefficients s ≤ 6) (hr : contrastRows s ≤ 6) (h : InRange (kenwardRogerChange k m) s) (b : Small (kenwardRogerChange k m) s) where
+-- ---- the input of the run: each number times its power of two, as f64 multiplication gives it
+module _ (k : ℤ) (m : ℕ → ℤ) (s : List ℕ) (hp : coefficients s ≤ 6) (hr : contrastRows s ≤ 6) where
   abbrev s' : List ℕ
   s' = converted (kenwardRogerChange k m) s
 
-  p-same : coefficients s' ≡ coefficients s
+  pub p-same : coefficients s' ≡ coefficients s
   p-same = ap (max 1) (columns-same (converted-alike (kenwardRogerChange k m) s) 1)
 
-  r-same : contrastRows s' ≡ contrastRows s
+  pub r-same : contrastRows s' ≡ contrastRows s
   r-same = rows-same (converted-alike (kenwardRogerChange k m) s) 9
 
   hp' : coefficients s' ≤ 6
@@ -130,24 +127,28 @@ module _ (k m : ℤ) (s : List ℕ) (hp : coefficients s ≤ 6) (hr : contrastRo
   of-r : {i : ℕ} → i < contrastRows s → i < contrastRows s'
   of-r {i} l = subst (λ (n : ℕ). i < n) (sym r-same) l
 
-  moves : (z r c : ℕ) → kenwardRogerChange k m .rewrites z ≡ true → number s' z r c ≡ scale (kenwardRogerShift k m z r) (number s z r c)
-  moves z r c e = cell-moves (kenwardRogerChange k m) s h b kenwardRoger z 0 r c e
+  abbrev times : ℤ → Float → Float
+  times u x = mul binary64 x (powerOfTwo u)
 
-  pub moved : Moved k m s (converted (kenwardRogerChange k m) s)
+  product : (z r c : ℕ) → kenwardRogerChange k m .rewrites z ≡ true → number s' z r c ≡ mul binary64 (number s z r c) (powerOfTwo (kenwardRogerShift k m z r))
+  product z r c e = cell-product (kenwardRogerChange k m) s kenwardRoger z 0 r c e
+
+  pub sigma2-product : sigma2 s' ≡ mul binary64 (sigma2 s) (powerOfTwo (k +ℤ k))
   unfolding kenwardRogerShift
-  moved = record {
-    variance = moves 7 0 0 refl;
-    estimates = λ i l. beta-at s' hp' i (of-p l) ∙ moves 8 i 0 refl ∙ ap (scale k) (sym (beta-at s hp i l));
-    hypotheses = λ i l. betaH-at s' hp' i (of-p l) ∙ moves 10 i 0 refl ∙ ap (scale k) (sym (betaH-at s hp i l));
-    lines = λ i j o l. contrast-at s' hp' hr' i j (of-r o) (of-p l) ∙ moves 9 i j refl ∙ ap (scale (m *ℤ pos i)) (sym (contrast-at s hp hr i j o l));
-  }
+  sigma2-product = product 7 0 0 refl
 
--- ---- together: a file that is not refused, k and m from -32 to 32
-module _ (k m : ℤ) (hk : natAbs k ≤ 32) (hm : natAbs m ≤ 32) (s : List ℕ) (e : refusal s ≡ 0) (h : InputInRange s) where
-  -- the converted file is not refused before any computing
-  pub converted-accepted : refusal (converted (kenwardRogerChange k m) s) ≡ 0
-  converted-accepted = let c = accepted s e in refusal-same k m s (in-range s c h k m) (small k m hk hm s (c .good)) ∙ e
+  pub beta-product : (i : ℕ) → i < coefficients s → getD (beta s') i nan ≡ mul binary64 (getD (beta s) i nan) (powerOfTwo k)
+  unfolding kenwardRogerShift
+  beta-product i l = beta-at s' hp' i (of-p l) ∙ product 8 i 0 refl ∙ ap (times k) (sym (beta-at s hp i l))
 
-  -- its input is the file's, scaled
-  pub converted-moved : Moved k m s (converted (kenwardRogerChange k m) s)
-  converted-moved = let c = accepted s e in moved k m s (sized s c .coefficients) (sized s c .contrast) (in-range s c h k m) (small k m hk hm s (c .good))
+  pub betaH-product : (i : ℕ) → i < coefficients s → getD (betaH s') i nan ≡ mul binary64 (getD (betaH s) i nan) (powerOfTwo k)
+  unfolding kenwardRogerShift
+  betaH-product i l = betaH-at s' hp' i (of-p l) ∙ product 10 i 0 refl ∙ ap (times k) (sym (betaH-at s hp i l))
+
+  pub contrast-product : (i j : ℕ) → i < contrastRows s → j < coefficients s → at floats (contrast s') i j ≡ mul binary64 (at floats (contrast s) i j) (powerOfTwo (m i))
+  unfolding kenwardRogerShift
+  contrast-product i j o l = contrast-at s' hp' hr' i j (of-r o) (of-p l) ∙ product 9 i j refl ∙ ap (times (m i)) (sym (contrast-at s hp hr i j o l))
+
+-- ---- together: of a file that is not refused, with an input that scales exactly, the refusals before any computing stay
+pub reasons-converted : (k : ℤ) (m : ℕ → ℤ) (s : List ℕ) → Accepted s → InputExact k m s → reasons (converted (kenwardRogerChange k m) s) ≡ reasons s
+reasons-converted k m s c h = reasons-same k m s (input-exact k m s c h)

@@ -14,7 +14,7 @@ use Rattle.converted.proofs.SameFile.{rows-same, columns-same, present-
 use Rattle.converted.proofs.SameSeries.{blockOf-same}
 use Rattle.converted.proofs.Cells.{cell-other}
 
-module _ (k m : ℤ) (s : List ℕ) where
+module _ (k : ℤ) (m : ℕ → ℤ) (s : List ℕ) where
   a : Alike s (converted (kenwardRogerChange k m) s)
   a = converted-alike (kenwardRogerChange k m) s
 

@@ -4,7 +4,7 @@ use Prim.Native.Nat.{ℕ, _-_, _/_, _%_}
 use mathlib.Core.Bool.{Bool, _&&_, _||_, cond}
 use mathlib.Core.List.{List}
 use lib.Dec.{eqb, leb, ltb}
-use lib.IntN.{ℤ, pos, _+ℤ_, _*ℤ_}
+use lib.IntN.{ℤ, _+ℤ_}
 use lib.ListN.{length}
 use lib.Ieee.{binary64, mul, toBits}
 use Rattle.arithmetic.specs.Scale.{powerOfTwo}
@@ -17,11 +17,11 @@ pub record Change : Type 0 where
   pub rewrites : ℕ → Bool
   pub shift : ℕ → ℕ → ℤ
 
--- "7 sigma2; 8 β; 9 contrast; 10 β_H": sigma2 by 4 ^ k, β and β_H by 2 ^ k, row r of the contrast by 2 ^ (m r)
-unfoldable pub kenwardRogerShift : ℤ → ℤ → ℕ → ℕ → ℤ
-kenwardRogerShift k m kind r = cond (eqb kind 7) (k +ℤ k) (cond (eqb kind 9) (m *ℤ pos r) k)
+-- "7 sigma2; 8 β; 9 contrast; 10 β_H": sigma2 by 4 ^ k, β and β_H by 2 ^ k, row r of the contrast by a power of its own, 2 ^ (m r)
+unfoldable pub kenwardRogerShift : ℤ → (ℕ → ℤ) → ℕ → ℕ → ℤ
+kenwardRogerShift k m kind r = cond (eqb kind 7) (k +ℤ k) (cond (eqb kind 9) (m r) k)
 
-abbrev pub kenwardRogerChange : ℤ → ℤ → Change
+abbrev pub kenwardRogerChange : ℤ → (ℕ → ℤ) → Change
 kenwardRogerChange k m = record { rewrites = λ kind. eqb kind 7 || eqb kind 8 || eqb kind 9 || eqb kind 10; shift = kenwardRogerShift k m }
 
 -- "The Satterthwaite call reads kinds 8, 9, 10, 30 v, 31 Jacobian": v and the Jacobians by 4 ^ k, β and β_H by 2 ^ k
