@@ -1,0 +1,29 @@
+-- Document 01, demand 3, the verdict survives a change of converter: what it says of the Satterthwaite call on the bytes of a record file, over the definitions that the C function
+-- promises (the number that it returns, the entry that it writes). Under another converter v and the Jacobians are 4 ^ k times what they were, β and β_H 2 ^ k times, each value as f64
+-- multiplication gives it.
+use Prim.Native.Nat.{ℕ, _≤_}
+use mathlib.Core.Path.{_≡_}
+use mathlib.Core.Bool.{true}
+use mathlib.Core.List.{List}
+use lib.Dec.{T}
+use lib.IntN.{ℤ, natAbs}
+use lib.Ieee.{binary64, fits}
+use Rattle.adjustment.specs.declared.Cutoffs.{Cutoffs}
+use Rattle.adjustment.specs.Cutoffs.{documentCutoffs}
+use Rattle.answers.specs.declared.Entry.{Entry}
+use Rattle.satterthwaite.specs.Call.{number, entry}
+use Rattle.converter.specs.Verdict.{verdict}
+use Rattle.converted.specs.Converted.{satterthwaiteChange, converted}
+
+-- s' is accepted, and its entry has the rank, F and df of the entry of s, none where that has none; the marks may differ
+pub record SameVerdict (c : Cutoffs) (s s' : List ℕ) : Type 0 where
+  pub accepted : number c s' ≡ 0
+  pub same : verdict (entry c s') ≡ verdict (entry c s)
+
+-- every file that is accepted with its entry inside, k from -32 to 32
+abbrev pub Survives : Cutoffs → Type 0
+Survives c = (s : List ℕ) (k : ℤ) → natAbs k ≤ 32 → number c s ≡ 0 → entry c s .inside ≡ true → SameVerdict c s (converted (satterthwaiteChange k) s)
+
+-- THE THIRD DEMAND, for the Satterthwaite call: with document 01's cutoffs, and with any others of which the one that Jacobi's rotation test reads is an f64 number
+abbrev pub SatterthwaiteDemand : Type 0
+SatterthwaiteDemand = Survives documentCutoffs × ((c : Cutoffs) → T (fits binary64 (c .rotation)) → Survives c)

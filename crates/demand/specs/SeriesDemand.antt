@@ -1,0 +1,34 @@
+-- Document 01, demand 3, the verdict survives a change of converter: what it says of the Kenward–Roger call on the bytes of a record file, over the definitions that the C function
+-- promises (the number that it returns, the seven entries that it writes). Under another converter sigma2 is 4 ^ k times what it was, β and β_H 2 ^ k times, and row r of the contrast
+-- 2 ^ (m r) times, each value as f64 multiplication gives it.
+use Prim.Native.Nat.{ℕ, _<_, _≤_}
+use mathlib.Core.Path.{_≡_}
+use mathlib.Core.Bool.{true}
+use mathlib.Core.List.{List, map}
+use lib.IntN.{ℤ, natAbs}
+use lib.ListN.{getD}
+use Rattle.adjustment.specs.declared.Cutoffs.{Cutoffs}
+use Rattle.answers.specs.declared.Entry.{Entry}
+use Rattle.answers.specs.Answer.{noEntry}
+use Rattle.records.specs.Series.{coefficients, contrastRows}
+use Rattle.kenward_roger.specs.Call.{number, entries}
+use Rattle.converter.specs.Verdict.{verdict}
+use Rattle.converted.specs.Converted.{kenwardRogerChange, converted}
+
+-- "a run is inside when all its entries are": those in use, which are the coefficients' and, where the file has a contrast, entry 6
+pub record AllInside (c : Cutoffs) (s : List ℕ) : Type 0 where
+  pub coefficient : (i : ℕ) → i < coefficients s → getD (entries c s) i noEntry .inside ≡ true
+  pub contrast : 0 < contrastRows s → getD (entries c s) 6 noEntry .inside ≡ true
+
+-- "F, df and rank are its verdict, and a run's verdict is the verdicts of all its entries": s' is accepted, and each of its entries has the rank, F and df of the entry of s, none
+-- where that has none; the marks may differ
+pub record SameVerdicts (c : Cutoffs) (s s' : List ℕ) : Type 0 where
+  pub accepted : number c s' ≡ 0
+  pub verdicts : map verdict (entries c s') ≡ map verdict (entries c s)
+
+-- THE THIRD DEMAND, for the Kenward–Roger call: every file that is accepted with all entries inside, whatever the cutoffs, k from -32 to 32 and for each contrast row an m of its own
+-- from -32 to 32
+abbrev pub KenwardRogerDemand : Type 0
+KenwardRogerDemand =
+    (c : Cutoffs) (s : List ℕ) (k : ℤ) (m : ℕ → ℤ) → natAbs k ≤ 32 → ((r : ℕ) → r < contrastRows s → natAbs (m r) ≤ 32) → number c s ≡ 0 → AllInside c s
+    → SameVerdicts c s (converted (kenwardRogerChange k m) s)
