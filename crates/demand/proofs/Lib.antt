@@ -4,3 +4,4 @@ pub mod Operands
 pub mod Parameters
 pub mod ParametersCall
 pub mod Theorems
+pub mod PullExample

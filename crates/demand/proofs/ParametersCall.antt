@@ -131,12 +131,12 @@ module _ (k : ℤ) (s : List ℕ) (c : Accepted s) (h : InputExact k s) where
 
 -- ---- the call's parts
 module _ (c : Cutoffs) (s : List ℕ) where
-  number-is : number c s ≡ first (reasons s ++ ((11, test c (inputs s) .refused) ∷ []))
+  pub number-is : number c s ≡ first (reasons s ++ ((11, test c (inputs s) .refused) ∷ []))
   unfolding number allReasons outcome
   number-is = refl
 
   -- an accepted file's entry is the test's
-  entry-is : number c s ≡ 0 → entry c s ≡ test c (inputs s) .entry
+  pub entry-is : number c s ≡ 0 → entry c s ≡ test c (inputs s) .entry
   unfolding entry outcome
   entry-is e = rw e
 

@@ -42,26 +42,26 @@ first-front (x ∷ xs) ys h = go (x .1) (first-front xs ys) h
     go false f e = f e
 
 -- ---- the call's parts, as demand 3's law on series in memory has them
-abbrev inputOf : List ℕ → Input
+abbrev pub inputOf : List ℕ → Input
 inputOf s = record { sigma2 = sigma2 s; beta = beta s; betaH = betaH s; contrast = contrast s }
 
-abbrev whole : Cutoffs → Design → Rows → ℕ → Input → Run
+abbrev pub whole : Cutoffs → Design → Rows → ℕ → Input → Run
 whole c d f rows x = runOn c (d .p) (matrices d) rows f (adjustment c d f) x
 
-abbrev listed : List (ℕ × Bool) → ℕ → Bool → List (ℕ × Bool)
+abbrev pub listed : List (ℕ × Bool) → ℕ → Bool → List (ℕ × Bool)
 listed rs n b = rs ++ ((n, not (eqb n 0)) ∷ (10, b) ∷ [])
 
 module _ (c : Cutoffs) (s : List ℕ) where
-  run-is : run c s ≡ whole c (design s) (phi s) (contrastRows s) (inputOf s)
+  pub run-is : run c s ≡ whole c (design s) (phi s) (contrastRows s) (inputOf s)
   unfolding run scaled adjusted design
   run-is = refl
 
-  number-is : number c s ≡ first (listed (reasons s) (adjustmentNumber c (design s) (phi s) (sigma2 s)) (run c s .refused))
+  pub number-is : number c s ≡ first (listed (reasons s) (adjustmentNumber c (design s) (phi s) (sigma2 s)) (run c s .refused))
   unfolding number allReasons adjustmentRefusal
   number-is = refl
 
   -- an accepted file's entries are the run's
-  entries-are : number c s ≡ 0 → entries c s ≡ run c s .entries
+  pub entries-are : number c s ≡ 0 → entries c s ≡ run c s .entries
   unfolding entries
   entries-are e = rw e
 
