@@ -5,3 +5,4 @@ pub mod Parameters
 pub mod ParametersCall
 pub mod Theorems
 pub mod PullExample
+pub mod ParameterExample
