@@ -13,16 +13,16 @@ use Rattle.arithmetic.specs.Numbers.{plusZero}
 use Rattle.arithmetic.specs.Scale.{scale}
 use Rattle.arithmetic.specs.Marks.{given, markedMul, also}
 use Rattle.arithmetic.proofs.MarkLaws.{Bears, inside-bears, also-bears, mul-bears, mul-operands}
+use Rattle.algebra.specs.Fold.{fold}
 use Rattle.algebra.specs.Table.{blank}
 use Rattle.algebra.specs.Kind.{floats, marks}
 use Rattle.algebra.specs.Product.{at, cell, product, transpose}
 use Rattle.algebra.proofs.FoldLaws.{span-at}
 use Rattle.algebra.proofs.TableLaws.{table-at}
-use Rattle.algebra.proofs.MovingCells.{BearsCells, step-bears, table-bears}
+use Rattle.algebra.proofs.MovingCells.{step-bears, table-bears}
 use Rattle.algebra.proofs.MovingProducts.{sum-bears, minusCells-bears}
 use Rattle.products.specs.Small.{sandwich, givenCells, allMarks}
 use Rattle.adjustment.specs.declared.Cutoffs.{Cutoffs}
-use Rattle.ddf.specs.VarianceDf.{gradientSeen}
 use Rattle.ddf.specs.Satterthwaite.{Rows, MarkedRows, column, contrastOf, transformed, transformedAll, gradientOne, stackSeen, Inputs, lRows, ldRows, vRows, jStack, turned, variances, directions, jxStack, fOne, fSeveral, startSeen, seenOne, seenSeveral, oneRow, severalRows, satterthwaite}
 use Rattle.ddf.proofs.MovingSmall.{allMarks-first, allMarks-cells}
 use Rattle.ddf.proofs.MovingVariance.{gradient-first}
@@ -134,10 +134,10 @@ module _ (c : Cutoffs) (x : Inputs) (z : Sizes x) where
     j-bears r h =
         let ms : List MarkedRows = jStack c x in
         let step : ℕ → Marked → Marked = λ i s. allMarks (x .q) (x .q) (getD ms i []) s in
-        let e : Bears 128 (step r (Rattle.algebra.specs.Fold.fold 0 r step vSeen)) =
+        let e : Bears 128 (step r (fold 0 r step vSeen)) =
         step-bears 0 (x .n) step vSeen (λ i s y. allMarks-first (x .q) (x .q) (getD ms i []) s y) b r (omega arith) h in
         let f : Bears 128 (at marks (getD ms r []) 0 0) =
-        allMarks-cells (x .q) (x .q) (getD ms r []) (Rattle.algebra.specs.Fold.fold 0 r step vSeen) e .cell 0 0 (z .some) (z .some) in
+        allMarks-cells (x .q) (x .q) (getD ms r []) (fold 0 r step vSeen) e .cell 0 0 (z .some) (z .some) in
         rw (span-at 0 (x .n) (λ i. transformed (x .p) (x .q) (lRows c x) (getD (x .js) i [])) (replicate 4 (blank (given plusZero) 6 6)) r [] (omega arith) h
         (omega (arith, z .n, length-replicate 4 (blank (given plusZero) 6 6)))) at f
 

@@ -1,7 +1,7 @@
 -- What a Satterthwaite file that is not refused gives to the test: sizes within document 01's limits, where the numbers stand, and that they are f64 numbers.
 use Prim.Native.Nat.{ℕ, _%_, _<_, _≤_, max}
 use native.Mathlib.Omega.{arith}
-use mathlib.Core.Path.{_≡_, refl, sym, ap, _∙_, subst}
+use mathlib.Core.Path.{_≡_, refl, sym, subst}
 use mathlib.Core.Bool.{false, not}
 use mathlib.Core.List.{List, []}
 use lib.Dec.{T, eqb}

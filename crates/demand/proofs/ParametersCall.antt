@@ -1,17 +1,15 @@
 -- The Satterthwaite call on a file and on the converted file: the marks of a test that is inside say that each multiplied number scales exactly, so that no refusal comes and the verdict stays.
-use Prim.Native.Nat.{ℕ, _+_, _%_, _<_, _≤_, max}
+use Prim.Native.Nat.{ℕ, _%_, _<_, _≤_, max}
 use native.Mathlib.Omega.{arith}
 use mathlib.Core.Path.{_≡_, refl, sym, ap, _∙_, subst}
 use mathlib.Core.Bool.{Bool, true, false, cond}
 use mathlib.Core.List.{List, [], _∷_, _++_}
-use lib.Dec.{T, eqb}
+use lib.Dec.{T}
 use lib.IntN.{ℤ, pos, negsuc, natAbs, _+ℤ_}
-use lib.ListN.{getD}
-use lib.Ieee.{Float, nan, binary64, fits}
+use lib.Ieee.{Float, binary64, fits}
 use Rattle.arithmetic.specs.Scale.{scale}
 use Rattle.arithmetic.proofs.ScaleLaws.{scale-zero}
 use Rattle.arithmetic.proofs.PlainLaws.{of-eq}
-use Rattle.arithmetic.proofs.Tied.{Tied}
 use Rattle.arithmetic.proofs.MarkLaws.{Bears}
 use Rattle.algebra.specs.Kind.{floats}
 use Rattle.algebra.specs.Product.{at}
@@ -22,17 +20,17 @@ use Rattle.answers.specs.declared.Entry.{Entry}
 use Rattle.records.specs.Scan.{any, first}
 use Rattle.records.specs.Kinds.{Table, kindAt, satterthwaite}
 use Rattle.records.specs.File.{count, kindOf, rowOf, columnOf, countOf, valueOf, cell, present, beyond, missing}
-use Rattle.ddf.specs.Satterthwaite.{Outcome, startSeen, satterthwaite as test}
+use Rattle.ddf.specs.Satterthwaite.{startSeen, satterthwaite as test}
 use Rattle.ddf.proofs.Survives.{Sizes, Converted, SameVerdict as SameOutcome, satterthwaite-survives}
 use Rattle.satterthwaite.specs.Parameters.{coefficients, contrastRows, parameters, sizes, incomplete, reasons, refusal, number as numberAt, inputs}
 use Rattle.satterthwaite.specs.Call.{outcome, allReasons, number, entry}
-use Rattle.converter.specs.Verdict.{Verdict, verdict}
-use Rattle.converted.specs.Converted.{Change, satterthwaiteShift, satterthwaiteChange, converted}
+use Rattle.converter.specs.Verdict.{verdict}
+use Rattle.converted.specs.Converted.{satterthwaiteShift, satterthwaiteChange, converted}
 use Rattle.converted.proofs.Fields.{Alike, converted-alike}
 use Rattle.converted.proofs.Scans.{any-same}
 use Rattle.converted.proofs.SameFile.{rows-same, columns-same, missing-same, anyAgain-same, anyBeyond-same}
 use Rattle.converted.proofs.Cells.{Exact, cell-other, cell-moves, anyNotFinite-same}
-use Rattle.converted.proofs.Limits.{Within, within-limits, within-sizes, among}
+use Rattle.converted.proofs.Limits.{Within, within-sizes, among}
 use Rattle.converted.proofs.Named.{value-is-cell}
 use Rattle.converted.proofs.Satterthwaite.{satterthwaite-bad-same}
 use Rattle.demand.specs.ParametersDemand.{SameVerdict}

@@ -1,16 +1,16 @@
 -- The third demand at work: document 01's `pulltest` example as a file of bytes is accepted with all entries inside, and with other powers of two its verdicts are the same.
 use Prim.Native.Nat.{ℕ, _<_, _≤_}
 use native.Mathlib.Omega.{arith}
-use mathlib.Core.Path.{_≡_, refl, sym, ap, _∙_, subst}
-use mathlib.Core.Bool.{Bool, true, false}
+use mathlib.Core.Path.{_≡_, refl, ap, _∙_, subst}
+use mathlib.Core.Bool.{true, false}
 use mathlib.Core.List.{List, [], _∷_, _++_, map}
 use lib.Dec.{lit≤}
-use lib.IntN.{ℤ, pos, negsuc}
+use lib.IntN.{pos, negsuc}
 use lib.ListN.{getD, replicate}
 use lib.Ieee.{Float, fin, round, add, sub, mul, div, neg, lt, eq, le, ofInt, ofBits, toBits}
 use Rattle.arithmetic.specs.Numbers.{plusZero, one, magnitude, isZero, isFinite, sign, isLarger, ofCount}
 use Rattle.arithmetic.specs.SquareRoot.{squareRoot, wholeRoot}
-use Rattle.arithmetic.specs.Marks.{given, inRange, stepMark, lostProduct, lostQuotient, markedAdd, markedSub, markedMul, markedDiv, markedRoot, also}
+use Rattle.arithmetic.specs.Marks.{inRange, stepMark, lostProduct, lostQuotient, markedAdd, markedSub, markedMul, markedDiv, markedRoot, also}
 use Rattle.algebra.specs.Fold.{fold}
 use Rattle.algebra.specs.Table.{row, blank, table}
 use Rattle.algebra.specs.Product.{sum, cell, product, transpose, sumCells, likeCells, trace, identity, plusCells, minusCells, timesNumber, overNumber}
@@ -39,7 +39,7 @@ use Rattle.records.specs.Series.{coefficients, contrastRows, sizes, blockOf as 
 use Rattle.records.proofs.Examples.{recordOf}
 use Rattle.kenward_roger.specs.Call.{run, number, entries}
 use Rattle.converter.specs.Verdict.{Verdict, verdict}
-use Rattle.converter.specs.Converted.{Input, runOn}
+use Rattle.converter.specs.Converted.{Input}
 use Rattle.converted.specs.Converted.{kenwardRogerShift, kenwardRogerChange, newBits, newByte, converted}
 use Rattle.demand.specs.SeriesDemand.{AllInside, SameVerdicts}
 use Rattle.demand.proofs.SeriesCall.{inputOf, whole, listed, run-is, number-is, entries-are}

@@ -4,11 +4,11 @@ use mathlib.Core.Path.{_≡_, refl, sym, ap, _∙_, subst}
 use mathlib.Core.Bool.{Bool, true, false, not, cond}
 use mathlib.Core.List.{List, [], _∷_, _++_, map}
 use lib.Dec.{T, eqb}
-use lib.IntN.{ℤ, natAbs, _+ℤ_}
+use lib.IntN.{ℤ, natAbs}
 use lib.ListN.{getD}
-use lib.Ieee.{Float, nan, binary64, fits, mul}
+use lib.Ieee.{Float, nan, binary64, fits}
 use lib.Ieee.Fits.{mul-fits}
-use Rattle.arithmetic.specs.Scale.{scale, powerOfTwo}
+use Rattle.arithmetic.specs.Scale.{powerOfTwo}
 use Rattle.algebra.specs.Kind.{floats}
 use Rattle.algebra.specs.Product.{at}
 use Rattle.adjustment.specs.declared.Cutoffs.{Cutoffs}
@@ -20,7 +20,7 @@ use Rattle.tests.specs.KenwardRoger.{Run}
 use Rattle.records.specs.Scan.{first}
 use Rattle.records.specs.Series.{coefficients, contrastRows, design, phi, sigma2, beta, betaH, contrast, reasons, refusal}
 use Rattle.kenward_roger.specs.Call.{adjusted, scaled, run, adjustmentRefusal, allReasons, number, entries}
-use Rattle.converter.specs.Verdict.{Verdict, verdict, verdicts, Inside}
+use Rattle.converter.specs.Verdict.{verdict, verdicts, Inside}
 use Rattle.converter.specs.Converted.{Input, runOn, Converted, Multiplied, Sizes, WrittenCells, Written, SeriesSurvives}
 use Rattle.converter.proofs.MovingInput.{multiplied-is-converted}
 use Rattle.converter.proofs.MovingSeries.{series-survives}

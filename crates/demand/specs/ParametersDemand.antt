@@ -10,7 +10,6 @@ use lib.IntN.{ℤ, natAbs}
 use lib.Ieee.{binary64, fits}
 use Rattle.adjustment.specs.declared.Cutoffs.{Cutoffs}
 use Rattle.adjustment.specs.Cutoffs.{documentCutoffs}
-use Rattle.answers.specs.declared.Entry.{Entry}
 use Rattle.satterthwaite.specs.Call.{number, entry}
 use Rattle.converter.specs.Verdict.{verdict}
 use Rattle.converted.specs.Converted.{satterthwaiteChange, converted}

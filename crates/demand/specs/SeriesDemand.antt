@@ -8,7 +8,6 @@ use mathlib.Core.List.{List, map}
 use lib.IntN.{ℤ, natAbs}
 use lib.ListN.{getD}
 use Rattle.adjustment.specs.declared.Cutoffs.{Cutoffs}
-use Rattle.answers.specs.declared.Entry.{Entry}
 use Rattle.answers.specs.Answer.{noEntry}
 use Rattle.records.specs.Series.{coefficients, contrastRows}
 use Rattle.kenward_roger.specs.Call.{number, entries}
