@@ -5,3 +5,4 @@ pub mod MovingVariance
 pub mod MovingOrder
 pub mod MovingComponents
 pub mod Survives
+pub mod PartsLaws

@@ -2,3 +2,4 @@
 pub mod VarianceDf
 pub mod PooledDf
 pub mod Satterthwaite
+pub mod Parts

@@ -1,1 +1,6 @@
-// The Satterthwaite test: what it answers is defined in specs/, and its laws stand in proofs/.
+// The Satterthwaite test (ddf).
+pub mod components;
+pub mod pooled;
+pub mod satterthwaite;
+pub mod starts;
+pub mod variance;
