@@ -1,0 +1,5 @@
+-- The laws of the whole Satterthwaite call.
+pub mod Gathers
+pub mod Absent
+pub mod Read
+pub mod Judged

@@ -1,0 +1,28 @@
+-- `satterthwaite::size_of` meets its contract.
+use mathlib.Core.Path.{_≡_, refl, sym, ap, _∙_}
+use Prim.Native.Nat.{ℕ, _<_, _≤_, _-_}
+use native.Mathlib.Omega.{arith}
+use Rattle.records.proofs.Slots.{kind-low, kind-high}
+use Rattle.satterthwaite.specs.Gathered.{tableFor}
+use borrow.Author.Needs.{needs}
+use Rattle.satterthwaite.proofs.size_of.Statement.{statement}
+use Rattle.satterthwaite.proofs.size_of.Tie as tie
+use Rattle.satterthwaite.proofs.size_of.Reads as reads
+use Rattle.satterthwaite.proofs.size_of.Lts as lts
+use Rattle.satterthwaite.proofs.size_high.Reads as size-high-reads
+use Rattle.satterthwaite.proofs.size_low.Reads as size-low-reads
+
+size-low-requires : tie.Need-size-low-requires
+size-low-requires c κs = search needs
+
+returns : tie.Need-returns
+returns c = c .size-low .ensures ∙ sym (kind-low (tableFor (c .before .before .args .z)) (c .before .before .args .kind) (omega arith))
+
+size-high-requires : tie.Need-size-high-requires
+size-high-requires c κs = search needs
+
+returns-2 : tie.Need-returns-2
+returns-2 c = c .size-high .ensures ∙ sym (kind-high (tableFor (c .before .before .args .z)) (c .before .before .args .kind) (omega arith))
+
+pub size-of-spec : {M : Type 1} → statement M
+size-of-spec = tie.close (tie.spec size-low-requires returns size-high-requires returns-2)

@@ -1,0 +1,94 @@
+-- What the code gathers of a file before it computes: the sizes, the cells that are absent, and the numbers, from the flags and the sheet of crates/records/specs/Sheet.antt.
+use Prim.Native.Nat.{ℕ, _+_, _*_, _%_, _≤_}
+use mathlib.Core.Bool.{Bool, false, not, cond, _||_}
+use mathlib.Core.List.{List, [], _∷_}
+use lib.Dec.{eqb}
+use lib.ListN.{length, getD, replicate}
+use lib.Ieee.{Float, nan}
+use Rattle.arithmetic.specs.Numbers.{plusZero}
+use Rattle.algebra.specs.Fold.{span}
+use Rattle.algebra.specs.Table.{row, table, blank}
+use Rattle.records.specs.Scan.{any}
+use Rattle.records.specs.Kinds.{Table, cells, unread, kindAt, satterthwaite}
+use Rattle.records.specs.File.{count, present, badRecord, again, beyond}
+use Rattle.records.specs.Sheet.{firstSlot}
+use Rattle.ddf.specs.Satterthwaite.{Rows, Inputs}
+use Rattle.ddf.specs.Parts.{inputsOf}
+use Rattle.satterthwaite.specs.declared.Sizes.{Sizes}
+use Rattle.satterthwaite.specs.Parameters.{coefficients, contrastRows, parameters, sizes, incomplete}
+
+-- document 01: "p comes from β, the parameters from A"; "only 10 optional"
+unfoldable pub sizesOf : List ℕ → Sizes
+sizesOf s = record { coefficients = coefficients s; contrasts = contrastRows s; parameters = parameters s; hypothesis = present s 10 }
+
+-- what such sizes leave each kind: 0 to 7, β, contrast, β_H; v, Jacobian, A
+unfoldable pub tableFor : Sizes → Table
+tableFor z = record {
+  low = unread
+      ∷ unread
+      ∷ unread
+      ∷ unread
+      ∷ unread
+      ∷ unread
+      ∷ unread
+      ∷ unread
+      ∷ cells 1 (z .coefficients) 1
+      ∷ cells 1 (z .contrasts) (z .coefficients)
+      ∷ cells 1 (cond (z .hypothesis) (z .coefficients) 0) 1
+      ∷ [];
+  high = cells 1 (z .coefficients) (z .coefficients)
+      ∷ cells (z .parameters) (z .coefficients) (z .coefficients)
+      ∷ cells 1 (z .parameters) (z .parameters)
+      ∷ [];
+}
+
+-- document 01's limits: coefficients and contrast rows 1 to 6, parameters 1 to 4
+pub record Small (z : Sizes) : Type 0 where
+  pub coefficients : z .coefficients ≤ 6
+  pub contrasts : z .contrasts ≤ 6
+  pub parameters : z .parameters ≤ 4
+
+-- ---- absent cells: one of the m flags from a place on is not set; one of r rows of m, a stride apart; of n such tables, a step apart
+unfoldable pub gapInRow : List Bool → ℕ → ℕ → Bool
+gapInRow flags at m = any m (λ c. not (getD flags (at + c) false))
+
+unfoldable pub gaps : List Bool → ℕ → ℕ → ℕ → ℕ → Bool
+gaps flags at stride r m = any r (λ i. gapInRow flags (at + i * stride) m)
+
+unfoldable pub stackGaps : List Bool → ℕ → ℕ → ℕ → ℕ → ℕ → ℕ → Bool
+stackGaps flags at step stride n r m = any n (λ i. gaps flags (at + i * step) stride r m)
+
+-- kind k misses a cell that the sizes leave it
+unfoldable pub missingIn : List Bool → Sizes → ℕ → Bool
+missingIn flags z k =
+    stackGaps flags (firstSlot satterthwaite k) (kindAt satterthwaite k .rows * kindAt satterthwaite k .columns) (kindAt satterthwaite k .columns) (kindAt (tableFor z) k .counts) (kindAt (tableFor z) k .rows) (kindAt (tableFor z) k .columns)
+
+-- refusal 2, its five reasons in one: document 01, "length not a multiple of 16, bad kind, nonzero unused field, index past a limit, cell twice, missing or beyond the sizes"
+unfoldable pub malformedFile : List ℕ → Bool
+malformedFile s =
+    not (eqb (length s % 16) 0)
+    || any (count s) (badRecord satterthwaite s)
+    || any (count s) (again satterthwaite s)
+    || any (count s) (beyond (sizes s) s)
+    || incomplete s
+
+-- ---- the numbers of the sheet from a place on: n of six; r rows of c, a stride apart, of six rows of six; n such tables of p rows of p, of four
+unfoldable pub numbersAt : List Float → ℕ → ℕ → List Float
+numbersAt sheet at n = row plusZero 6 n (λ i. getD sheet (at + i) nan)
+
+unfoldable pub cellsAt : List Float → ℕ → ℕ → ℕ → ℕ → Rows
+cellsAt sheet at stride r c = table plusZero 6 6 r c (λ i j. getD sheet (at + i * stride + j) nan)
+
+unfoldable pub stackAt : List Float → ℕ → ℕ → ℕ → List Rows
+stackAt sheet at n p = span 0 n (λ i. cellsAt sheet (at + i * 36) 6 p p) (replicate 4 (blank plusZero 6 6))
+
+-- the first slots of β, contrast, β_H, v, Jacobian and A are 0, 6, 42, 48, 84 and 228
+unfoldable pub inputsFrom : List Float → Sizes → Inputs
+inputsFrom sheet z =
+    inputsOf (z .coefficients) (z .contrasts) (z .parameters)
+    (cellsAt sheet 6 6 (z .contrasts) (z .coefficients))
+    (numbersAt sheet 0 (z .coefficients))
+    (numbersAt sheet 42 (z .coefficients))
+    (cellsAt sheet 48 6 (z .coefficients) (z .coefficients))
+    (stackAt sheet 84 (z .parameters) (z .coefficients))
+    (cellsAt sheet 228 4 (z .parameters) (z .parameters))
