@@ -8,7 +8,7 @@ use lib.Dec.{eqb}
 use lib.ListN.{length}
 use lib.Seq.{sets}
 use lib.Ieee.{Float}
-use borrow.Author.Tests.{eq-eqb, ne-eqb}
+use borrow.Author.Tests.{eq-eqb, ne-eqb, not-false}
 use Rattle.arithmetic.specs.Numbers.{plusZero, isFinite}
 use Rattle.adjustment.specs.declared.Cutoffs.{Cutoffs}
 use Rattle.answers.specs.declared.Entry.{Entry}
@@ -17,8 +17,9 @@ use Rattle.answer_bytes.specs.Layout.{entryBytes}
 use Rattle.answer_bytes.proofs.LayoutLaws.{length-entry}
 use Rattle.little_endian.proofs.StoreLaws.{sets-all}
 use Rattle.records.specs.Scan.{any, last, first}
-use Rattle.records.specs.Kinds.{Table, satterthwaite}
-use Rattle.records.specs.File.{count, valueOf, badRecord, again, beyond, notFinite, isCell, cell}
+use Rattle.records.specs.Kinds.{Table, kindAt, satterthwaite}
+use Rattle.records.specs.File.{count, valueOf, badRecord, again, beyond, notFinite, isCell, cell, has, missing}
+use Rattle.records.proofs.Laws.{any-none}
 use Rattle.satterthwaite.specs.declared.Sizes.{Sizes}
 use Rattle.satterthwaite.specs.Parameters.{coefficients, contrastRows, parameters, sizes, incomplete, reasons, refusal}
 use Rattle.satterthwaite.specs.Gathered.{Small, sizesOf, tableFor, malformedFile}
@@ -66,8 +67,16 @@ module _ (s : List ℕ) where
   unfolding malformedFile
   rest-absent z r e h b a d q = rw (eq-eqb (length s % 16) 0 h, b, a, sym (beyond-is z e) ∙ d) q
 
--- nothing refuses
-none-holds : (a b c d e f : Bool) → first ((2, a) ∷ (2, b) ∷ (2, c) ∷ (2, d) ∷ (2, e) ∷ (4, f) ∷ []) ≡ 0 → (b ≡ false) × (f ≡ false)
+-- none of the reasons holds
+pub record Accepted (s : List ℕ) : Type 0 where
+  pub whole : not (eqb (length s % 16) 0) ≡ false
+  pub good : any (count s) (badRecord satterthwaite s) ≡ false
+  pub once : any (count s) (again satterthwaite s) ≡ false
+  pub within : any (count s) (beyond (sizes s) s) ≡ false
+  pub complete : incomplete s ≡ false
+  pub finite : any (count s) (notFinite s) ≡ false
+
+none-holds : (a b c d e f : Bool) → first ((2, a) ∷ (2, b) ∷ (2, c) ∷ (2, d) ∷ (2, e) ∷ (4, f) ∷ []) ≡ 0 → (a ≡ false) × (b ≡ false) × (c ≡ false) × (d ≡ false) × (e ≡ false) × (f ≡ false)
 unfolding first
 none-holds true b c d e f h = absurd (omega arith)
 none-holds false true c d e f h = absurd (omega arith)
@@ -75,19 +84,30 @@ none-holds false false true d e f h = absurd (omega arith)
 none-holds false false false true e f h = absurd (omega arith)
 none-holds false false false false true f h = absurd (omega arith)
 none-holds false false false false false true h = absurd (omega arith)
-none-holds false false false false false false h = (refl, refl)
+none-holds false false false false false false h = (refl, refl, refl, refl, refl, refl)
 
+-- the last of finite numbers, or +0
+last-finite : (n : ℕ) (p : ℕ → Bool) (f : ℕ → Float) → ((i : ℕ) → i < n → isFinite (f i) ≡ true) → isFinite (last n p f plusZero) ≡ true
+unfolding last isFinite
+last-finite zero p f h = refl
+last-finite (suc n) p f h = go (last-finite n p f (λ i l. h i (omega arith))) (p n)
+  where
+    go : isFinite (last n p f plusZero) ≡ true → (b : Bool) → isFinite (cond b (f n) (last n p f plusZero)) ≡ true
+    go e true = h n (omega arith)
+    go e false = e
+
+-- ---- what holds of a file that is not refused
 module _ (s : List ℕ) (taken : refusal s ≡ 0) where
-  none : (any (count s) (badRecord satterthwaite s) ≡ false) × (any (count s) (notFinite s) ≡ false)
+  pub accepted : Accepted s
   unfolding refusal reasons
-  none =
-      none-holds (not (eqb (length s % 16) 0)) (any (count s) (badRecord satterthwaite s)) (any (count s) (again satterthwaite s)) (any (count s) (beyond (sizes s) s)) (incomplete s) (any (count s) (notFinite s)) taken
+  accepted =
+      let n = none-holds (not (eqb (length s % 16) 0)) (any (count s) (badRecord satterthwaite s)) (any (count s) (again satterthwaite s)) (any (count s) (beyond (sizes s) s)) (incomplete s) (any (count s) (notFinite s)) taken in
+      record { whole = n .0; good = n .1; once = n .2; within = n .3; complete = n .4; finite = n .5 }
 
-  -- no record is bad
   pub taken-good : any (count s) (badRecord satterthwaite s) ≡ false
-  taken-good = none .0
+  taken-good = accepted .good
 
-  -- ---- document 01's limits hold of a file that is not refused: coefficients and contrast rows 1 to 6, parameters 1 to 4
+  -- document 01's limits: coefficients and contrast rows 1 to 6, parameters 1 to 4
   pub taken-small : Small (sizesOf s)
   taken-small = small s taken-good
 
@@ -102,6 +122,20 @@ module _ (s : List ℕ) (taken : refusal s ≡ 0) where
   pub parameters-within : (1 ≤ parameters s) × (parameters s ≤ 4)
   unfolding sizesOf
   parameters-within = let h = taken-small .parameters in (omega arith, h)
+
+  -- every number is finite, and every cell that the sizes leave a kind is there
+  pub number-finite : (k n r c : ℕ) → isFinite (cell satterthwaite s k n r c) ≡ true
+  unfolding cell notFinite
+  number-finite k n r c =
+      last-finite (count s) (isCell satterthwaite s k n r c) (valueOf s) (λ i l. not-false (isFinite (valueOf s i)) (any-none (count s) (notFinite s) i l (accepted .finite)))
+
+  pub cell-there : (k n r c : ℕ) → k < 33 → n < kindAt (sizes s) k .counts → r < kindAt (sizes s) k .rows → c < kindAt (sizes s) k .columns → has satterthwaite s k n r c ≡ true
+  unfolding incomplete missing
+  cell-there k n r c lk ln lr lc =
+      let a = any-none 33 (missing satterthwaite (sizes s) s) k lk (accepted .complete) in
+      let b = any-none (kindAt (sizes s) k .counts) (λ n. any (kindAt (sizes s) k .rows) (λ r. any (kindAt (sizes s) k .columns) (λ c. not (has satterthwaite s k n r c)))) n ln a in
+      let d = any-none (kindAt (sizes s) k .rows) (λ r. any (kindAt (sizes s) k .columns) (λ c. not (has satterthwaite s k n r c))) r lr b in
+      not-false (has satterthwaite s k n r c) (any-none (kindAt (sizes s) k .columns) (λ c. not (has satterthwaite s k n r c)) c lc d)
 
 -- ---- with the test's own refusal
 eleven-last : (a b c d e f r : Bool) → first (((2, a) ∷ (2, b) ∷ (2, c) ∷ (2, d) ∷ (2, e) ∷ (4, f) ∷ []) ++ ((11, r) ∷ [])) ≡ cond (eqb (first ((2, a) ∷ (2, b) ∷ (2, c) ∷ (2, d) ∷ (2, e) ∷ (4, f) ∷ [])) 0) (cond r 11 0) (first ((2, a) ∷ (2, b) ∷ (2, c) ∷ (2, d) ∷ (2, e) ∷ (4, f) ∷ []))

@@ -3,3 +3,4 @@ pub mod Gathers
 pub mod Absent
 pub mod Read
 pub mod Judged
+pub mod Bench

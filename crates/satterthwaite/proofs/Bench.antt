@@ -1,0 +1,115 @@
+-- Document 01, "Bench examples": example (i) as a file of records. "(i) L identity, v = diag(4,1), one Jacobian equal to v, A 0.5, β (4,1): F 2.5, df 4".
+use Prim.Native.Nat.{ℕ}
+use mathlib.Core.Path.{_≡_, refl, ap, sym, _∙_}
+use mathlib.Core.Bool.{true, false}
+use mathlib.Core.List.{List, [], _∷_, _++_}
+use lib.ListN.{replicate}
+use lib.IntN.{pos, negsuc}
+use lib.Ieee.{Float, fin, binary64, ofBits, toBits, round, add, sub, mul, div, neg, lt, eq, le, ofInt}
+use Rattle.arithmetic.specs.declared.Marked.{Marked}
+use Rattle.arithmetic.specs.Numbers.{plusZero, one, magnitude, isZero, isFinite, sign, ofCount}
+use Rattle.arithmetic.specs.SquareRoot.{squareRoot, wholeRoot}
+use Rattle.arithmetic.specs.Marks.{given, inRange, stepMark, lostProduct, lostQuotient, markedAdd, markedSub, markedMul, markedDiv, markedRoot, markedMagnitude, also}
+use Rattle.algebra.specs.Fold.{fold}
+use Rattle.algebra.specs.Table.{row, blank, table}
+use Rattle.algebra.specs.Product.{sum, cell, product, transpose, sumCells, identity, minusCells}
+use Rattle.algebra.specs.Jacobi.{ratio, tangent, cosine, sine, turnedFirst, turnedSecond, turnRow, turnColumns, rotatedCell, rotated, squared, bound, rotateTested, rotate, rowTo, sweepTo, sweepsTo, mirrored, jacobi}
+use Rattle.products.specs.Small.{sandwich, givenCells, allMarks}
+use Rattle.adjustment.specs.Cutoffs.{decimal, documentCutoffs}
+use Rattle.answers.specs.declared.Number.the-variants.{Is, None}
+use Rattle.answers.specs.declared.Entry.{Entry}
+use Rattle.answers.specs.Answer.{numberOf}
+use Rattle.contrast_basis.specs.Order.{comesBefore, placeIn, indexAt}
+use Rattle.ddf.specs.VarianceDf.{isPositive, relativeGradient, relativeVariance, dfOfRelative, varianceDf, gradientSeen}
+use Rattle.ddf.specs.PooledDf.{tolerance, allWithin, anyLow, expected, pooled, getFstatDdf}
+use Rattle.ddf.specs.Satterthwaite.{column, contrastOf, transformed, transformedAll, squareOne, gradientOne, eigenvalues, notPositive, variancesOf, directionsOf, projected, squaresOver, turnedAll, gradientAt, capped, componentDf, componentDfs, anyNone, severalDf, componentsSeen, stackSeen, Inputs, Outcome, ldRows, vRows, jStack, turned, variances, directions, jxStack, fOne, fSeveral, dfOne, dfSeveral, startSeen, seenOne, seenSeveral, oneRow, severalRows, satterthwaite}
+use Rattle.answer_bytes.specs.Layout.{bitsOf, entryBytes}
+use Rattle.little_endian.specs.Bytes.{word, long, bytesOf}
+use Rattle.records.specs.Scan.{any, most, last, first}
+use Rattle.records.specs.Kinds.{kindAt, satterthwaite as kinds}
+use Rattle.records.specs.File.{outOf, badRecord, isCell, again, has, cell as fileCell, rows, columns, beyond, missing, notFinite}
+use Rattle.records.proofs.Examples.{recordOf}
+use Rattle.satterthwaite.specs.Parameters.{sizes, incomplete, reasons, refusal, jacobians, inputs}
+use Rattle.satterthwaite.specs.Call.{outcome, number, entry, returned, written}
+use Rattle.satterthwaite.proofs.Judged.{judged-taken}
+
+abbrev oneBits : ℕ
+oneBits = 0x3ff0000000000000
+
+abbrev fourBits : ℕ
+fourBits = 0x4010000000000000
+
+-- the cells (0,0), (0,1), (1,0) and (1,1) of a kind
+abbrev square : ℕ → ℕ → ℕ → ℕ → ℕ → List ℕ
+square k a b c d = recordOf k 0 0 0 a ++ (recordOf k 0 1 0 b ++ (recordOf k 1 0 0 c ++ recordOf k 1 1 0 d))
+
+-- β (4,1), L identity, v = diag(4,1), one Jacobian equal to v, A 0.5
+abbrev pub fileI : List ℕ
+fileI =
+    recordOf 8 0 0 0 fourBits
+    ++ (recordOf 8 1 0 0 oneBits
+    ++ (square 9 oneBits 0 0 oneBits ++ (square 30 fourBits 0 0 oneBits ++ (square 31 fourBits 0 0 oneBits ++ recordOf 32 0 0 0 0x3fe0000000000000))))
+
+-- ---- what it sends
+abbrev four : Float
+four = fin false 1 (pos 2)
+
+abbrev half : Float
+half = fin false 1 (negsuc 0)
+
+abbrev zeros : List Float
+zeros = plusZero ∷ plusZero ∷ plusZero ∷ plusZero ∷ plusZero ∷ plusZero ∷ []
+
+abbrev two : Float → Float → List Float
+two a b = a ∷ b ∷ plusZero ∷ plusZero ∷ plusZero ∷ plusZero ∷ []
+
+abbrev diagonal : Float → Float → List (List Float)
+diagonal a b = two a plusZero ∷ two plusZero b ∷ zeros ∷ zeros ∷ zeros ∷ zeros ∷ []
+
+abbrev pub sent : Inputs
+sent = record {
+  p = 2;
+  q = 2;
+  n = 1;
+  l = diagonal one one;
+  beta = two four one;
+  betaH = zeros;
+  v = diagonal four one;
+  js = diagonal four one ∷ diagonal plusZero plusZero ∷ diagonal plusZero plusZero ∷ diagonal plusZero plusZero ∷ [];
+  a = diagonal half plusZero;
+}
+
+abbrev pub answered : Entry
+answered = record { f = Is (fin false 5 (negsuc 0)); df = Is four; rank = 2; inside = true }
+
+-- the file is read
+pub file-sends : inputs fileI ≡ sent
+unfolding inputs jacobians rows columns most fileCell last isCell kindAt kinds word long bytesOf ofBits table blank row fold
+file-sends = refl
+
+pub file-taken : refusal fileI ≡ 0
+unfolding refusal reasons first sizes incomplete outOf badRecord isCell again has fileCell rows columns beyond missing notFinite kindAt kinds any most last word long bytesOf isFinite isZero ofBits le eq
+file-taken = refl
+
+-- the test
+pub tested : satterthwaite documentCutoffs sent ≡ record { refused = false; entry = answered }
+unfolding satterthwaite severalRows oneRow seenSeveral seenOne startSeen dfSeveral dfOne fSeveral fOne jxStack directions variances turned jStack vRows ldRows stackSeen componentsSeen severalDf anyNone componentDfs componentDf capped gradientAt turnedAll squaresOver projected directionsOf variancesOf notPositive eigenvalues gradientOne squareOne transformedAll transformed contrastOf column getFstatDdf pooled expected anyLow allWithin tolerance gradientSeen varianceDf dfOfRelative relativeVariance relativeGradient isPositive indexAt placeIn comesBefore numberOf documentCutoffs decimal allMarks givenCells sandwich jacobi mirrored sweepsTo sweepTo rowTo rotate rotateTested bound squared rotated rotatedCell turnColumns turnRow turnedSecond turnedFirst sine cosine tangent ratio identity minusCells sumCells transpose product cell sum table blank row fold markedMagnitude markedRoot markedDiv markedMul markedSub markedAdd also lostQuotient lostProduct stepMark inRange squareRoot wholeRoot ofCount isFinite isZero magnitude sign round add sub mul div neg lt eq le ofInt lib.Ieee.isNan
+tested = refl
+
+tested-file : outcome documentCutoffs fileI ≡ record { refused = false; entry = answered }
+unfolding outcome
+tested-file = ap (satterthwaite documentCutoffs) file-sends ∙ tested
+
+-- the call, whole: number 0, and in the 24 lent bytes F 2.5, df 4, rank 2, both given, inside
+pub record Example : Type 0 where
+  pub number-i : number documentCutoffs fileI ≡ 0
+  pub entry-i : entry documentCutoffs fileI ≡ answered
+  pub returned-i : returned documentCutoffs fileI (replicate 24 255) ≡ 0
+  pub written-i : written documentCutoffs fileI (replicate 24 255) ≡ 0 ∷ 0 ∷ 0 ∷ 0 ∷ 0 ∷ 0 ∷ 4 ∷ 0x40 ∷ 0 ∷ 0 ∷ 0 ∷ 0 ∷ 0 ∷ 0 ∷ 0x10 ∷ 0x40 ∷ 2 ∷ 1 ∷ 1 ∷ 1 ∷ 0 ∷ 0 ∷ 0 ∷ 0 ∷ []
+
+pub example-i : Example
+unfolding returned written entryBytes bitsOf bytesOf toBits
+example-i =
+    let j = judged-taken documentCutoffs fileI answered file-taken (ap (λ (o : Outcome). o .refused) tested-file) (sym (ap (λ (o : Outcome). o .entry) tested-file)) in
+    let n : number documentCutoffs fileI ≡ 0 = sym (j .1) in
+    record { number-i = n; entry-i = sym (j .0); returned-i = n; written-i = rw (n, sym (j .0)) }
