@@ -223,7 +223,7 @@ pub fn any_bad(call: bool, s: &[u8]) -> bool
     false
 }
 
-fn larger(a: usize, b: usize) -> usize
+pub fn larger(a: usize, b: usize) -> usize
     ensures { λ r. ⌜ r ≡ max a b ⌝ }
 {
     if a < b { b } else { a }

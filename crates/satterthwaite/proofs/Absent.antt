@@ -1,6 +1,6 @@
 -- The flags say which cells a file misses.
 use Prim.Native.Nat.{ℕ, _+_, _*_, _<_}
-use mathlib.Core.Path.{_≡_, refl, ap, sym, _∙_}
+use mathlib.Core.Path.{_≡_, ap, _∙_}
 use mathlib.Core.Bool.{Bool, true, false, not}
 use mathlib.Core.List.{List}
 use native.Mathlib.Omega.{arith}
@@ -12,10 +12,11 @@ use Rattle.records.specs.Sheet.{firstSlot, offset, slot, flagsAfter}
 use Rattle.records.proofs.Laws.{any-same}
 use Rattle.records.proofs.Slots.{Inside}
 use Rattle.records.proofs.Sheets.{cell-flag}
+use Rattle.series.specs.Checks.{gapInRow, gaps}
 use Rattle.satterthwaite.specs.declared.Sizes.{Sizes}
 use Rattle.satterthwaite.specs.Parameters.{sizes, incomplete}
-use Rattle.satterthwaite.specs.Gathered.{sizesOf, tableFor, gapInRow, gaps, stackGaps, missingIn}
-use Rattle.satterthwaite.proofs.Gathers.{small, Below, size-below, no-block}
+use Rattle.satterthwaite.specs.Gathered.{sizesOf, tableFor, stackGaps, missingIn}
+use Rattle.satterthwaite.proofs.Gathers.{small, size-below, no-block}
 
 -- a cell's slot, from table, row and column
 place : (f n R r C c : ℕ) → f + n * (R * C) + r * C + c ≡ f + ((n * R + r) * C + c)

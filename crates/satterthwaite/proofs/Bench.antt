@@ -5,18 +5,17 @@ use mathlib.Core.Bool.{true, false}
 use mathlib.Core.List.{List, [], _∷_, _++_}
 use lib.ListN.{replicate}
 use lib.IntN.{pos, negsuc}
-use lib.Ieee.{Float, fin, binary64, ofBits, toBits, round, add, sub, mul, div, neg, lt, eq, le, ofInt}
-use Rattle.arithmetic.specs.declared.Marked.{Marked}
+use lib.Ieee.{Float, fin, ofBits, toBits, round, add, sub, mul, div, neg, lt, eq, le, ofInt}
 use Rattle.arithmetic.specs.Numbers.{plusZero, one, magnitude, isZero, isFinite, sign, ofCount}
 use Rattle.arithmetic.specs.SquareRoot.{squareRoot, wholeRoot}
-use Rattle.arithmetic.specs.Marks.{given, inRange, stepMark, lostProduct, lostQuotient, markedAdd, markedSub, markedMul, markedDiv, markedRoot, markedMagnitude, also}
+use Rattle.arithmetic.specs.Marks.{inRange, stepMark, lostProduct, lostQuotient, markedAdd, markedSub, markedMul, markedDiv, markedRoot, markedMagnitude, also}
 use Rattle.algebra.specs.Fold.{fold}
 use Rattle.algebra.specs.Table.{row, blank, table}
 use Rattle.algebra.specs.Product.{sum, cell, product, transpose, sumCells, identity, minusCells}
 use Rattle.algebra.specs.Jacobi.{ratio, tangent, cosine, sine, turnedFirst, turnedSecond, turnRow, turnColumns, rotatedCell, rotated, squared, bound, rotateTested, rotate, rowTo, sweepTo, sweepsTo, mirrored, jacobi}
 use Rattle.products.specs.Small.{sandwich, givenCells, allMarks}
 use Rattle.adjustment.specs.Cutoffs.{decimal, documentCutoffs}
-use Rattle.answers.specs.declared.Number.the-variants.{Is, None}
+use Rattle.answers.specs.declared.Number.the-variants.{Is}
 use Rattle.answers.specs.declared.Entry.{Entry}
 use Rattle.answers.specs.Answer.{numberOf}
 use Rattle.contrast_basis.specs.Order.{comesBefore, placeIn, indexAt}

@@ -1,6 +1,6 @@
 -- Laws of the sizes that the code gathers: what they leave a kind lies within the kind.
 use Prim.Native.Nat.{ℕ, zero, suc, _+_, _*_, _-_, _<_, _≤_, max}
-use mathlib.Core.Path.{_≡_, refl, ap, sym, _∙_}
+use mathlib.Core.Path.{_≡_, refl}
 use mathlib.Core.Bool.{Bool, true, false, not, cond}
 use mathlib.Core.List.{List, [], _∷_}
 use native.Mathlib.Omega.{arith}
@@ -11,12 +11,13 @@ use lib.ListN.{getD}
 use borrow.Author.Tests.{ltb-false, not-true}
 use Rattle.records.specs.declared.Kind.{Kind}
 use Rattle.records.specs.Scan.{any, total}
-use Rattle.records.specs.Kinds.{Table, cells, kindAt, unread, satterthwaite}
+use Rattle.records.specs.Kinds.{cells, kindAt, unread, satterthwaite}
 use Rattle.records.specs.File.{count, rows, columns, badRecord}
 use Rattle.records.specs.Sheet.{firstSlot, slots}
 use Rattle.records.proofs.Laws.{any-none}
 use Rattle.records.proofs.Slots.{kind-low, kind-high, kind-small, each-kind}
 use Rattle.records.proofs.Limits.{rows-within, columns-within}
+use Rattle.series.proofs.Gathers.{row-ends}
 use Rattle.satterthwaite.specs.declared.Sizes.{Sizes}
 use Rattle.satterthwaite.specs.Parameters.{sizes}
 use Rattle.satterthwaite.specs.Gathered.{sizesOf, tableFor, Small}
@@ -90,10 +91,7 @@ size-below z h k = go (decLt k 30)
         let m : 30 ≤ k = omega arith in
         rw (kind-high (tableFor z) k m, kind-high satterthwaite k m) (each-below (tableFor z .high) (satterthwaite .high) (high-below z h) (k - 30))
 
--- rows one after another, and the last slot of a kind
-pub row-ends : (i r stride : ℕ) → i < r → i * stride + stride ≤ r * stride
-row-ends i r stride l = let z : (i + 1) * stride ≤ r * stride = mul-le-mul (omega arith) (omega arith) in omega arith
-
+-- row i of r, and the last slot of a kind
 pub row-inside : (at i r stride : ℕ) → at + r * stride ≤ 835 → i < r → at + i * stride + stride ≤ 835
 row-inside at i r stride h l = let z = row-ends i r stride l in omega arith
 

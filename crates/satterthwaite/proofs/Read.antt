@@ -1,32 +1,31 @@
 -- The sheet holds what a file sends.
-use Prim.Native.Nat.{ℕ, _+_, _*_, _<_, _≤_}
-use mathlib.Core.Path.{_≡_, refl, ap, sym, _∙_}
+use Prim.Native.Nat.{ℕ, _+_, _*_, _<_}
+use mathlib.Core.Path.{_≡_, ap, _∙_}
 use mathlib.Core.Bool.{Bool, true, false}
 use mathlib.Core.List.{List}
 use native.Mathlib.Omega.{arith}
 use lib.ListN.{getD, set, replicate}
 use lib.Ieee.{Float, nan}
 use Rattle.arithmetic.specs.Numbers.{plusZero}
-use Rattle.algebra.specs.Fold.{fold}
 use Rattle.algebra.specs.Table.{row, table, blank}
 use Rattle.algebra.proofs.FoldLaws.{fold-ext}
 use Rattle.algebra.proofs.TableLaws.{table-ext}
 use Rattle.records.specs.Scan.{any, total}
 use Rattle.records.specs.Kinds.{kindAt, satterthwaite}
-use Rattle.records.specs.File.{count, badRecord, cell}
+use Rattle.records.specs.File.{count, badRecord}
 use Rattle.records.specs.Sheet.{slots, firstSlot, offset, slot, sheetAfter}
 use Rattle.records.proofs.Slots.{Inside}
 use Rattle.records.proofs.Sheets.{cell-value}
 use Rattle.adjustment.specs.declared.Cutoffs.{Cutoffs}
 use Rattle.answers.specs.declared.Entry.{Entry}
 use Rattle.ddf.specs.Satterthwaite.{Rows, Inputs, satterthwaite as test}
+use Rattle.series.specs.Checks.{numbersAt}
 use Rattle.ddf.specs.Parts.{inputsOf}
 use Rattle.satterthwaite.specs.declared.Sizes.{Sizes}
 use Rattle.satterthwaite.specs.Call.{outcome}
 use Rattle.satterthwaite.specs.Parameters.{coefficients, contrastRows, parameters, number, jacobians, inputs}
-use Rattle.satterthwaite.specs.Gathered.{Small, sizesOf, numbersAt, cellsAt, stackAt, inputsFrom}
+use Rattle.satterthwaite.specs.Gathered.{sizesOf, cellsAt, stackAt, inputsFrom}
 use Rattle.satterthwaite.proofs.Gathers.{small}
-use Rattle.satterthwaite.proofs.Absent.{slot-place}
 
 -- rows of functions that agree
 row-ext : {A : Type 0} (z : A) (C c : ℕ) (f g : ℕ → A) → ((i : ℕ) → i < c → f i ≡ g i) → row z C c f ≡ row z C c g
@@ -38,7 +37,7 @@ inputs-same p q n el eb eh ev ej ea = rw (el, eb, eh, ev, ej, ea)
 
 -- a test's answers from the parts of the sheet at hand
 pub test-is : (c : Cutoffs) (xs : List Float) (z : Sizes) (l v a : Rows) (b h : List Float) (js : List Rows) (e : Entry) (r : Bool)
-    → l ≡ cellsAt xs 6 6 (z .contrasts) (z .coefficients) → b ≡ numbersAt xs 0 (z .coefficients) → h ≡ numbersAt xs 42 (z .coefficients)
+    → l ≡ cellsAt xs 6 6 (z .contrasts) (z .coefficients) → b ≡ numbersAt xs 6 0 (z .coefficients) → h ≡ numbersAt xs 6 42 (z .coefficients)
     → v ≡ cellsAt xs 48 6 (z .coefficients) (z .coefficients) → js ≡ stackAt xs 84 (z .parameters) (z .coefficients) → a ≡ cellsAt xs 228 4 (z .parameters) (z .parameters)
     → e ≡ test c (inputsOf (z .coefficients) (z .contrasts) (z .parameters) l b h v js a) .entry
     → r ≡ test c (inputsOf (z .coefficients) (z .contrasts) (z .parameters) l b h v js a) .refused
@@ -56,12 +55,12 @@ module _ (s : List ℕ) (good : any (count s) (badRecord satterthwaite s) ≡ fa
   at-slot : (k n r c j : ℕ) → Inside (kindAt satterthwaite k) n r c → j ≡ slot satterthwaite k n r c → getD sheet j nan ≡ number s k n r c
   at-slot k n r c j w e = ap (λ (i : ℕ). getD sheet i nan) e ∙ cell-value true s good k n r c nan w
 
-  betas : numbersAt sheet 0 (coefficients s) ≡ row plusZero 6 (coefficients s) (λ i. number s 8 0 i 0)
+  betas : numbersAt sheet 6 0 (coefficients s) ≡ row plusZero 6 (coefficients s) (λ i. number s 8 0 i 0)
   unfolding numbersAt sizesOf slot offset firstSlot total slots kindAt satterthwaite
   betas = let z = small s good .coefficients in
       row-ext plusZero 6 (coefficients s) _ _ (λ i l. at-slot 8 0 i 0 (0 + i) (record { row = omega arith; rest = λ _. (omega arith, omega arith) }) (omega arith))
 
-  hypotheses : numbersAt sheet 42 (coefficients s) ≡ row plusZero 6 (coefficients s) (λ i. number s 10 0 i 0)
+  hypotheses : numbersAt sheet 6 42 (coefficients s) ≡ row plusZero 6 (coefficients s) (λ i. number s 10 0 i 0)
   unfolding numbersAt sizesOf slot offset firstSlot total slots kindAt satterthwaite
   hypotheses = let z = small s good .coefficients in
       row-ext plusZero 6 (coefficients s) _ _ (λ i l. at-slot 10 0 i 0 (42 + i) (record { row = omega arith; rest = λ _. (omega arith, omega arith) }) (omega arith))

@@ -1,17 +1,18 @@
 -- What the code gathers of a file before it computes: the sizes, the cells that are absent, and the numbers, from the flags and the sheet of crates/records/specs/Sheet.antt.
 use Prim.Native.Nat.{ℕ, _+_, _*_, _%_, _≤_}
-use mathlib.Core.Bool.{Bool, false, not, cond, _||_}
+use mathlib.Core.Bool.{Bool, not, cond, _||_}
 use mathlib.Core.List.{List, [], _∷_}
 use lib.Dec.{eqb}
 use lib.ListN.{length, getD, replicate}
 use lib.Ieee.{Float, nan}
 use Rattle.arithmetic.specs.Numbers.{plusZero}
 use Rattle.algebra.specs.Fold.{span}
-use Rattle.algebra.specs.Table.{row, table, blank}
+use Rattle.algebra.specs.Table.{table, blank}
 use Rattle.records.specs.Scan.{any}
 use Rattle.records.specs.Kinds.{Table, cells, unread, kindAt, satterthwaite}
 use Rattle.records.specs.File.{count, present, badRecord, again, beyond}
 use Rattle.records.specs.Sheet.{firstSlot}
+use Rattle.series.specs.Checks.{gaps, numbersAt}
 use Rattle.ddf.specs.Satterthwaite.{Rows, Inputs}
 use Rattle.ddf.specs.Parts.{inputsOf}
 use Rattle.satterthwaite.specs.declared.Sizes.{Sizes}
@@ -48,13 +49,7 @@ pub record Small (z : Sizes) : Type 0 where
   pub contrasts : z .contrasts ≤ 6
   pub parameters : z .parameters ≤ 4
 
--- ---- absent cells: one of the m flags from a place on is not set; one of r rows of m, a stride apart; of n such tables, a step apart
-unfoldable pub gapInRow : List Bool → ℕ → ℕ → Bool
-gapInRow flags at m = any m (λ c. not (getD flags (at + c) false))
-
-unfoldable pub gaps : List Bool → ℕ → ℕ → ℕ → ℕ → Bool
-gaps flags at stride r m = any r (λ i. gapInRow flags (at + i * stride) m)
-
+-- ---- absent cells: one of the flags of n tables of r rows of m is not set; rows are a stride apart, and tables a step
 unfoldable pub stackGaps : List Bool → ℕ → ℕ → ℕ → ℕ → ℕ → ℕ → Bool
 stackGaps flags at step stride n r m = any n (λ i. gaps flags (at + i * step) stride r m)
 
@@ -72,10 +67,7 @@ malformedFile s =
     || any (count s) (beyond (sizes s) s)
     || incomplete s
 
--- ---- the numbers of the sheet from a place on: n of six; r rows of c, a stride apart, of six rows of six; n such tables of p rows of p, of four
-unfoldable pub numbersAt : List Float → ℕ → ℕ → List Float
-numbersAt sheet at n = row plusZero 6 n (λ i. getD sheet (at + i) nan)
-
+-- ---- the numbers of the sheet from a place on: r rows of c, a stride apart, of six rows of six; n such tables of p rows of p, of four
 unfoldable pub cellsAt : List Float → ℕ → ℕ → ℕ → ℕ → Rows
 cellsAt sheet at stride r c = table plusZero 6 6 r c (λ i j. getD sheet (at + i * stride + j) nan)
 
@@ -87,8 +79,8 @@ unfoldable pub inputsFrom : List Float → Sizes → Inputs
 inputsFrom sheet z =
     inputsOf (z .coefficients) (z .contrasts) (z .parameters)
     (cellsAt sheet 6 6 (z .contrasts) (z .coefficients))
-    (numbersAt sheet 0 (z .coefficients))
-    (numbersAt sheet 42 (z .coefficients))
+    (numbersAt sheet 6 0 (z .coefficients))
+    (numbersAt sheet 6 42 (z .coefficients))
     (cellsAt sheet 48 6 (z .coefficients) (z .coefficients))
     (stackAt sheet 84 (z .parameters) (z .coefficients))
     (cellsAt sheet 228 4 (z .parameters) (z .parameters))

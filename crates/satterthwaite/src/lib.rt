@@ -1,8 +1,7 @@
 // The whole Satterthwaite call: the bytes of a file in, a number and an entry out (ddf).
 ghost use mathlib.Core.Path.{_≡_};
-ghost use mathlib.Core.Bool.{Bool, true, false, cond};
-ghost use Prim.Native.Nat.{ℕ, _+_, _*_, _≤_, _<_, max};
-ghost use lib.ListN.{length, getD};
+ghost use Prim.Native.Nat.{_+_, _*_, _≤_, _<_};
+ghost use lib.ListN.{getD};
 ghost use Rattle.adjustment.specs.Cutoffs.{documentCutoffs};
 ghost use Rattle.answers.specs.Answer.{noEntry};
 ghost use Rattle.records.specs.Scan.{any};
@@ -10,7 +9,7 @@ ghost use Rattle.records.specs.Kinds.{unread, kindAt};
 ghost use Rattle.records.specs.File.{count, beyond};
 ghost use Rattle.ddf.specs.Satterthwaite.{satterthwaite};
 ghost use Rattle.satterthwaite.specs.Parameters.{refusal};
-ghost use Rattle.satterthwaite.specs.Gathered.{sizesOf, tableFor, Small, gapInRow, gaps, stackGaps, missingIn, malformedFile, numbersAt, cellsAt, stackAt, inputsFrom};
+ghost use Rattle.satterthwaite.specs.Gathered.{sizesOf, tableFor, Small, stackGaps, missingIn, malformedFile, cellsAt, stackAt, inputsFrom};
 ghost use Rattle.satterthwaite.specs.Call.{number as fileNumber, entry, returned, written};
 use adjustment::Cutoffs;
 use adjustment::small_numbers::document_cutoffs;
@@ -19,6 +18,11 @@ use answers::Entry;
 use answers::Number;
 use ddf::satterthwaite::satterthwaite_contrast_f_test;
 use records::cells;
+use records::larger;
+use series::any_gap;
+use series::at_least_one;
+use series::given;
+use series::six_at;
 
 // The sizes of a test: coefficients, contrast rows and parameters; whether there is β_H.
 pub struct Sizes {
@@ -28,19 +32,7 @@ pub struct Sizes {
     pub hypothesis: bool,
 }
 
-// There is a coefficient, a contrast row and a parameter.
-fn at_least_one(n: usize) -> usize
-    ensures { λ r. ⌜ r ≡ max 1 n ⌝ }
-{
-    if n < 1 { 1 } else { n }
-}
-
-fn larger(a: usize, b: usize) -> usize
-    ensures { λ r. ⌜ r ≡ max a b ⌝ }
-{
-    if a < b { b } else { a }
-}
-
+// The sizes of a file. There is a coefficient, a contrast row and a parameter.
 pub fn sizes_of(s: &[u8]) -> Sizes
     ensures { λ r. ⌜ r ≡ sizesOf (now (s .entry)) ⌝ }
 {
@@ -55,12 +47,6 @@ pub fn sizes_of(s: &[u8]) -> Sizes
         parameters: at_least_one(larger(rows, columns)),
         hypothesis: hypotheses != 0,
     }
-}
-
-fn given(b: bool, n: usize) -> usize
-    ensures { λ r. ⌜ r ≡ cond b n 0 ⌝ }
-{
-    if b { n } else { 0 }
 }
 
 // What the sizes leave a kind: eight that are none, β, contrast, β_H.
@@ -128,37 +114,7 @@ fn any_beyond(z: Sizes, s: &[u8]) -> bool
     false
 }
 
-// One of the m flags from `at` on is not set.
-fn gap_in_row(flags: &[bool; 835], at: usize, m: usize) -> bool
-    requires { ⌜ at + m ≤ 835 ⌝ }
-    ensures { λ b. ⌜ b ≡ gapInRow (now (flags .entry)) at m ⌝ }
-{
-    let mut j = 0;
-    while j < m {
-        if !flags[at + j] {
-            return true;
-        }
-        j += 1;
-    }
-    false
-}
-
-// Of r rows of m flags.
-fn any_gap(flags: &[bool; 835], at: usize, stride: usize, r: usize, m: usize) -> bool
-    requires { ⌜ (at + r * stride ≤ 835) × (m ≤ stride) ⌝ }
-    ensures { λ b. ⌜ b ≡ gaps (now (flags .entry)) at stride r m ⌝ }
-{
-    let mut i = 0;
-    while i < r {
-        if gap_in_row(flags, at + i * stride, m) {
-            return true;
-        }
-        i += 1;
-    }
-    false
-}
-
-// Of n tables of r rows of m flags.
+// One of the flags of n tables of r rows of m is not set, a step from one table to the next.
 fn stack_gap(
     flags: &[bool; 835],
     at: usize,
@@ -250,18 +206,6 @@ pub fn refusal(s: &[u8]) -> u32
     0
 }
 
-// The n numbers of the sheet from `at` on.
-fn numbers_at(sheet: &[f64; 835], at: usize, n: usize) -> [f64; 6]
-    requires { ⌜ (n ≤ 6) × (at + 6 ≤ 835) ⌝ }
-    ensures { λ r. ⌜ r ≡ numbersAt (now (sheet .entry)) at n ⌝ }
-{
-    let mut out = [0.0; 6];
-    for i in 0..n {
-        out[i] = sheet[at + i];
-    }
-    out
-}
-
 // The r rows of c numbers from `at` on, a stride apart.
 fn cells_at(sheet: &[f64; 835], at: usize, stride: usize, r: usize, c: usize) -> [[f64; 6]; 6]
     requires { ⌜ (r ≤ 6) × (c ≤ 6) × (c ≤ stride) × (at + r * stride ≤ 835) ⌝ }
@@ -298,9 +242,9 @@ fn test(c: Cutoffs, sheet: &[f64; 835], z: Sizes, refused: &mut bool) -> Entry
     let p = z.coefficients;
     let q = z.contrasts;
     let n = z.parameters;
-    let beta = numbers_at(sheet, 0, p);
+    let beta = six_at(sheet, 0, p);
     let l = cells_at(sheet, 6, 6, q, p);
-    let beta_h = numbers_at(sheet, 42, p);
+    let beta_h = six_at(sheet, 42, p);
     let v = cells_at(sheet, 48, 6, p, p);
     let js = stack_at(sheet, 84, n, p);
     let a = cells_at(sheet, 228, 4, n, n);

@@ -25,7 +25,7 @@ pub struct Sizes {
 }
 
 // A series has a specimen and a coefficient.
-fn at_least_one(n: usize) -> usize
+pub fn at_least_one(n: usize) -> usize
     ensures { λ r. ⌜ r ≡ max 1 n ⌝ }
 {
     if n < 1 { 1 } else { n }
@@ -54,7 +54,7 @@ pub fn sizes_of(s: &[u8]) -> Sizes
     }
 }
 
-fn given(b: bool, n: usize) -> usize
+pub fn given(b: bool, n: usize) -> usize
     ensures { λ r. ⌜ r ≡ cond b n 0 ⌝ }
 {
     if b { n } else { 0 }

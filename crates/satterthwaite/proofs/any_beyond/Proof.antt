@@ -1,6 +1,6 @@
 -- `satterthwaite::any_beyond` meets its contract.
 use Prim.Native.Nat.{_≤_, _-_}
-use mathlib.Core.Path.{_≡_, refl, sym, ap, _∙_}
+use mathlib.Core.Path.{_≡_, refl, sym}
 use mathlib.Core.Bool.{false}
 use denote.Ref.{now}
 use Rattle.records.specs.Scan.{any}
@@ -10,9 +10,6 @@ use Rattle.satterthwaite.specs.Gathered.{tableFor}
 use native.Mathlib.Omega.{arith}
 use Rattle.satterthwaite.proofs.any_beyond.Statement.{statement}
 use Rattle.satterthwaite.proofs.any_beyond.Tie as tie
-use Rattle.satterthwaite.proofs.any_beyond.Reads as reads
-use Rattle.satterthwaite.proofs.any_beyond.Lts as lts
-use Rattle.satterthwaite.proofs.beyond_at.Reads as beyond-at-reads
 
 abbrev Inv-loop : tie.InvT-loop
 Inv-loop z s n i₀ i = (n ≡ count s) × (i ≤ n) × (any i (beyond (tableFor z) s) ≡ false)

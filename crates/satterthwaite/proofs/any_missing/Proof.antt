@@ -1,6 +1,6 @@
 -- `satterthwaite::any_missing` meets its contract.
-use Prim.Native.Nat.{ℕ, _≤_, _-_}
-use mathlib.Core.Path.{_≡_, refl, sym, ap, _∙_}
+use Prim.Native.Nat.{_≤_, _-_}
+use mathlib.Core.Path.{_≡_, refl, sym}
 use mathlib.Core.Bool.{false}
 use Rattle.records.specs.Scan.{any}
 use Rattle.records.proofs.Laws.{any-miss, any-hit}
@@ -8,9 +8,6 @@ use Rattle.satterthwaite.specs.Gathered.{missingIn}
 use native.Mathlib.Omega.{arith}
 use Rattle.satterthwaite.proofs.any_missing.Statement.{statement}
 use Rattle.satterthwaite.proofs.any_missing.Tie as tie
-use Rattle.satterthwaite.proofs.any_missing.Reads as reads
-use Rattle.satterthwaite.proofs.any_missing.Lts as lts
-use Rattle.satterthwaite.proofs.missing_in.Reads as missing-in-reads
 
 abbrev Inv-loop : tie.InvT-loop
 Inv-loop flags z k₀ k = (k ≤ 33) × (any k (missingIn flags z) ≡ false)

@@ -3,11 +3,6 @@ use Rattle.records.specs.File.{beyond}
 use borrow.Author.Needs.{needs}
 use Rattle.satterthwaite.proofs.beyond_at.Statement.{statement}
 use Rattle.satterthwaite.proofs.beyond_at.Tie as tie
-use Rattle.satterthwaite.proofs.beyond_at.Reads as reads
-use Rattle.satterthwaite.proofs.beyond_at.Lts as lts
-use Rattle.records.proofs.kind_at.Reads as kind-at-reads
-use Rattle.records.proofs.out_of.Reads as out-of-reads
-use Rattle.satterthwaite.proofs.size_of.Reads as size-of-reads
 
 kind-at-requires : tie.Need-kind-at-requires
 kind-at-requires c κs = search needs

@@ -1,14 +1,9 @@
 -- `satterthwaite::call` meets its contract.
-use mathlib.Core.Path.{_≡_, refl, sym, ap, _∙_}
+use mathlib.Core.Path.{_∙_}
 use Rattle.satterthwaite.proofs.Judged.{other-length, call-refused, call-filled}
 use borrow.Author.Needs.{needs}
 use Rattle.satterthwaite.proofs.call.Statement.{statement}
 use Rattle.satterthwaite.proofs.call.Tie as tie
-use Rattle.satterthwaite.proofs.call.Reads as reads
-use Rattle.satterthwaite.proofs.call.Lts as lts
-use Rattle.adjustment.proofs.small_numbers.document_cutoffs.Reads as document-cutoffs-reads
-use Rattle.answer_bytes.proofs.put_entry.Reads as put-entry-reads
-use Rattle.satterthwaite.proofs.judge.Reads as judge-reads
 
 returns : tie.Need-returns
 returns c = other-length _ _ _ (c .if1 .taken)

@@ -1,12 +1,12 @@
 -- `satterthwaite::cells_at` meets its contract.
-use Prim.Native.Nat.{ℕ, _+_, _*_, _≤_, _<_, _-_}
-use mathlib.Core.Path.{_≡_, refl, sym, ap, _∙_}
+use Prim.Native.Nat.{_+_, _*_, _≤_, _<_, _-_}
+use mathlib.Core.Path.{_≡_, refl}
 use lib.ListN.{getD}
-use lib.Ieee.{Float, nan, ofBits}
+use lib.Ieee.{nan, ofBits}
 use Rattle.arithmetic.specs.Numbers.{plusZero}
 use native.Mathlib.Omega.{arith}
 use Rattle.algebra.specs.Table.{blank, table}
-use Rattle.algebra.proofs.FoldLaws.{fold-start, fold-next, fold-end}
+use Rattle.algebra.proofs.FoldLaws.{fold-start}
 use Rattle.algebra.specs.Table.{blank, table}
 use Rattle.algebra.proofs.TableLaws.{Filling, filling-none, filling-more, filling-row}
 use Rattle.products.proofs.LoopLaws.{table-end}
@@ -14,8 +14,6 @@ use Rattle.satterthwaite.specs.Gathered.{cellsAt}
 use Rattle.satterthwaite.proofs.Gathers.{row-inside}
 use Rattle.satterthwaite.proofs.cells_at.Statement.{statement}
 use Rattle.satterthwaite.proofs.cells_at.Tie as tie
-use Rattle.satterthwaite.proofs.cells_at.Reads as reads
-use Rattle.satterthwaite.proofs.cells_at.Lts as lts
 
 abbrev Inv-loop2 : tie.InvT-loop2
 Inv-loop2 sheet at stride r c out₀ i j₀ out j = (i < r) × (j ≤ c) × (r ≤ 6) × (c ≤ 6) × (c ≤ stride) × (at + r * stride ≤ 835) × (at + i * stride + stride ≤ 835) × Filling plusZero 6 6 (λ i j. getD sheet (at + i * stride + j) nan) c i j out₀ out

@@ -1,18 +1,11 @@
 -- `satterthwaite::judge` meets its contract.
-use mathlib.Core.Path.{_≡_, refl, sym, ap, _∙_}
+use mathlib.Core.Path.{sym, ap, _∙_}
 use Rattle.ddf.specs.Satterthwaite.{Outcome}
 use Rattle.satterthwaite.proofs.Judged.{taken-good, taken-small, judged-early, judged-late, judged-taken}
 use Rattle.satterthwaite.proofs.Read.{outcome-is}
 use borrow.Author.Needs.{needs}
 use Rattle.satterthwaite.proofs.judge.Statement.{statement}
 use Rattle.satterthwaite.proofs.judge.Tie as tie
-use Rattle.satterthwaite.proofs.judge.Reads as reads
-use Rattle.satterthwaite.proofs.judge.Lts as lts
-use Rattle.records.proofs.sheet_of.Reads as sheet-of-reads
-use Rattle.satterthwaite.proofs.no_entry.Reads as no-entry-reads
-use Rattle.satterthwaite.proofs.refusal.Reads as refusal-reads
-use Rattle.satterthwaite.proofs.sizes_of.Reads as sizes-of-reads
-use Rattle.satterthwaite.proofs.test.Reads as test-reads
 
 refusal-requires : tie.Need-refusal-requires
 refusal-requires c κs = search needs

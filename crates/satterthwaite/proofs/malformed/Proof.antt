@@ -2,18 +2,10 @@
 use Rattle.satterthwaite.proofs.Judged.{odd-length, bad-found, again-found, beyond-found, rest-absent}
 use Rattle.satterthwaite.proofs.Absent.{incomplete-from}
 use Rattle.satterthwaite.proofs.Gathers.{small}
-use mathlib.Core.Path.{_≡_, refl, sym, ap, _∙_}
+use mathlib.Core.Path.{sym, _∙_}
 use borrow.Author.Needs.{needs}
 use Rattle.satterthwaite.proofs.malformed.Statement.{statement}
 use Rattle.satterthwaite.proofs.malformed.Tie as tie
-use Rattle.satterthwaite.proofs.malformed.Reads as reads
-use Rattle.satterthwaite.proofs.malformed.Lts as lts
-use Rattle.records.proofs.any_again.Reads as any-again-reads
-use Rattle.records.proofs.any_bad.Reads as any-bad-reads
-use Rattle.records.proofs.flags_of.Reads as flags-of-reads
-use Rattle.satterthwaite.proofs.any_beyond.Reads as any-beyond-reads
-use Rattle.satterthwaite.proofs.any_missing.Reads as any-missing-reads
-use Rattle.satterthwaite.proofs.sizes_of.Reads as sizes-of-reads
 
 returns : tie.Need-returns
 returns c = odd-length _ (c .if1 .taken)

@@ -1,6 +1,4 @@
 -- `satterthwaite::missing_in` meets its contract.
-use Prim.Native.Nat.{ℕ, _+_, _*_, _≤_}
-use mathlib.Core.Path.{_≡_, refl, sym, ap, _∙_}
 use Rattle.satterthwaite.specs.Gathered.{missingIn}
 use Rattle.satterthwaite.proofs.Gathers.{kind-fits, kind-step}
 use native.Mathlib.Omega.{arith}

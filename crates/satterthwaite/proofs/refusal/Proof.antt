@@ -1,13 +1,9 @@
 -- `satterthwaite::refusal` meets its contract.
-use mathlib.Core.Path.{_≡_, refl, sym, ap, _∙_}
+use mathlib.Core.Path.{sym, _∙_}
 use Rattle.satterthwaite.proofs.Judged.{refusal-is}
 use borrow.Author.Needs.{needs}
 use Rattle.satterthwaite.proofs.refusal.Statement.{statement}
 use Rattle.satterthwaite.proofs.refusal.Tie as tie
-use Rattle.satterthwaite.proofs.refusal.Reads as reads
-use Rattle.satterthwaite.proofs.refusal.Lts as lts
-use Rattle.records.proofs.any_not_finite.Reads as any-not-finite-reads
-use Rattle.satterthwaite.proofs.malformed.Reads as malformed-reads
 
 malformed-requires : tie.Need-malformed-requires
 malformed-requires c κs = search needs

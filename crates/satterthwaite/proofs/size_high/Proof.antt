@@ -1,16 +1,12 @@
 -- `satterthwaite::size_high` meets its contract.
-use mathlib.Core.Path.{_≡_, refl, sym, ap, _∙_}
-use Prim.Native.Nat.{ℕ}
-use lib.ListN.{getD, List·getD-eq-default}
+use mathlib.Core.Path.{sym, _∙_}
+use lib.ListN.{List·getD-eq-default}
 use Rattle.records.specs.Kinds.{unread, cells}
-use Rattle.records.proofs.Laws.{same-eleven, same-three}
+use Rattle.records.proofs.Laws.{same-three}
 use Rattle.satterthwaite.specs.Gathered.{tableFor}
 use borrow.Author.Needs.{needs}
 use Rattle.satterthwaite.proofs.size_high.Statement.{statement}
 use Rattle.satterthwaite.proofs.size_high.Tie as tie
-use Rattle.satterthwaite.proofs.size_high.Reads as reads
-use Rattle.satterthwaite.proofs.size_high.Lts as lts
-use Rattle.records.proofs.cells.Reads as cells-reads
 
 cells-requires : tie.Need-cells-requires
 cells-requires c κs = search needs

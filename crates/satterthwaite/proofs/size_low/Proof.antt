@@ -1,17 +1,13 @@
 -- `satterthwaite::size_low` meets its contract.
-use mathlib.Core.Path.{_≡_, refl, sym, ap, _∙_}
+use mathlib.Core.Path.{sym, ap, _∙_}
 use Prim.Native.Nat.{ℕ}
-use lib.ListN.{getD, List·getD-eq-default}
+use lib.ListN.{List·getD-eq-default}
 use Rattle.records.specs.Kinds.{unread, cells}
-use Rattle.records.proofs.Laws.{same-eleven, same-three}
+use Rattle.records.proofs.Laws.{same-eleven}
 use Rattle.satterthwaite.specs.Gathered.{tableFor}
 use borrow.Author.Needs.{needs}
 use Rattle.satterthwaite.proofs.size_low.Statement.{statement}
 use Rattle.satterthwaite.proofs.size_low.Tie as tie
-use Rattle.satterthwaite.proofs.size_low.Reads as reads
-use Rattle.satterthwaite.proofs.size_low.Lts as lts
-use Rattle.records.proofs.cells.Reads as cells-reads
-use Rattle.satterthwaite.proofs.given.Reads as given-reads
 
 cells-requires : tie.Need-cells-requires
 cells-requires c κs = search needs

@@ -1,16 +1,12 @@
 -- `satterthwaite::size_of` meets its contract.
-use mathlib.Core.Path.{_≡_, refl, sym, ap, _∙_}
-use Prim.Native.Nat.{ℕ, _<_, _≤_, _-_}
+use mathlib.Core.Path.{sym, _∙_}
+use Prim.Native.Nat.{_-_}
 use native.Mathlib.Omega.{arith}
 use Rattle.records.proofs.Slots.{kind-low, kind-high}
 use Rattle.satterthwaite.specs.Gathered.{tableFor}
 use borrow.Author.Needs.{needs}
 use Rattle.satterthwaite.proofs.size_of.Statement.{statement}
 use Rattle.satterthwaite.proofs.size_of.Tie as tie
-use Rattle.satterthwaite.proofs.size_of.Reads as reads
-use Rattle.satterthwaite.proofs.size_of.Lts as lts
-use Rattle.satterthwaite.proofs.size_high.Reads as size-high-reads
-use Rattle.satterthwaite.proofs.size_low.Reads as size-low-reads
 
 size-low-requires : tie.Need-size-low-requires
 size-low-requires c κs = search needs

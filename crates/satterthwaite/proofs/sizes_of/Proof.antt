@@ -4,12 +4,6 @@ use Rattle.satterthwaite.proofs.Gathers.{sizes-is}
 use borrow.Author.Needs.{needs}
 use Rattle.satterthwaite.proofs.sizes_of.Statement.{statement}
 use Rattle.satterthwaite.proofs.sizes_of.Tie as tie
-use Rattle.satterthwaite.proofs.sizes_of.Reads as reads
-use Rattle.satterthwaite.proofs.sizes_of.Lts as lts
-use Rattle.records.proofs.columns_of.Reads as columns-of-reads
-use Rattle.records.proofs.rows_of.Reads as rows-of-reads
-use Rattle.satterthwaite.proofs.at_least_one.Reads as at-least-one-reads
-use Rattle.satterthwaite.proofs.larger.Reads as larger-reads
 
 rows-of-requires : tie.Need-rows-of-requires
 rows-of-requires c κs = search needs

@@ -1,6 +1,6 @@
 -- `satterthwaite::stack_at` meets its contract.
-use Prim.Native.Nat.{ℕ, _+_, _*_, _≤_, _<_, _-_}
-use mathlib.Core.Path.{_≡_, refl, sym, ap, _∙_}
+use Prim.Native.Nat.{_+_, _≤_, _-_}
+use mathlib.Core.Path.{_≡_}
 use lib.Ieee.{ofBits}
 use native.Mathlib.Omega.{arith}
 use Rattle.algebra.specs.Table.{blank}
@@ -8,9 +8,6 @@ use Rattle.algebra.proofs.FoldLaws.{fold-start, fold-next, fold-end}
 use Rattle.satterthwaite.specs.Gathered.{stackAt}
 use Rattle.satterthwaite.proofs.stack_at.Statement.{statement}
 use Rattle.satterthwaite.proofs.stack_at.Tie as tie
-use Rattle.satterthwaite.proofs.stack_at.Reads as reads
-use Rattle.satterthwaite.proofs.stack_at.Lts as lts
-use Rattle.satterthwaite.proofs.cells_at.Reads as cells-at-reads
 
 abbrev Inv-loop : tie.InvT-loop
 Inv-loop sheet at n p out₀ i₀ out i = (i ≤ n) × (n ≤ 4) × (p ≤ 6) × (at + 144 ≤ 835) × (out ≡ stackAt sheet at i p)

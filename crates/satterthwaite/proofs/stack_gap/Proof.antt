@@ -1,18 +1,14 @@
 -- `satterthwaite::stack_gap` meets its contract.
-use Prim.Native.Nat.{ℕ, _+_, _*_, _≤_, _<_, _-_}
-use mathlib.Core.Path.{_≡_, refl, sym, ap, _∙_}
+use Prim.Native.Nat.{_+_, _*_, _≤_, _-_}
+use mathlib.Core.Path.{_≡_, refl, sym, _∙_}
 use mathlib.Core.Bool.{false}
-use native.Mathlib.Nat.{mul-le-mul}
 use Rattle.records.specs.Scan.{any}
 use Rattle.records.proofs.Laws.{any-miss, any-hit}
 use Rattle.satterthwaite.specs.Gathered.{stackGaps}
-use Rattle.satterthwaite.proofs.Gathers.{row-ends}
+use Rattle.series.proofs.Gathers.{row-ends}
 use native.Mathlib.Omega.{arith}
 use Rattle.satterthwaite.proofs.stack_gap.Statement.{statement}
 use Rattle.satterthwaite.proofs.stack_gap.Tie as tie
-use Rattle.satterthwaite.proofs.stack_gap.Reads as reads
-use Rattle.satterthwaite.proofs.stack_gap.Lts as lts
-use Rattle.satterthwaite.proofs.any_gap.Reads as any-gap-reads
 
 abbrev Inv-loop : tie.InvT-loop
 Inv-loop flags at step stride n r m i₀ i = (i ≤ n) × (at + n * step ≤ 835) × (r * stride ≤ step) × (m ≤ stride) × (stackGaps flags at step stride i r m ≡ false)
