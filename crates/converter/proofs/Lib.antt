@@ -1,5 +1,4 @@
 -- The laws that lead to the third demand, a file for each file of definitions.
-pub mod MovingSmall
 pub mod MovingScaling
 pub mod MovingBasis
 pub mod MovingTest

@@ -34,7 +34,7 @@ use Rattle.contrast_basis.specs.Order.{indexAt}
 use Rattle.contrast_basis.specs.Basis.{Rows, Basis, largest, dividedCell, divided, sweepsTo, norms, singular, rankOf, basisRows, contrastBasis}
 use Rattle.contrast_basis.proofs.Rank.{rank-most}
 use Rattle.converter.specs.Converted.{WrittenCells}
-use Rattle.converter.proofs.MovingSmall.{tied-still, tied-nil, allMarks-cells, values-agree}
+use Rattle.products.proofs.MovingSmall.{tied-still, tied-nil, allMarks-cells, values-agree}
 
 -- ---- the largest magnitude
 magnitude-tied : (u : ℤ) (x x' : Float) → Tied u x x' → Tied u (magnitude x) (magnitude x')

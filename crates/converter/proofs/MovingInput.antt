@@ -26,7 +26,7 @@ use Rattle.contrast_basis.specs.Basis.{Rows, Basis, dividedCell, divided, contr
 use Rattle.tests.specs.KenwardRoger.{Scaled, scaledBy, difference, unitRow, coefficientTest, contrastTest}
 use Rattle.converter.specs.Verdict.{Inside}
 use Rattle.converter.specs.Converted.{Input, runOn, Converted, Multiplied, Sizes, WrittenCells, Written}
-use Rattle.converter.proofs.MovingSmall.{allMarks-cells}
+use Rattle.products.proofs.MovingSmall.{allMarks-cells}
 use Rattle.converter.proofs.MovingBasis.{basis-seen, divided-fits}
 use Rattle.converter.proofs.MovingTest.{TestBears, test-bears}
 use Rattle.converter.proofs.MovingRun.{inside-seen, coefficient-inside, contrast-inside, double-small}

@@ -33,7 +33,7 @@ use Rattle.answers.specs.Answer.{noEntry}
 use Rattle.tests.specs.KenwardRoger.{Scaled, Tested, Run, scaledPs, scaledBy, basisOf, testSeen, tested, unitRow, coefficientTest, contrastTest, withTest, coefficientsTo, runOf}
 use Rattle.converter.specs.Verdict.{Verdict, verdict, verdicts, Inside, Survives}
 use Rattle.converter.specs.Converted.{Input, runOn, Converted, Sizes, WrittenCells, Written, WrittenUnits}
-use Rattle.converter.proofs.MovingSmall.{tied-still, tied-nil}
+use Rattle.products.proofs.MovingSmall.{tied-still, tied-nil}
 use Rattle.converter.proofs.MovingScaling.{scaledUp-moves, scaledDown-moves, output-agrees}
 use Rattle.converter.proofs.MovingBasis.{SameBasis, basis-agrees, basis-written}
 use Rattle.converter.proofs.MovingTest.{ScalingBears, test-bears, SameVerdict, test-survives}

@@ -21,7 +21,7 @@ use Rattle.products.specs.Small.{givenCells}
 use Rattle.adjustment.specs.Adjusted.{Adjustment, matrixAt, scaledUp, scaledDown, notAllFinite, notAllFiniteMarked, outputNotFinite}
 use Rattle.contrast_basis.specs.Basis.{Rows}
 use Rattle.converter.specs.Converted.{WrittenCells}
-use Rattle.converter.proofs.MovingSmall.{tied-still, cells-by, given-cells}
+use Rattle.products.proofs.MovingSmall.{tied-still, cells-by, given-cells}
 
 abbrev Matrix : Type 0
 Matrix = List (List Marked)

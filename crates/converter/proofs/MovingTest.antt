@@ -33,7 +33,7 @@ use Rattle.contrast_basis.specs.Basis.{Rows, Basis}
 use Rattle.tests.specs.KenwardRoger.{MarkedRows, Scaled, Tested, scalingSeen, difference, thetaOf, uOf, uStack, uValues, uSeen, waldOne, waldOneGiven, waldMany, scaledOf, basisOf, aRows, xRows, thetaPhi, us, ldRows, vRows, yRows, waldMarked, waldNumber, testSeen, a1, a2, tested}
 use Rattle.converter.specs.Verdict.{verdict}
 use Rattle.converter.specs.Converted.{WrittenCells}
-use Rattle.converter.proofs.MovingSmall.{tied-still, tied-nil, cells-by, allMarks-first, allMarks-cells, stack-first, stack-cells, given-cells, sandwich-moves, values-agree}
+use Rattle.products.proofs.MovingSmall.{tied-still, tied-nil, cells-by, allMarks-first, allMarks-cells, stack-first, stack-cells, given-cells, sandwich-moves, values-agree}
 use Rattle.converter.proofs.MovingScaling.{abs-neg, finite-agrees}
 
 -- ---- shifts

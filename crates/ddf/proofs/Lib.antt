@@ -1,6 +1,5 @@
 -- The laws of the Satterthwaite test.
 pub mod Bench
-pub mod MovingSmall
 pub mod MovingVariance
 pub mod MovingOrder
 pub mod MovingComponents

@@ -27,7 +27,7 @@ use Rattle.answers.specs.Answer.{floatOf}
 use Rattle.contrast_basis.specs.Order.{indexAt}
 use Rattle.ddf.specs.VarianceDf.{entryAt, isPositive, varianceDf, gradientSeen}
 use Rattle.ddf.specs.Satterthwaite.{Rows, MarkedRows, column, contrastOf, transformed, transformedAll, squareOne, gradientOne, eigenvalues, notPositive, variancesOf, directionsOf, projected, squaresOver, turnedAll, gradientAt, capped, componentDf, componentDfs, componentsSeen, stackSeen}
-use Rattle.ddf.proofs.MovingSmall.{cells-by, given-cells, sandwich-moves, allMarks-first, allMarks-cells}
+use Rattle.products.proofs.MovingSmall.{cells-by, given-cells, sandwich-moves, allMarks-first, allMarks-cells}
 use Rattle.ddf.proofs.MovingVariance.{positive-agrees, row-moves, gradient-first, varianceDf-agrees}
 use Rattle.ddf.proofs.MovingOrder.{index-below, indexAt-agrees}
 

@@ -25,7 +25,7 @@ use Rattle.adjustment.specs.Cutoffs.{documentCutoffs}
 use Rattle.answers.specs.Answer.{numberOf}
 use Rattle.ddf.specs.VarianceDf.{entryAt, varianceDf, gradientSeen}
 use Rattle.ddf.specs.Satterthwaite.{MarkedRows, gradientOne, projected, gradientAt, severalDf, componentsSeen, Inputs, Outcome, lRows, ldRows, vRows, jStack, turned, variances, directions, jxStack, fOne, fSeveral, dfOne, dfSeveral, startSeen, seenOne, seenSeveral, oneRow, severalRows, satterthwaite}
-use Rattle.ddf.proofs.MovingSmall.{given-cells, allMarks-first, allMarks-cells}
+use Rattle.products.proofs.MovingSmall.{given-cells, allMarks-first, allMarks-cells}
 use Rattle.ddf.proofs.MovingVariance.{gradient-first, varianceDf-agrees}
 use Rattle.ddf.proofs.MovingComponents.{MovesStack, contrastOf-moves, transformed-moves, transformedAll-moves, squareOne-moves, gradientOne-moves, notPositive-agrees, variancesOf-moves, variancesOf-bear, directionsOf-moves, projected-moves, turnedAll-moves, gradientAt-moves, squaresOver-moves, stack-first, components-first, componentDfs-agree}
 

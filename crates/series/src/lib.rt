@@ -122,7 +122,7 @@ fn gap_in_row(flags: &[bool; 835], at: usize, m: usize) -> bool
 }
 
 // Of r rows of m flags.
-fn any_gap(flags: &[bool; 835], at: usize, stride: usize, r: usize, m: usize) -> bool
+pub fn any_gap(flags: &[bool; 835], at: usize, stride: usize, r: usize, m: usize) -> bool
     requires { ⌜ (at + r * stride ≤ 835) × (m ≤ stride) ⌝ }
     ensures { λ b. ⌜ b ≡ gaps (now (flags .entry)) at stride r m ⌝ }
 {

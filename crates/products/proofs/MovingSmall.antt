@@ -2,23 +2,24 @@
 use Prim.Native.Nat.{ℕ, _≤_, _<_}
 use native.Mathlib.Omega.{arith}
 use mathlib.Core.Path.{_≡_, refl, sym, subst}
-use mathlib.Core.List.{List}
+use mathlib.Core.List.{List, []}
 use lib.Dec.{T}
 use lib.IntN.{ℤ, pos, natAbs, _+ℤ_, +ℤ-idl, +ℤ-idr}
+use lib.ListN.{getD}
 use lib.Ieee.{Float, binary64, fits}
 use Rattle.arithmetic.specs.declared.Marked.{Marked}
 use Rattle.arithmetic.specs.Numbers.{plusZero}
 use Rattle.arithmetic.specs.Marks.{given, also}
 use Rattle.arithmetic.proofs.Tied.{Tied}
 use Rattle.arithmetic.proofs.ScaleLaws.{scale-zero}
-use Rattle.arithmetic.proofs.MarkLaws.{Bears, Moves, given-moves, also-bears}
+use Rattle.arithmetic.proofs.MarkLaws.{Bears, given-moves, also-bears}
 use Rattle.algebra.specs.Fold.{fold}
 use Rattle.algebra.specs.Kind.{floats, marks}
 use Rattle.algebra.specs.Product.{at, product, transpose}
 use Rattle.algebra.proofs.TableLaws.{table-ext}
 use Rattle.algebra.proofs.MovingCells.{BearsCells, MovesCells, first-bears, step-bears, still-value, table-moves}
 use Rattle.algebra.proofs.MovingProducts.{product-moves, transpose-moves}
 use Rattle.products.specs.Small.{sandwich, givenCells, values, allMarks}
 
 abbrev Matrix : Type 0
 Matrix = List (List Marked)
@@ -56,6 +57,16 @@ module _ {t : ℕ} where
             let e : Bears t (fold 0 c (s i) b) = step-bears 0 r o seen (λ i b y. first-bears 0 c (s i) b (back i) y) h i (omega arith) k in
             also-bears (fold 0 j (s i) b) (at marks a i j) (step-bears 0 c (s i) b (back i) e j (omega arith) l) .1;
       }
+
+  -- the same of the first N matrices of several
+  pub stack-first : (N r c : ℕ) (st : List Matrix) (seen : Marked) → Bears t (fold 0 N (λ i x. allMarks r c (getD st i []) x) seen) → Bears t seen
+  stack-first N r c st seen h = first-bears 0 N (λ i x. allMarks r c (getD st i []) x) seen (λ i b y. allMarks-first r c (getD st i []) b y) h
+
+  pub stack-cells : (N r c : ℕ) (st : List Matrix) (seen : Marked) → Bears t (fold 0 N (λ i x. allMarks r c (getD st i []) x) seen) → (i : ℕ) → i < N
+      → BearsCells t r c (getD st i [])
+  stack-cells N r c st seen h i l =
+      let o : ℕ → Marked → Marked = λ i x. allMarks r c (getD st i []) x in
+      allMarks-cells r c (getD st i []) (fold 0 i o seen) (step-bears 0 N o seen (λ i b y. allMarks-first r c (getD st i []) b y) h i (omega arith) l)
 
   -- given cells move as the numbers do
   pub given-cells : (R C r c : ℕ) → r ≤ R → c ≤ C → (u : ℤ) (a a' : List (List Float)) → ((i j : ℕ) → i < r → j < c → Tied u (at floats a i j) (at floats a' i j))
