@@ -24,7 +24,7 @@ use Rattle.algebra.proofs.MovingProducts.{sum-bears, minusCells-bears}
 use Rattle.products.specs.Small.{sandwich, givenCells, allMarks}
 use Rattle.adjustment.specs.declared.Cutoffs.{Cutoffs}
 use Rattle.ddf.specs.Satterthwaite.{Rows, MarkedRows, column, contrastOf, transformed, transformedAll, gradientOne, stackSeen, Inputs, lRows, ldRows, vRows, jStack, turned, variances, directions, jxStack, fOne, fSeveral, startSeen, seenOne, seenSeveral, oneRow, severalRows, satterthwaite}
-use Rattle.ddf.proofs.MovingSmall.{allMarks-first, allMarks-cells}
+use Rattle.products.proofs.MovingSmall.{allMarks-first, allMarks-cells}
 use Rattle.ddf.proofs.MovingVariance.{gradient-first}
 use Rattle.ddf.proofs.MovingComponents.{stack-first, components-first}
 use Rattle.ddf.proofs.Survives.{Sizes}
