@@ -4,4 +4,3 @@ pub mod MovingVariance
 pub mod MovingOrder
 pub mod MovingComponents
 pub mod Survives
-pub mod PartsLaws

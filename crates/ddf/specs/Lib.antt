@@ -2,4 +2,3 @@
 pub mod VarianceDf
 pub mod PooledDf
 pub mod Satterthwaite
-pub mod Parts

@@ -1,6 +1,1 @@
-// The Satterthwaite test (ddf).
-pub mod components;
-pub mod pooled;
-pub mod satterthwaite;
-pub mod starts;
-pub mod variance;
+// The Satterthwaite test's definitions and their laws (ddf). No code: the functions are in the crate ddf_test.

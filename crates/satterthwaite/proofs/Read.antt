@@ -20,7 +20,7 @@ use Rattle.adjustment.specs.declared.Cutoffs.{Cutoffs}
 use Rattle.answers.specs.declared.Entry.{Entry}
 use Rattle.ddf.specs.Satterthwaite.{Rows, Inputs, satterthwaite as test}
 use Rattle.series.specs.Checks.{numbersAt}
-use Rattle.ddf.specs.Parts.{inputsOf}
+use Rattle.ddf_test.specs.Parts.{inputsOf}
 use Rattle.satterthwaite.specs.declared.Sizes.{Sizes}
 use Rattle.satterthwaite.specs.Call.{outcome}
 use Rattle.satterthwaite.specs.Parameters.{coefficients, contrastRows, parameters, number, jacobians, inputs}

@@ -14,7 +14,7 @@ use Rattle.records.specs.File.{count, present, badRecord, again, beyond}
 use Rattle.records.specs.Sheet.{firstSlot}
 use Rattle.series.specs.Checks.{gaps, numbersAt}
 use Rattle.ddf.specs.Satterthwaite.{Rows, Inputs}
-use Rattle.ddf.specs.Parts.{inputsOf}
+use Rattle.ddf_test.specs.Parts.{inputsOf}
 use Rattle.satterthwaite.specs.declared.Sizes.{Sizes}
 use Rattle.satterthwaite.specs.Parameters.{coefficients, contrastRows, parameters, sizes, incomplete}
 

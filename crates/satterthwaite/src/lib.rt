@@ -16,7 +16,7 @@ use adjustment::small_numbers::document_cutoffs;
 use answer_bytes::put_entry;
 use answers::Entry;
 use answers::Number;
-use ddf::satterthwaite::satterthwaite_contrast_f_test;
+use ddf_test::satterthwaite::satterthwaite_contrast_f_test;
 use records::cells;
 use records::larger;
 use series::any_gap;

@@ -1,0 +1,18 @@
+-- `ddf_test::components::projected` meets its contract.
+use Rattle.ddf.specs.Satterthwaite.{projected}
+use borrow.Author.Needs.{needs}
+use Rattle.ddf_test.proofs.components.projected.Statement.{statement}
+use Rattle.ddf_test.proofs.components.projected.Tie as tie
+
+transpose-requires : tie.Need-transpose-requires
+transpose-requires c κs = search needs
+
+product-requires : tie.Need-product-requires
+product-requires c κs = search needs
+
+returns : tie.Need-returns
+unfolding projected
+returns c = cc
+
+pub projected-spec : {M : Type 1} → statement M
+projected-spec = tie.close (tie.spec transpose-requires product-requires returns)

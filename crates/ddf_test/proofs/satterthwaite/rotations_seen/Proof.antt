@@ -1,0 +1,23 @@
+-- `ddf_test::satterthwaite::rotations_seen` meets its contract.
+use lib.Ieee.{ofBits}
+use Rattle.ddf_test.specs.Parts.{rotationsSeenOf}
+use borrow.Author.Needs.{needs}
+use Rattle.ddf_test.proofs.satterthwaite.rotations_seen.Statement.{statement}
+use Rattle.ddf_test.proofs.satterthwaite.rotations_seen.Tie as tie
+
+all-marks-requires : tie.Need-all-marks-requires
+all-marks-requires c κs = search needs
+
+all-marks-requires-2 : tie.Need-all-marks-requires-2
+all-marks-requires-2 c κs = search needs
+
+also-requires : tie.Need-also-requires
+also-requires c κs = search needs
+
+returns : tie.Need-returns
+unfolding rotationsSeenOf ofBits
+returns c = cc
+
+pub rotations-seen-spec : {M : Type 1} → statement M
+rotations-seen-spec =
+    tie.close (tie.spec all-marks-requires all-marks-requires-2 also-requires returns)

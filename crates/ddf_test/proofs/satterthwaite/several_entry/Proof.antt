@@ -1,0 +1,34 @@
+-- `ddf_test::satterthwaite::several_entry` meets its contract.
+use Rattle.ddf_test.proofs.PartsLaws.{several-entry-from}
+use borrow.Author.Needs.{needs}
+use Rattle.ddf_test.proofs.satterthwaite.several_entry.Statement.{statement}
+use Rattle.ddf_test.proofs.satterthwaite.several_entry.Tie as tie
+
+eigenvalues-requires : tie.Need-eigenvalues-requires
+eigenvalues-requires c κs = search needs
+
+variances-of-requires : tie.Need-variances-of-requires
+variances-of-requires c κs = search needs
+
+directions-of-requires : tie.Need-directions-of-requires
+directions-of-requires c κs = search needs
+
+turned-all-requires : tie.Need-turned-all-requires
+turned-all-requires c κs = search needs
+
+components-entry-requires : tie.Need-components-entry-requires
+components-entry-requires c κs = search needs
+
+returns : tie.Need-returns
+returns c = several-entry-from _ _ _ _ _ _ _ _ _ _ _ _ _ _ (c .before .before .before .before .eigenvalues .ensures) (c .before .before .before .variances-of .ensures) (c .before .before .directions-of .ensures) (c .before .turned-all .ensures) (c .components-entry .ensures)
+
+pub several-entry-spec : {M : Type 1} → statement M
+several-entry-spec =
+    tie.close
+    (tie.spec
+    eigenvalues-requires
+    variances-of-requires
+    directions-of-requires
+    turned-all-requires
+    components-entry-requires
+    returns)

@@ -1,0 +1,16 @@
+-- `ddf_test::starts::applied` meets its contract.
+use borrow.Author.Needs.{needs}
+use Rattle.ddf_test.proofs.starts.applied.Statement.{statement}
+use Rattle.ddf_test.proofs.starts.applied.Tie as tie
+
+column-requires : tie.Need-column-requires
+column-requires c κs = search needs
+
+product-requires : tie.Need-product-requires
+product-requires c κs = search needs
+
+returns : tie.Need-returns
+returns c = cc
+
+pub applied-spec : {M : Type 1} → statement M
+applied-spec = tie.close (tie.spec column-requires product-requires returns)

@@ -1,0 +1,27 @@
+-- `ddf_test::starts::start_seen` meets its contract.
+use lib.Ieee.{ofBits}
+use Rattle.ddf_test.specs.Parts.{startSeenOf}
+use borrow.Author.Needs.{needs}
+use Rattle.ddf_test.proofs.starts.start_seen.Statement.{statement}
+use Rattle.ddf_test.proofs.starts.start_seen.Tie as tie
+
+given-requires : tie.Need-given-requires
+given-requires c κs = search needs
+
+all-marks-requires : tie.Need-all-marks-requires
+all-marks-requires c κs = search needs
+
+all-marks-requires-2 : tie.Need-all-marks-requires-2
+all-marks-requires-2 c κs = search needs
+
+stack-seen-requires : tie.Need-stack-seen-requires
+stack-seen-requires c κs = search needs
+
+returns : tie.Need-returns
+unfolding startSeenOf ofBits
+returns c = cc
+
+pub start-seen-spec : {M : Type 1} → statement M
+start-seen-spec =
+    tie.close
+    (tie.spec given-requires all-marks-requires all-marks-requires-2 stack-seen-requires returns)

@@ -1,0 +1,18 @@
+-- `ddf_test::starts::transformed` meets its contract.
+use Rattle.ddf.specs.Satterthwaite.{transformed}
+use borrow.Author.Needs.{needs}
+use Rattle.ddf_test.proofs.starts.transformed.Statement.{statement}
+use Rattle.ddf_test.proofs.starts.transformed.Tie as tie
+
+given-cells-requires : tie.Need-given-cells-requires
+given-cells-requires c κs = search needs
+
+sandwich-requires : tie.Need-sandwich-requires
+sandwich-requires c κs = search needs
+
+returns : tie.Need-returns
+unfolding transformed
+returns c = cc
+
+pub transformed-spec : {M : Type 1} → statement M
+transformed-spec = tie.close (tie.spec given-cells-requires sandwich-requires returns)

@@ -1,0 +1,16 @@
+-- `ddf_test::variance::is_positive` meets its contract.
+use lib.Ieee.{ofBits}
+use Rattle.ddf.specs.VarianceDf.{isPositive}
+use borrow.Author.Needs.{needs}
+use Rattle.ddf_test.proofs.variance.is_positive.Statement.{statement}
+use Rattle.ddf_test.proofs.variance.is_positive.Tie as tie
+
+is-finite-requires : tie.Need-is-finite-requires
+is-finite-requires c κs = search needs
+
+returns : tie.Need-returns
+unfolding isPositive ofBits
+returns c = cc
+
+pub is-positive-spec : {M : Type 1} → statement M
+is-positive-spec = tie.close (tie.spec is-finite-requires returns)
