@@ -1,5 +1,5 @@
-// Words of 64 bits as sixteen hexadecimal digits, for the programs that read and print tables.
-ghost use Prim.Native.Nat.{_+_, _<_, _≤_};
+// Bytes as two hexadecimal digits and words of 64 bits as sixteen, for the programs that read and print tables.
+ghost use Prim.Native.Nat.{_+_, _*_, _<_, _≤_};
 ghost use lib.ListN.{length};
 
 // The value of a hexadecimal digit; 0 for any other byte.
@@ -29,6 +29,20 @@ pub fn word_at(text: &[u8], at: usize) -> u64
         word = (word % 1152921504606846976) * 16 + d;
     }
     word
+}
+
+// The byte of two digits.
+fn byte_of(high: u8, low: u8) -> u8 {
+    (digit(high) * 16 + digit(low)) as u8
+}
+
+// The first n bytes of a file, from the digits that spell it.
+pub fn spell(digits: &[u8], n: usize, file: &mut [u8])
+    requires { ⌜ (2 * n ≤ length (now digits)) × (n ≤ length (now file)) ⌝ }
+{
+    for i in 0..n {
+        file[i] = byte_of(digits[2 * i], digits[2 * i + 1]);
+    }
 }
 
 // The hexadecimal digit of a number below 16.
