@@ -1,0 +1,10 @@
+// Program `pulltest`: reads a record file from standard input and prints its tests, or the number that refuses it.
+
+// A file has at most 835 records, 13,360 bytes. Of a longer one the first 13,361 bytes are judged: the number is 2 for them as it is for the whole (proofs/Longer.antt).
+fn main() {
+    let mut file = [0u8; 13361];
+    let mut out = [0u8; 512];
+    let n = io::read_full(0, &mut file);
+    let m = kenward_roger::text(&file[..n], &mut out);
+    io::write_all(1, &out[..m]);
+}
