@@ -69,11 +69,26 @@ enum pull_number {
  *   bytes 20-23  zero
  *
  * An entry with no coefficient, and entry 6 of a series without a contrast,
- * is 24 zero bytes; so a rank of 0 tells an unused entry.
- *
- * The Satterthwaite call comes in a later delivery. It will fill one such
- * entry, PULL_ENTRY_BYTES. */
+ * is 24 zero bytes; so a rank of 0 tells an unused entry. */
 uint32_t pull_kenward_roger(const uint8_t *records, size_t records_length,
+                            uint8_t *answer, size_t answer_length);
+
+/* A contrast by Satterthwaite, with the covariance of beta, its Jacobians and
+ * the covariance of the parameters from the file.
+ *
+ * The arguments are those of pull_kenward_roger, and the same is asked of the
+ * pointers. answer_length is PULL_ENTRY_BYTES.
+ *
+ * The records have the kinds 8 (beta), 9 (the contrast), 10 (the hypothesis
+ * values, all or none), 30 (v, the covariance of beta), 31 (a Jacobian, told
+ * by its count) and 32 (A, the covariance of the parameters), with every cell;
+ * any other kind is refused with PULL_RECORDS.
+ *
+ * Returns 0, and then all 24 answer bytes are written, one entry as above; or
+ * the number of the refusal (PULL_LENGTH, PULL_RECORDS, PULL_NOT_FINITE of an
+ * input, PULL_EIGENVALUE), and then every answer byte keeps its contents. The
+ * rank is the number of contrast rows. */
+uint32_t pull_satterthwaite(const uint8_t *records, size_t records_length,
                             uint8_t *answer, size_t answer_length);
 
 #ifdef __cplusplus

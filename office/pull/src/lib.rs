@@ -3,6 +3,7 @@
 //! A series is a record file, as the stand writes it. [`kenward_roger`] judges
 //! it: each coefficient alone, then the contrast if the file has one, by the
 //! very code that runs in the stand's panel, so with its bits.
+//! [`satterthwaite`] tests a contrast of a file of its own kinds.
 //!
 //! ```
 //! # let file: Vec<u8> = pull::example::records();

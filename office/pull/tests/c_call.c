@@ -1,15 +1,17 @@
-/* pull.h from C: document 01's example, a refusal, another length. */
+/* pull.h from C: document 01's examples, refusals, other lengths. */
 
 #include "pull.h"
 
+#include <math.h>
 #include <stdio.h>
 #include <string.h>
 
-static void record(uint8_t *to, uint8_t kind, uint8_t row, double value)
+static void record(uint8_t *to, uint8_t kind, uint8_t row, uint8_t column, double value)
 {
     memset(to, 0, 16);
     to[0] = kind;
     to[1] = row;
+    to[2] = column;
     memcpy(to + 8, &value, 8);
 }
 
@@ -26,18 +28,19 @@ static int failed(const char *what)
     return 1;
 }
 
-int main(void)
+/* The pulltest example of the Kenward-Roger call. */
+static int kenward_roger(void)
 {
     uint8_t records[96], answer[PULL_KENWARD_ROGER_BYTES], kept[PULL_KENWARD_ROGER_BYTES];
     const uint8_t *contrast = answer + 6 * PULL_ENTRY_BYTES;
     size_t i;
 
-    record(records, 1, 0, 1.0);
-    record(records + 16, 1, 1, 1.0);
-    record(records + 32, 6, 0, 0.5);
-    record(records + 48, 7, 0, 8.0);
-    record(records + 64, 8, 0, 6.0);
-    record(records + 80, 9, 0, 1.0);
+    record(records, 1, 0, 0, 1.0);
+    record(records + 16, 1, 1, 0, 1.0);
+    record(records + 32, 6, 0, 0, 0.5);
+    record(records + 48, 7, 0, 0, 8.0);
+    record(records + 64, 8, 0, 0, 6.0);
+    record(records + 80, 9, 0, 0, 1.0);
 
     memset(answer, 0xa5, sizeof answer);
     memset(kept, 0xa5, sizeof kept);
@@ -45,13 +48,13 @@ int main(void)
         return failed("100 answer bytes");
     if (pull_kenward_roger(records, 95, answer, sizeof answer) != PULL_RECORDS)
         return failed("95 bytes of records");
-    record(records + 48, 7, 0, 0.0);
+    record(records + 48, 7, 0, 0, 0.0);
     if (pull_kenward_roger(records, sizeof records, answer, sizeof answer) != PULL_SIGMA2)
         return failed("sigma2 = 0");
     if (memcmp(answer, kept, sizeof answer) != 0)
         return failed("a refusal has written answer bytes");
 
-    record(records + 48, 7, 0, 8.0);
+    record(records + 48, 7, 0, 0, 8.0);
     if (pull_kenward_roger(records, sizeof records, answer, sizeof answer) != PULL_ACCEPTED)
         return failed("the example is refused");
     if (number(answer) != 9.0 || number(answer + 8) != 1.0)
@@ -64,6 +67,65 @@ int main(void)
     for (i = 24; i < 144; i++)
         if (answer[i] != 0)
             return failed("an unused entry");
+    return 0;
+}
+
+#ifndef WITHOUT_SATTERTHWAITE
+/* Example (i): L identity, v = diag(4, 1), one Jacobian equal to v, A 0.5, beta (4, 1). */
+static int satterthwaite(void)
+{
+    uint8_t records[15 * 16], answer[PULL_ENTRY_BYTES], kept[PULL_ENTRY_BYTES];
+    uint8_t *to = records, i, j;
+
+    for (i = 0; i < 2; i++) {
+        for (j = 0; j < 2; j++) {
+            double v = i != j ? 0.0 : i == 0 ? 4.0 : 1.0;
+            record(to, 9, i, j, i == j ? 1.0 : 0.0);
+            record(to + 16, 30, i, j, v);
+            record(to + 32, 31, i, j, v);
+            to += 48;
+        }
+    }
+    record(to, 32, 0, 0, 0.5);
+    record(to + 16, 8, 0, 0, 4.0);
+    record(to + 32, 8, 1, 0, 1.0);
+
+    memset(answer, 0xa5, sizeof answer);
+    memset(kept, 0xa5, sizeof kept);
+    if (pull_satterthwaite(records, sizeof records, answer, 23) != PULL_LENGTH)
+        return failed("23 answer bytes");
+    if (pull_satterthwaite(records, sizeof records - 16, answer, sizeof answer) != PULL_RECORDS)
+        return failed("a record less");
+    record(to + 32, 8, 1, 0, HUGE_VAL);
+    if (pull_satterthwaite(records, sizeof records, answer, sizeof answer) != PULL_NOT_FINITE)
+        return failed("an infinite beta");
+    record(to + 32, 8, 1, 0, 1.0);
+    record(records + 16, 30, 0, 0, -4.0);
+    if (pull_satterthwaite(records, sizeof records, answer, sizeof answer) != PULL_EIGENVALUE)
+        return failed("a negative v");
+    if (memcmp(answer, kept, sizeof answer) != 0)
+        return failed("a refusal has written answer bytes");
+
+    record(records + 16, 30, 0, 0, 4.0);
+    if (pull_satterthwaite(records, sizeof records, answer, sizeof answer) != PULL_ACCEPTED)
+        return failed("example (i) is refused");
+    if (number(answer) != 2.5 || number(answer + 8) != 4.0)
+        return failed("F and df of example (i)");
+    for (i = 16; i < 24; i++)
+        if (answer[i] != (i == 16 ? 2 : i < 20))
+            return failed("rank 2, given, given, inside, four zeros");
+    return 0;
+}
+#endif
+
+int main(void)
+{
+    if (kenward_roger() != 0)
+        return 1;
+#ifndef WITHOUT_SATTERTHWAITE
+    if (satterthwaite() != 0)
+        return 1;
+#endif
     printf("C calls: ok\n");
     return 0;
 }

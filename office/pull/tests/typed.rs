@@ -66,3 +66,34 @@ fn threads() {
         }
     });
 }
+
+/// Example (i) of the Satterthwaite call: L identity, v = diag(4, 1), one
+/// Jacobian equal to v, A 0.5, β (4, 1).
+#[cfg(feature = "satterthwaite")]
+fn example_i() -> Vec<u8> {
+    let mut file = Vec::new();
+    for (i, j) in [(0, 0), (0, 1), (1, 0), (1, 1)] {
+        let v = [[4.0, 0.0], [0.0, 1.0]][i as usize][j as usize];
+        file.extend(example::record(9, i, j, 0, if i == j { 1.0 } else { 0.0 }));
+        file.extend(example::record(30, i, j, 0, v));
+        file.extend(example::record(31, i, j, 0, v));
+    }
+    file.extend(example::record(32, 0, 0, 0, 0.5));
+    file.extend(example::record(8, 0, 0, 0, 4.0));
+    file.extend(example::record(8, 1, 0, 0, 1.0));
+    file
+}
+
+#[cfg(feature = "satterthwaite")]
+#[test]
+fn satterthwaite() {
+    let test = Test { f: Some(2.5), df: Some(4.0), rank: 2, inside: true };
+    assert_eq!(pull::satterthwaite(&example_i()), Ok(test));
+    assert_eq!(pull::satterthwaite(&example::records()), Err(Refusal::Records));
+    assert_eq!(kenward_roger(&example_i()), Err(Refusal::Records));
+    for length in [0, 1, 23, 25, 168] {
+        let mut answer = vec![7; length];
+        assert_eq!(pull::satterthwaite_fill(&example_i(), &mut answer), 1);
+        assert!(answer.iter().all(|&b| b == 7));
+    }
+}
