@@ -12,6 +12,7 @@ use listed_algebra::Matrix;
 use std::collections::BTreeMap;
 
 pub mod random;
+pub mod shift;
 pub mod tries;
 pub mod vectors;
 
