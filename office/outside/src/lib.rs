@@ -2,8 +2,10 @@
 //! lmerTest, on fits by lme4 (`vectors/r`).
 //!
 //! The answering function is a parameter: bytes of a record file in, answer
-//! bytes or the number of a refusal out. So the same check serves the oracle
-//! and the C functions.
+//! bytes or the number of a refusal out. So the same checks serve the C
+//! functions (the tests here) and the oracle (its own tests).
+
+use std::path::Path;
 
 /// Bytes of one entry of an answer: F, df, rank, F given, df given, inside, zeros.
 pub const ENTRY: usize = 24;
@@ -11,6 +13,9 @@ pub const ENTRY: usize = 24;
 pub const KENWARD_ROGER: usize = 7 * ENTRY;
 /// Bytes of the Satterthwaite answer: one entry.
 pub const SATTERTHWAITE: usize = ENTRY;
+
+/// Every F and df is held to this relative bound.
+pub const BOUND: f64 = 1e-9;
 
 /// A function that answers record files.
 pub type Answer<const N: usize> = fn(&[u8]) -> Result<[u8; N], u32>;
@@ -173,4 +178,48 @@ pub fn hold<const N: usize>(text: &str, answer: Answer<N>, bound: f64) -> Result
         }
     }
     Ok(report)
+}
+
+impl Report {
+    /// The reasons for which cases differ, each once, in the order of the file.
+    pub fn reasons(&self) -> Vec<&str> {
+        let mut out: Vec<&str> = self.differing.iter().map(|(_, why, _)| why.as_str()).collect();
+        out.dedup();
+        out
+    }
+}
+
+/// A file of the repository's outside vectors.
+pub fn text(name: &str) -> String {
+    let file = Path::new(env!("CARGO_MANIFEST_DIR")).join("../../vectors/r").join(name);
+    std::fs::read_to_string(&file).unwrap_or_else(|e| panic!("{}: {e}", file.display()))
+}
+
+/// Holds a file, and prints what `cargo test -- --nocapture` shows. It panics
+/// at the first case that does not hold.
+fn held<const N: usize>(name: &str, answer: Answer<N>) -> Report {
+    let report = hold(&text(name), answer, BOUND).unwrap_or_else(|e| panic!("{name}: {e}"));
+    println!("{name}: {} cases, {} numbers held to {BOUND:e}", report.held, report.numbers);
+    println!("  largest relative deviation of F {:.1e} ({})", report.f, report.f_case);
+    println!("  largest relative deviation of df {:.1e} ({})", report.df, report.df_case);
+    for (case, why, outcome) in &report.differing {
+        println!("  differs by design ({why}): {case}: {outcome:?}");
+    }
+    report
+}
+
+/// The Kenward–Roger call answers as pbkrtest, but for the named reasons.
+pub fn kenward_roger_as_pbkrtest(answer: Answer<KENWARD_ROGER>) {
+    let report = held("kenward-roger.txt", answer);
+    assert!(report.held >= 20);
+    let named = ["weights", "inverse", "df-4", "df-2", "df-negative"];
+    assert_eq!(report.reasons(), named);
+}
+
+/// The Satterthwaite call answers as lmerTest, but for the named reasons.
+pub fn satterthwaite_as_lmertest(answer: Answer<SATTERTHWAITE>) {
+    let report = held("satterthwaite.txt", answer);
+    assert!(report.held >= 20);
+    assert_eq!(report.reasons(), ["rows", "cap"]);
+    assert_eq!(report.differing[0].2, Outcome::Refused(11));
 }

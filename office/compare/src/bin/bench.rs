@@ -9,8 +9,12 @@
 //! - marked: the office's reader, then the run written from document 01, which
 //!   has both, as the panel does.
 //!
-//! A time is the median of the rounds, in microseconds for one call, over
-//! several series of the size.
+//! A time is the least of the rounds, in microseconds for one call, over
+//! several series of the size: other programs on the machine only add to it.
+//!
+//! `bench --calls RUN SIZE COUNT` only calls one of the three (0 to 2), on the
+//! series of one size of the first table (0 to 9), COUNT times each: for a
+//! program that counts instructions.
 
 use oracle::random::{kr_file, series_of_sizes};
 use oracle::{lme_run, marked};
@@ -22,8 +26,8 @@ use std::time::Instant;
 /// Series of each size.
 const SERIES: usize = 8;
 /// The least time for which a round calls one of the three, in microseconds.
-const LEAST: f64 = 10_000.0;
-const ROUNDS: usize = 9;
+const LEAST: f64 = 3_000.0;
+const ROUNDS: usize = 40;
 
 struct Size {
     n: usize,
@@ -104,12 +108,11 @@ fn time(run: fn(&[u8]), files: &[Vec<u8>], times: usize) -> f64 {
     began.elapsed().as_secs_f64() * 1e6 / (times * files.len()) as f64
 }
 
-fn median(mut times: Vec<f64>) -> f64 {
-    times.sort_by(f64::total_cmp);
-    times[times.len() / 2]
+fn least(times: Vec<f64>) -> f64 {
+    times.into_iter().fold(f64::INFINITY, f64::min)
 }
 
-/// The median of each of the three runs.
+/// The least time of each of the three runs.
 fn measure(size: &Size, rounds: usize) -> [f64; 3] {
     let files = files(size);
     // Once to warm up, and to know how often a round has to call.
@@ -123,7 +126,7 @@ fn measure(size: &Size, rounds: usize) -> [f64; 3] {
             measured[i].push(time(run, &files, times[i]));
         }
     }
-    measured.map(median)
+    measured.map(least)
 }
 
 fn columns(size: &Size) -> usize {
@@ -160,11 +163,23 @@ fn exponent(small: (usize, f64), large: (usize, f64)) -> f64 {
     (large.1 / small.1).ln() / (large.0 as f64 / small.0 as f64).ln()
 }
 
+/// Calls alone, for a program that counts instructions.
+fn calls(words: &[String]) {
+    let numbers: Vec<usize> = words.iter().filter_map(|w| w.parse().ok()).collect();
+    let [run, size, count] = numbers[..] else {
+        panic!("--calls RUN SIZE COUNT");
+    };
+    let files = files(&sizes()[size]);
+    (0..count).for_each(|_| files.iter().for_each(|file| RUNS[run](file)));
+}
+
 fn main() {
-    let rounds = std::env::args().nth(1).and_then(|w| w.parse().ok()).unwrap_or(ROUNDS).max(1);
-    println!(
-        "One call, reading included; median of {rounds} rounds; {SERIES} series of each size."
-    );
+    let words: Vec<String> = std::env::args().skip(1).collect();
+    if words.first().is_some_and(|w| w == "--calls") {
+        return calls(&words[1..]);
+    }
+    let rounds = words.first().and_then(|w| w.parse().ok()).unwrap_or(ROUNDS).max(1);
+    println!("One call, reading included; least of {rounds} rounds; {SERIES} series of each size.");
     println!("The ratios are the panel's time over the other's.\n");
     head();
     for size in sizes() {
