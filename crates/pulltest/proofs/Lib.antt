@@ -1,0 +1,2 @@
+-- What the program rests on.
+pub mod Longer
