@@ -11,7 +11,7 @@ pub struct Test {
     /// The denominator's degrees of freedom; `None` where there are none.
     pub df: Option<f64>,
     /// The numerator's degrees of freedom: 1 for a coefficient, for a contrast
-    /// the rank of its rows.
+    /// the rank of its rows; in the Satterthwaite call the number of its rows.
     pub rank: u8,
     /// Whether every marked number stayed in the range in which a change of
     /// converter leaves the verdict the same, bit for bit.
