@@ -6,3 +6,4 @@ pub mod ParametersCall
 pub mod Theorems
 pub mod PullExample
 pub mod ParameterExample
+pub mod Lot

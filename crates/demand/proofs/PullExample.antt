@@ -95,7 +95,7 @@ says = record { design = refl; phi = refl; input = refl; coefficients = refl; ro
 abbrev nineAndOne : Entry
 nineAndOne = record { f = Is (fin false 9 (pos 0)); df = Is one; rank = 1; inside = true }
 
-abbrev pullRun : Run
+abbrev pub pullRun : Run
 pullRun = record { refused = false; entries = nineAndOne ∷ noEntry ∷ noEntry ∷ noEntry ∷ noEntry ∷ noEntry ∷ nineAndOne ∷ [] }
 
 record Runs : Type 0 where
@@ -116,7 +116,7 @@ pull-run =
     ∙ ap (λ (x : Input). whole documentCutoffs pullDesign pullPhi 1 x) (says .input)
     ∙ runs .run
 
-pull-accepted : number documentCutoffs pullFile ≡ 0
+pub pull-accepted : number documentCutoffs pullFile ≡ 0
 pull-accepted =
     number-is documentCutoffs pullFile
     ∙ ap (λ (n : ℕ). first (listed (reasons pullFile) n (run documentCutoffs pullFile .refused)))
@@ -127,7 +127,7 @@ pull-accepted =
     ∙ ap (λ (r : Run). first (listed (reasons pullFile) 0 (r .refused))) pull-run
     ∙ says .passes
 
-pull-entries : entries documentCutoffs pullFile ≡ pullRun .entries
+pub pull-entries : entries documentCutoffs pullFile ≡ pullRun .entries
 pull-entries = entries-are documentCutoffs pullFile pull-accepted ∙ ap (λ (r : Run). r .entries) pull-run
 
 first-only : (i : ℕ) → i < 1 → i ≡ 0
