@@ -9,6 +9,7 @@ pub mod PlainLaws
 pub mod PowerOfTwo
 pub mod RootWhole
 pub mod RootLoop
+pub mod RootGuess
 pub mod RootPatterns
 pub mod RootCases
 pub mod RootNearest

@@ -1,60 +1,77 @@
--- `arithmetic::root::whole_root` meets its contract. The invariant and its steps are `Rooting`'s.
-use mathlib.Core.Logic.{⊎-elim}
-use mathlib.Core.Path.{_≡_}
-use Prim.Native.Nat.{_-_}
+-- `arithmetic::root::whole_root` meets its contract: the guess where it is kept, and the digits otherwise.
 use native.Mathlib.Omega.{arith}
+use Prim.Native.Nat.{_+_, _*_, _<_, _≤_, _^_}
 use borrow.Author.Needs.{needs}
-use Rattle.arithmetic.proofs.RootLoop.{Rooting, start, small, taken, passed, ended, same}
+use Rattle.arithmetic.proofs.RootGuess.{kept, places}
 use Rattle.arithmetic.proofs.root.whole_root.Statement.{statement}
 use Rattle.arithmetic.proofs.root.whole_root.Tie as tie
 
-abbrev Inv-loop : tie.InvT-loop
-Inv-loop a r₀ rem₀ rest₀ i₀ r rem rest i = Rooting a i r rem rest
+guess-requires : tie.Need-guess-requires
+guess-requires c κs = search needs
 
-abbrev μ-loop : tie.MeasureT-loop
-μ-loop a r₀ rem₀ rest₀ i₀ r rem rest i = 54 - i
+remainder-requires : tie.Need-remainder-requires
+remainder-requires c κs = search needs
 
-loop-holds : tie.Need-loop-holds Inv-loop μ-loop
-loop-holds c = start (c .args .a) (omega arith)
+mul-w : tie.Need-mul-w
+mul-w c = search needs
 
-mul-rem : tie.Need-mul-rem Inv-loop μ-loop
-mul-rem c = omega (arith, small _ _ _ _ _ (c .before .loop .inv), c .before .loop .inv .close, c .before .loop .inv .tail)
+further-requires : tie.Need-further-requires
+further-requires c κs = search needs
 
-add-rem : tie.Need-add-rem Inv-loop μ-loop
-add-rem c = omega (arith, small _ _ _ _ _ (c .before .loop .inv), c .before .loop .inv .close, c .before .loop .inv .tail)
+add-t : tie.Need-add-t
+add-t c = search needs
 
-mul-t : tie.Need-mul-t Inv-loop μ-loop
-mul-t c = omega (arith, small _ _ _ _ _ (c .before .loop .inv), c .before .loop .inv .close, c .before .loop .inv .tail)
+mul-t : tie.Need-mul-t
+mul-t c = omega (arith, places (c .before .before .guess .result * 2) (c .further .result) (omega arith) (omega arith))
 
-add-t : tie.Need-add-t Inv-loop μ-loop
-add-t c = omega (arith, small _ _ _ _ _ (c .before .loop .inv), c .before .loop .inv .close, c .before .loop .inv .tail)
+add-if2 : tie.Need-add-if2
+add-if2 c =
+    let d = c .before in
+    omega (arith, places (d .before .before .guess .result * 2) (d .further .result) (omega arith) (omega arith))
 
-mul-r : tie.Need-mul-r Inv-loop μ-loop
-mul-r c = omega (arith, small _ _ _ _ _ (c .before .before .loop .inv))
+mul-if2 : tie.Need-mul-if2
+mul-if2 c = search needs
 
-add-r : tie.Need-add-r Inv-loop μ-loop
-add-r c = omega (arith, small _ _ _ _ _ (c .before .before .loop .inv))
+add-if2-2 : tie.Need-add-if2-2
+add-if2-2 c =
+    let d = c .before in
+    omega (arith, places (d .before .before .guess .result * 2) (d .further .result) (omega arith) (omega arith))
 
-mul-r-2 : tie.Need-mul-r-2 Inv-loop μ-loop
-mul-r-2 c = omega (arith, small _ _ _ _ _ (c .before .before .loop .inv))
+add-result : tie.Need-add-result
+add-result c = search needs
 
-add-i : tie.Need-add-i Inv-loop μ-loop
-add-i c = omega arith
+returns : tie.Need-returns
+returns c =
+    let d = c .before .before in
+    let g = d .before .before .guess .result in
+    let k = d .further .result in
+    let rem = d .before .remainder .result in
+    let few : k * (g * 2 + k) < 2 ^ 58 = places (g * 2) k (omega arith) (omega arith) in
+    let low : k * (g * 2 + k) ≤ rem = omega arith in
+    let high : rem ≤ k * (g * 2 + k) + g * 2 + k * 2 = omega arith in
+    let small : rem < 2 ^ 63 = omega arith in
+    kept (d .before .before .before .args .a) g k rem (omega arith) (d .before .remainder .ensures small) low high
 
-loop-less : tie.Need-loop-less Inv-loop μ-loop
-loop-less c = omega arith
+digit-root-requires : tie.Need-digit-root-requires
+digit-root-requires c κs = search needs
 
-loop-again : tie.Need-loop-again Inv-loop μ-loop
-loop-again c =
-    let l = c .before .before .loop in
-    let a = c .before .before .before .args .a in
-    ⊎-elim
-    (λ w. same (taken a (l .i) (l .r) (l .rem) (l .rest) (l .inv) (omega arith) (w .0 .taken)) (w .1) (w .2))
-    (λ w. same (passed a (l .i) (l .r) (l .rem) (l .rest) (l .inv) (omega arith) (w .0 .left)) (w .1) (w .2))
-    (c .if1 .came)
-
-returns : tie.Need-returns Inv-loop μ-loop
-returns c = ended _ _ _ _ _ (omega arith) (c .before .loop .inv) (omega arith)
+returns-2 : tie.Need-returns-2
+returns-2 c = search needs
 
 pub whole-root-spec : {M : Type 1} → statement M
-whole-root-spec = tie.close (tie.spec Inv-loop μ-loop loop-holds mul-rem add-rem mul-t add-t mul-r add-r mul-r-2 add-i loop-less loop-again returns)
+whole-root-spec =
+    tie.close
+    (tie.spec
+    guess-requires
+    remainder-requires
+    mul-w
+    further-requires
+    add-t
+    mul-t
+    add-if2
+    mul-if2
+    add-if2-2
+    add-result
+    returns
+    digit-root-requires
+    returns-2)
