@@ -1,14 +1,19 @@
 -- Small matrices: chained products, and the way between plain numbers and marked ones.
 use Prim.Native.Nat.{ℕ}
 use mathlib.Core.List.{List}
+use lib.ListN.{getD}
 use lib.Ieee.{Float}
 use Rattle.arithmetic.specs.Numbers.{plusZero}
 use Rattle.arithmetic.specs.declared.Marked.{Marked}
 use Rattle.arithmetic.specs.Marks.{given, also}
-use Rattle.algebra.specs.Fold.{fold}
+use Rattle.algebra.specs.Fold.{fold, span}
 use Rattle.algebra.specs.Table.{table}
 use Rattle.algebra.specs.Kind.{Arith, floats, marks}
 use Rattle.algebra.specs.Product.{at, product, transpose}
+
+-- a row of sums, of which the first c have one term more: x times the like cell of `terms`
+unfoldable pub withTerms : {A : Type 0} → Arith A → ℕ → List A → A → List A → List A
+withTerms N c sums x terms = span 0 c (λ j. N .plus (getD sums j (N .void)) (N .times x (getD terms j (N .void)))) sums
 
 -- (l m) lᵀ, for l of q rows and p columns. Document 01: "Chained products associate left."
 unfoldable pub sandwich : {A : Type 0} → Arith A → ℕ → ℕ → ℕ → ℕ → List (List A) → List (List A) → List (List A)

@@ -2,12 +2,12 @@
 ghost use mathlib.Core.Path.{_≡_};
 ghost use mathlib.Core.Bool.{cond};
 ghost use lib.Dec.{eqb};
-ghost use Prim.Native.Nat.{_≤_, _<_};
+ghost use Prim.Native.Nat.{_≤_};
 ghost use Rattle.arithmetic.specs.Numbers.{one};
 ghost use Rattle.algebra.specs.Table.{blank};
 ghost use Rattle.algebra.specs.Kind.{floats, nil};
-ghost use Rattle.algebra.specs.Product.{cell, product, transpose, likeCells, trace, plusCells, minusCells, timesNumber, overNumber, identity};
-ghost use Rattle.products.specs.Small.{sandwich};
+ghost use Rattle.algebra.specs.Product.{product, transpose, likeCells, trace, plusCells, minusCells, timesNumber, overNumber, identity};
+ghost use Rattle.products.specs.Small.{withTerms, sandwich};
 
 // Zeros alone.
 pub fn zeros() -> [[f64; 6]; 6]
@@ -16,19 +16,19 @@ pub fn zeros() -> [[f64; 6]; 6]
     [[0.0; 6]; 6]
 }
 
-// Row i of a times column j of b: from +0, by rising index.
-pub fn cell(a: [[f64; 6]; 6], b: [[f64; 6]; 6], inner: usize, i: usize, j: usize) -> f64
-    requires { ⌜ (inner ≤ 6) × (i < 6) × (j < 6) ⌝ }
-    ensures { λ r. ⌜ r ≡ cell floats inner a b i j ⌝ }
+// A row of sums, each with one term more: x times the like cell of `terms`.
+fn with_terms(sums: [f64; 6], x: f64, terms: [f64; 6], cols: usize) -> [f64; 6]
+    requires { ⌜ cols ≤ 6 ⌝ }
+    ensures { λ r. ⌜ r ≡ withTerms floats cols sums x terms ⌝ }
 {
-    let mut sum = 0.0;
-    for k in 0..inner {
-        sum = sum + a[i][k] * b[k][j];
+    let mut out = sums;
+    for j in 0..cols {
+        out[j] = out[j] + x * terms[j];
     }
-    sum
+    out
 }
 
-// a, of rows by inner, times b, of inner by cols.
+// a, of rows by inner, times b, of inner by cols. A row at a time, so that a cell's sum still runs by rising index, and no matrix is copied.
 pub fn product(
     a: [[f64; 6]; 6],
     b: [[f64; 6]; 6],
@@ -41,8 +41,8 @@ pub fn product(
 {
     let mut out = zeros();
     for i in 0..rows {
-        for j in 0..cols {
-            out[i][j] = cell(a, b, inner, i, j);
+        for k in 0..inner {
+            out[i] = with_terms(out[i], a[i][k], b[k], cols);
         }
     }
     out
