@@ -1,13 +1,10 @@
 // Small matrices of marked numbers, by value: the cells up to the sizes given are in use, and zeros stand past them.
 ghost use mathlib.Core.Path.{_≡_};
-ghost use mathlib.Core.Bool.{cond};
-ghost use lib.Dec.{eqb};
 ghost use Prim.Native.Nat.{_≤_, _<_};
-ghost use Rattle.arithmetic.specs.Numbers.{one};
 ghost use Rattle.algebra.specs.Table.{blank};
 ghost use Rattle.algebra.specs.Kind.{marks, nil};
-ghost use Rattle.algebra.specs.Product.{cell, product, transpose, likeCells, trace, plusCells, minusCells, timesNumber, overNumber, identity};
-ghost use Rattle.products.specs.Small.{sandwich, givenCells, values, allMarks};
+ghost use Rattle.algebra.specs.Product.{cell, product, transpose, likeCells, trace, plusCells, minusCells, timesNumber, overNumber};
+ghost use Rattle.products.specs.Small.{withTerms, sandwich, givenCells, values, allMarks};
 use arithmetic::Marked;
 use arithmetic::step::add;
 use arithmetic::step::also;
@@ -43,7 +40,19 @@ pub fn cell(a: [[Marked; 6]; 6], b: [[Marked; 6]; 6], inner: usize, i: usize, j:
     sum
 }
 
-// a, of rows by inner, times b, of inner by cols.
+// A row of sums, each with one term more: x times the like cell of `terms`.
+fn with_terms(sums: [Marked; 6], x: Marked, terms: [Marked; 6], cols: usize) -> [Marked; 6]
+    requires { ⌜ cols ≤ 6 ⌝ }
+    ensures { λ r. ⌜ r ≡ withTerms marks cols sums x terms ⌝ }
+{
+    let mut out = sums;
+    for j in 0..cols {
+        out[j] = add(out[j], mul(x, terms[j]));
+    }
+    out
+}
+
+// a, of rows by inner, times b, of inner by cols. A row at a time, so that a cell's sum still runs by rising index, and no matrix is copied.
 pub fn product(
     a: [[Marked; 6]; 6],
     b: [[Marked; 6]; 6],
@@ -56,8 +65,8 @@ pub fn product(
 {
     let mut out = zeros();
     for i in 0..rows {
-        for j in 0..cols {
-            out[i][j] = cell(a, b, inner, i, j);
+        for k in 0..inner {
+            out[i] = with_terms(out[i], a[i][k], b[k], cols);
         }
     }
     out
@@ -170,30 +179,6 @@ pub fn over_number(a: [[Marked; 6]; 6], x: Marked, rows: usize, cols: usize) -> 
     for i in 0..rows {
         for j in 0..cols {
             out[i][j] = div(a[i][j], x);
-        }
-    }
-    out
-}
-
-// A cell of the identity: 1 on the diagonal.
-pub fn unit_cell(i: usize, j: usize) -> Marked
-    ensures { λ r. ⌜ r ≡ cond (eqb i j) (marks .of one) (nil marks) ⌝ }
-{
-    if i == j {
-        return given(1.0);
-    }
-    given(0.0)
-}
-
-// The identity of n rows.
-pub fn identity(n: usize) -> [[Marked; 6]; 6]
-    requires { ⌜ n ≤ 6 ⌝ }
-    ensures { λ r. ⌜ r ≡ identity marks 6 6 n ⌝ }
-{
-    let mut out = zeros();
-    for i in 0..n {
-        for j in 0..n {
-            out[i][j] = unit_cell(i, j);
         }
     }
     out
