@@ -5,7 +5,7 @@ use native.Mathlib.Omega.{arith}
 use Rattle.algebra.specs.Kind.{marks}
 use Rattle.algebra.specs.Elimination.{cleared}
 use Rattle.algebra.proofs.FoldLaws.{fold-start, fold-next, fold-end}
-use Rattle.elimination.proofs.Steps.{lessRow-is}
+use Rattle.pivoting.proofs.Steps.{lessRow-is}
 use Rattle.elimination_marked.proofs.clear.Statement.{statement}
 use Rattle.elimination_marked.proofs.clear.Tie as tie
 

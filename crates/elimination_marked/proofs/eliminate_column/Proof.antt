@@ -3,7 +3,7 @@ use native.Mathlib.Omega.{arith}
 use borrow.Author.Needs.{needs}
 use Rattle.algebra.specs.Kind.{marks}
 use Rattle.algebra.specs.Elimination.{eliminateColumn}
-use Rattle.elimination.proofs.Steps.{pivot-below}
+use Rattle.pivoting.proofs.Steps.{pivot-below}
 use Rattle.elimination_marked.proofs.eliminate_column.Statement.{statement}
 use Rattle.elimination_marked.proofs.eliminate_column.Tie as tie
 

@@ -3,7 +3,7 @@ use mathlib.Core.Path.{refl, sym, _∙_}
 use mathlib.Core.Bool.{true, false}
 use borrow.Author.Needs.{needs}
 use Rattle.algebra.specs.Kind.{marks}
-use Rattle.elimination.proofs.Steps.{larger-is}
+use Rattle.pivoting.proofs.Steps.{larger-is}
 use Rattle.elimination_marked.proofs.larger.Statement.{statement}
 use Rattle.elimination_marked.proofs.larger.Tie as tie
 

@@ -5,7 +5,7 @@ use native.Mathlib.Omega.{arith}
 use Rattle.algebra.specs.Kind.{marks}
 use Rattle.algebra.specs.Elimination.{pivotRow}
 use Rattle.algebra.proofs.FoldLaws.{fold-start, fold-next, fold-end}
-use Rattle.elimination.proofs.Steps.{pivot-below}
+use Rattle.pivoting.proofs.Steps.{pivot-below}
 use Rattle.elimination_marked.proofs.pivot_row.Statement.{statement}
 use Rattle.elimination_marked.proofs.pivot_row.Tie as tie
 

@@ -1,13 +1,13 @@
--- `elimination::clear` meets its contract.
+-- `pivoting::clear` meets its contract.
 use Prim.Native.Nat.{_≤_, _-_, _+_}
 use mathlib.Core.Path.{_≡_}
 use native.Mathlib.Omega.{arith}
 use Rattle.algebra.specs.Kind.{floats}
 use Rattle.algebra.specs.Elimination.{cleared}
 use Rattle.algebra.proofs.FoldLaws.{fold-start, fold-next, fold-end}
-use Rattle.elimination.proofs.Steps.{lessRow-is}
-use Rattle.elimination.proofs.clear.Statement.{statement}
-use Rattle.elimination.proofs.clear.Tie as tie
+use Rattle.pivoting.proofs.Steps.{lessRow-is}
+use Rattle.pivoting.proofs.clear.Statement.{statement}
+use Rattle.pivoting.proofs.clear.Tie as tie
 
 abbrev Inv-loop : tie.InvT-loop
 Inv-loop n w c m out₀ r₀ out r = (c + 1 ≤ r) × (r ≤ n) × (out ≡ cleared floats r w c m)

@@ -1,11 +1,11 @@
--- `elimination::eliminate_column` meets its contract.
+-- `pivoting::eliminate_column` meets its contract.
 use native.Mathlib.Omega.{arith}
 use borrow.Author.Needs.{needs}
 use Rattle.algebra.specs.Kind.{floats}
 use Rattle.algebra.specs.Elimination.{eliminateColumn}
-use Rattle.elimination.proofs.Steps.{pivot-below}
-use Rattle.elimination.proofs.eliminate_column.Statement.{statement}
-use Rattle.elimination.proofs.eliminate_column.Tie as tie
+use Rattle.pivoting.proofs.Steps.{pivot-below}
+use Rattle.pivoting.proofs.eliminate_column.Statement.{statement}
+use Rattle.pivoting.proofs.eliminate_column.Tie as tie
 
 pivot-row-requires : tie.Need-pivot-row-requires
 pivot-row-requires c κs = search needs

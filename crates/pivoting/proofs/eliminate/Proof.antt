@@ -1,12 +1,12 @@
--- `elimination::eliminate` meets its contract.
+-- `pivoting::eliminate` meets its contract.
 use Prim.Native.Nat.{_≤_, _-_}
 use mathlib.Core.Path.{_≡_}
 use native.Mathlib.Omega.{arith}
 use Rattle.algebra.specs.Kind.{floats}
 use Rattle.algebra.specs.Elimination.{eliminateTo}
 use Rattle.algebra.proofs.FoldLaws.{fold-start, fold-next, fold-end}
-use Rattle.elimination.proofs.eliminate.Statement.{statement}
-use Rattle.elimination.proofs.eliminate.Tie as tie
+use Rattle.pivoting.proofs.eliminate.Statement.{statement}
+use Rattle.pivoting.proofs.eliminate.Tie as tie
 
 abbrev Inv-loop : tie.InvT-loop
 Inv-loop n w out₀ c₀ out c = (c ≤ n) × (out ≡ eliminateTo floats c n w out₀)

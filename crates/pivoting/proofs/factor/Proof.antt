@@ -1,9 +1,9 @@
--- `elimination::factor` meets its contract.
+-- `pivoting::factor` meets its contract.
 use mathlib.Core.Path.{refl}
 use borrow.Author.Needs.{needs}
 use Rattle.algebra.specs.Elimination.{factor}
-use Rattle.elimination.proofs.factor.Statement.{statement}
-use Rattle.elimination.proofs.factor.Tie as tie
+use Rattle.pivoting.proofs.factor.Statement.{statement}
+use Rattle.pivoting.proofs.factor.Tie as tie
 
 mul-result : tie.Need-mul-result
 mul-result c = search needs

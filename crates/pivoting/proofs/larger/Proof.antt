@@ -1,11 +1,11 @@
--- `elimination::larger` meets its contract.
+-- `pivoting::larger` meets its contract.
 use mathlib.Core.Path.{refl, sym, _∙_}
 use mathlib.Core.Bool.{true, false}
 use borrow.Author.Needs.{needs}
 use Rattle.algebra.specs.Kind.{floats}
-use Rattle.elimination.proofs.Steps.{larger-is}
-use Rattle.elimination.proofs.larger.Statement.{statement}
-use Rattle.elimination.proofs.larger.Tie as tie
+use Rattle.pivoting.proofs.Steps.{larger-is}
+use Rattle.pivoting.proofs.larger.Statement.{statement}
+use Rattle.pivoting.proofs.larger.Tie as tie
 
 mul-is-larger : tie.Need-mul-is-larger
 mul-is-larger c = search needs

@@ -1,12 +1,12 @@
--- `elimination::less_by` meets its contract.
+-- `pivoting::less_by` meets its contract.
 use Prim.Native.Nat.{_≤_, _-_, _+_}
 use mathlib.Core.Path.{_≡_, refl}
 use native.Mathlib.Omega.{arith}
 use Rattle.algebra.specs.Kind.{floats}
 use Rattle.algebra.specs.Elimination.{lessBy}
 use Rattle.algebra.proofs.FoldLaws.{fold-start, fold-next, fold-end}
-use Rattle.elimination.proofs.less_by.Statement.{statement}
-use Rattle.elimination.proofs.less_by.Tie as tie
+use Rattle.pivoting.proofs.less_by.Statement.{statement}
+use Rattle.pivoting.proofs.less_by.Tie as tie
 
 abbrev Inv-loop : tie.InvT-loop
 Inv-loop w c f pivots lower out₀ j₀ out j = (c + 1 ≤ j) × (j ≤ w) × (out ≡ lessBy floats j c f pivots lower)

@@ -1,12 +1,12 @@
--- `elimination::back_sum` meets its contract.
+-- `back_substitution::back_sum` meets its contract.
 use Prim.Native.Nat.{_≤_, _-_, _+_}
 use mathlib.Core.Path.{_≡_, refl}
 use native.Mathlib.Omega.{arith}
 use Rattle.algebra.specs.Kind.{floats}
 use Rattle.algebra.specs.Elimination.{backSum}
 use Rattle.algebra.proofs.FoldLaws.{fold-start, fold-next, fold-end}
-use Rattle.elimination.proofs.back_sum.Statement.{statement}
-use Rattle.elimination.proofs.back_sum.Tie as tie
+use Rattle.back_substitution.proofs.back_sum.Statement.{statement}
+use Rattle.back_substitution.proofs.back_sum.Tie as tie
 
 abbrev Inv-loop : tie.InvT-loop
 Inv-loop n i k m x sum₀ j₀ sum j = (i + 1 ≤ j) × (j ≤ n) × (sum ≡ backSum floats n j m x i k)

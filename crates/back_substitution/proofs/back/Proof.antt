@@ -1,4 +1,4 @@
--- `elimination::back` meets its contract.
+-- `back_substitution::back` meets its contract.
 use Prim.Native.Nat.{_≤_, _-_}
 use mathlib.Core.Path.{_≡_}
 use lib.Ieee.{ofBits}
@@ -7,8 +7,8 @@ use Rattle.algebra.specs.Kind.{floats}
 use Rattle.algebra.specs.Table.{blank}
 use Rattle.algebra.specs.Elimination.{backTo}
 use Rattle.algebra.proofs.FoldLaws.{fold-start, fold-next, fold-end}
-use Rattle.elimination.proofs.back.Statement.{statement}
-use Rattle.elimination.proofs.back.Tie as tie
+use Rattle.back_substitution.proofs.back.Statement.{statement}
+use Rattle.back_substitution.proofs.back.Tie as tie
 
 abbrev Inv-loop : tie.InvT-loop
 Inv-loop m n cols x₀ d₀ x d = (d ≤ n) × (x ≡ backTo floats d 6 6 n cols m)

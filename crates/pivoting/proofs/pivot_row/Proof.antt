@@ -1,13 +1,13 @@
--- `elimination::pivot_row` meets its contract.
+-- `pivoting::pivot_row` meets its contract.
 use Prim.Native.Nat.{_≤_, _-_, _+_}
 use mathlib.Core.Path.{_≡_}
 use native.Mathlib.Omega.{arith}
 use Rattle.algebra.specs.Kind.{floats}
 use Rattle.algebra.specs.Elimination.{pivotRow}
 use Rattle.algebra.proofs.FoldLaws.{fold-start, fold-next, fold-end}
-use Rattle.elimination.proofs.Steps.{pivot-below}
-use Rattle.elimination.proofs.pivot_row.Statement.{statement}
-use Rattle.elimination.proofs.pivot_row.Tie as tie
+use Rattle.pivoting.proofs.Steps.{pivot-below}
+use Rattle.pivoting.proofs.pivot_row.Statement.{statement}
+use Rattle.pivoting.proofs.pivot_row.Tie as tie
 
 abbrev Inv-loop : tie.InvT-loop
 Inv-loop m n c best₀ r₀ best r = (c + 1 ≤ r) × (r ≤ n) × (best ≡ pivotRow floats r c m)

@@ -1,4 +1,4 @@
--- `elimination::back_row` meets its contract.
+-- `back_substitution::back_row` meets its contract.
 use Prim.Native.Nat.{_≤_, _-_}
 use mathlib.Core.Path.{_≡_}
 use lib.Ieee.{ofBits}
@@ -7,8 +7,8 @@ use Rattle.algebra.specs.Kind.{floats, nil}
 use Rattle.algebra.specs.Table.{row}
 use Rattle.algebra.specs.Elimination.{backCell}
 use Rattle.algebra.proofs.FoldLaws.{fold-start, fold-next, fold-end}
-use Rattle.elimination.proofs.back_row.Statement.{statement}
-use Rattle.elimination.proofs.back_row.Tie as tie
+use Rattle.back_substitution.proofs.back_row.Statement.{statement}
+use Rattle.back_substitution.proofs.back_row.Tie as tie
 
 abbrev Inv-loop : tie.InvT-loop
 Inv-loop m x n cols i out₀ k₀ out k = (k ≤ cols) × (out ≡ row (nil floats) 6 k (backCell floats n m x i))

@@ -1,8 +1,8 @@
--- `elimination::back_cell` meets its contract.
+-- `back_substitution::back_cell` meets its contract.
 use borrow.Author.Needs.{needs}
 use Rattle.algebra.specs.Elimination.{backCell}
-use Rattle.elimination.proofs.back_cell.Statement.{statement}
-use Rattle.elimination.proofs.back_cell.Tie as tie
+use Rattle.back_substitution.proofs.back_cell.Statement.{statement}
+use Rattle.back_substitution.proofs.back_cell.Tie as tie
 
 back-sum-requires : tie.Need-back-sum-requires
 back-sum-requires c κs = search needs

@@ -1,9 +1,9 @@
--- `elimination::swap_rows` meets its contract.
+-- `pivoting::swap_rows` meets its contract.
 use mathlib.Core.Path.{refl}
 use borrow.Author.Needs.{needs}
 use Rattle.algebra.specs.Elimination.{swapRows}
-use Rattle.elimination.proofs.swap_rows.Statement.{statement}
-use Rattle.elimination.proofs.swap_rows.Tie as tie
+use Rattle.pivoting.proofs.swap_rows.Statement.{statement}
+use Rattle.pivoting.proofs.swap_rows.Tie as tie
 
 mul-out : tie.Need-mul-out
 mul-out c = search needs
