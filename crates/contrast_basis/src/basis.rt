@@ -92,7 +92,7 @@ fn first_turned(p: usize, x: [f64; 6], y: [f64; 6], c: f64, s: f64) -> [f64; 6]
 {
     let mut out = [0.0; 6];
     for k in 0..p {
-        out[k] = jacobi::turned_first(c, s, x[k], y[k]);
+        out[k] = rotation::turned_first(c, s, x[k], y[k]);
     }
     out
 }
@@ -104,7 +104,7 @@ fn second_turned(p: usize, x: [f64; 6], y: [f64; 6], c: f64, s: f64) -> [f64; 6]
 {
     let mut out = [0.0; 6];
     for k in 0..p {
-        out[k] = jacobi::turned_second(c, s, x[k], y[k]);
+        out[k] = rotation::turned_second(c, s, x[k], y[k]);
     }
     out
 }
@@ -125,7 +125,7 @@ fn pair_tangent(p: usize, m: [[f64; 6]; 6], i: usize, j: usize, g: f64) -> f64
     requires { ⌜ (p ≤ 6) × (i < 6) × (j < 6) ⌝ }
     ensures { λ r. ⌜ r ≡ tangent floats (ratio floats (rowDot p m i i) (rowDot p m j j) g) ⌝ }
 {
-    jacobi::tangent(jacobi::ratio(row_dot(p, m, i, i), row_dot(p, m, j, j), g))
+    rotation::tangent(rotation::ratio(row_dot(p, m, i, i), row_dot(p, m, j, j), g))
 }
 
 // The pair (i, j), turned unless its dot product is zero.
@@ -138,8 +138,8 @@ pub fn turn_pair(p: usize, i: usize, j: usize, m: [[f64; 6]; 6]) -> [[f64; 6]; 6
         return m;
     }
     let t = pair_tangent(p, m, i, j, g);
-    let c = jacobi::cosine(t);
-    let s = jacobi::sine(t, c);
+    let c = rotation::cosine(t);
+    let s = rotation::sine(t, c);
     turn_rows(p, i, j, c, s, m)
 }
 

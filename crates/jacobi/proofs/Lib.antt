@@ -1,3 +1,2 @@
--- The laws of the rotations, for any kind of number.
-pub mod Cells
-pub mod Rotations
+-- The laws of the sweeps, for any kind of number.
+pub mod Counts

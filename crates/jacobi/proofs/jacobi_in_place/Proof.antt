@@ -1,6 +1,6 @@
 -- `jacobi::jacobi_in_place` meets its contract.
 use Rattle.algebra.specs.Kind.{floats}
-use Rattle.jacobi.proofs.Rotations.{jacobi-is}
+use Rattle.jacobi.proofs.Counts.{jacobi-is}
 use borrow.Author.Needs.{needs}
 use Rattle.jacobi.proofs.jacobi_in_place.Statement.{statement}
 use Rattle.jacobi.proofs.jacobi_in_place.Tie as tie

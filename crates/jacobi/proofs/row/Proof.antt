@@ -5,7 +5,7 @@ use Rattle.arithmetic.specs.Numbers.{plusZero}
 use Rattle.algebra.specs.Kind.{floats}
 use Rattle.algebra.specs.Jacobi.{rowTo}
 use Rattle.algebra.proofs.FoldLaws.{fold-start, fold-next, fold-end}
-use Rattle.jacobi.proofs.Rotations.{row-limit}
+use Rattle.jacobi.proofs.Counts.{row-limit}
 use native.Mathlib.Omega.{arith}
 use Rattle.jacobi.proofs.row.Statement.{statement}
 use Rattle.jacobi.proofs.row.Tie as tie

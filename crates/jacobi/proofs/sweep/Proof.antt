@@ -5,7 +5,7 @@ use Rattle.arithmetic.specs.Numbers.{plusZero}
 use Rattle.algebra.specs.Kind.{floats}
 use Rattle.algebra.specs.Jacobi.{sweepTo}
 use Rattle.algebra.proofs.FoldLaws.{fold-start, fold-next, fold-end}
-use Rattle.jacobi.proofs.Rotations.{sweep-limit}
+use Rattle.jacobi.proofs.Counts.{sweep-limit}
 use native.Mathlib.Omega.{arith}
 use Rattle.jacobi.proofs.sweep.Statement.{statement}
 use Rattle.jacobi.proofs.sweep.Tie as tie

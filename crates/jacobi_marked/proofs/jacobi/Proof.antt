@@ -1,6 +1,6 @@
 -- `jacobi_marked::jacobi` meets its contract.
 use Rattle.algebra.specs.Kind.{marks}
-use Rattle.jacobi.proofs.Rotations.{jacobi-is}
+use Rattle.jacobi.proofs.Counts.{jacobi-is}
 use borrow.Author.Needs.{needs}
 use Rattle.jacobi_marked.proofs.jacobi.Statement.{statement}
 use Rattle.jacobi_marked.proofs.jacobi.Tie as tie

@@ -1,6 +1,6 @@
 -- `jacobi_marked::rotate_tested` meets its contract.
 use Rattle.algebra.specs.Kind.{marks}
-use Rattle.jacobi.proofs.Rotations.{tested-yes, tested-no, seen-is}
+use Rattle.tested_rotation.proofs.Tests.{tested-yes, tested-no, seen-is}
 use borrow.Author.Needs.{needs}
 use Rattle.jacobi_marked.proofs.rotate_tested.Statement.{statement}
 use Rattle.jacobi_marked.proofs.rotate_tested.Tie as tie

@@ -1,7 +1,7 @@
 -- `jacobi_marked::rotated_cell` meets its contract.
 use lib.Ieee.{ofBits}
 use Rattle.algebra.specs.Kind.{marks}
-use Rattle.jacobi.proofs.Cells.{first-diagonal, first-cleared, first-mirror, second-diagonal, second-cleared, second-mirror, elsewhere}
+use Rattle.tested_rotation.proofs.Cells.{first-diagonal, first-cleared, first-mirror, second-diagonal, second-cleared, second-mirror, elsewhere}
 use borrow.Author.Needs.{needs}
 use Rattle.jacobi_marked.proofs.rotated_cell.Statement.{statement}
 use Rattle.jacobi_marked.proofs.rotated_cell.Tie as tie

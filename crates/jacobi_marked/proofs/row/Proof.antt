@@ -5,7 +5,7 @@ use Rattle.algebra.specs.Kind.{marks}
 use Rattle.algebra.specs.Jacobi.{rowTo}
 use Rattle.algebra.proofs.FoldLaws.{fold-start, fold-next, fold-end}
 use Rattle.jacobi.specs.States.{markedState}
-use Rattle.jacobi.proofs.Rotations.{row-limit}
+use Rattle.jacobi.proofs.Counts.{row-limit}
 use native.Mathlib.Omega.{arith}
 use Rattle.jacobi_marked.proofs.row.Statement.{statement}
 use Rattle.jacobi_marked.proofs.row.Tie as tie

@@ -5,7 +5,7 @@ use Rattle.algebra.specs.Kind.{marks}
 use Rattle.algebra.specs.Jacobi.{sweepTo}
 use Rattle.algebra.proofs.FoldLaws.{fold-start, fold-next, fold-end}
 use Rattle.jacobi.specs.States.{markedState}
-use Rattle.jacobi.proofs.Rotations.{sweep-limit}
+use Rattle.jacobi.proofs.Counts.{sweep-limit}
 use native.Mathlib.Omega.{arith}
 use Rattle.jacobi_marked.proofs.sweep.Statement.{statement}
 use Rattle.jacobi_marked.proofs.sweep.Tie as tie

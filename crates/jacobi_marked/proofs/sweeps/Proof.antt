@@ -5,7 +5,7 @@ use Rattle.algebra.specs.Kind.{marks}
 use Rattle.algebra.specs.Jacobi.{sweepsTo}
 use Rattle.algebra.proofs.FoldLaws.{fold-start, fold-next, fold-end}
 use Rattle.jacobi.specs.States.{markedState}
-use Rattle.jacobi.proofs.Rotations.{sweeps-limit}
+use Rattle.jacobi.proofs.Counts.{sweeps-limit}
 use native.Mathlib.Omega.{arith}
 use Rattle.jacobi_marked.proofs.sweeps.Statement.{statement}
 use Rattle.jacobi_marked.proofs.sweeps.Tie as tie

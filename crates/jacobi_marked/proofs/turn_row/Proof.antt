@@ -1,6 +1,6 @@
 -- `jacobi_marked::turn_row` meets its contract.
 use Rattle.algebra.specs.Kind.{marks}
-use Rattle.jacobi.proofs.Rotations.{turn-row-is}
+use Rattle.rotation.proofs.Turns.{turn-row-is}
 use borrow.Author.Needs.{needs}
 use Rattle.jacobi_marked.proofs.turn_row.Statement.{statement}
 use Rattle.jacobi_marked.proofs.turn_row.Tie as tie

@@ -1,0 +1,2 @@
+-- The laws of one rotation, for any kind of number.
+pub mod Turns
