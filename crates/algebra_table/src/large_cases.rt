@@ -57,7 +57,7 @@ fn gram(work: &mut [f64], d: usize, p: usize, n: usize)
     requires { ⌜ (length (now work) ≡ 3456) × (n ≤ 24) × (p + 576 ≤ d) × (d ≤ 2880) ⌝ }
     ensures { λ r. ⌜ length (now (work .exit)) ≡ 3456 ⌝ }
 {
-    large::whole::gram(work, d, 24, p, 24, n, n);
+    large_products::whole::gram(work, d, 24, p, 24, n, n);
 }
 
 // The matrix at 1152 becomes that at 576; the matrix at 1728 becomes three quarters of it.
@@ -65,21 +65,21 @@ fn copied(work: &mut [f64], n: usize)
     requires { ⌜ (length (now work) ≡ 3456) × (n ≤ 24) ⌝ }
     ensures { λ r. ⌜ length (now (work .exit)) ≡ 3456 ⌝ }
 {
-    large::whole::copy(work, 1152, 24, 576, 24, n, n);
+    large_products::whole::copy(work, 1152, 24, 576, 24, n, n);
 }
 
 fn cleared(work: &mut [f64], n: usize)
     requires { ⌜ (length (now work) ≡ 3456) × (n ≤ 24) ⌝ }
     ensures { λ r. ⌜ length (now (work .exit)) ≡ 3456 ⌝ }
 {
-    large::whole::clear(work, 1728, 24, n, n);
+    large_products::whole::clear(work, 1728, 24, n, n);
 }
 
 fn gained(work: &mut [f64], n: usize)
     requires { ⌜ (length (now work) ≡ 3456) × (n ≤ 24) ⌝ }
     ensures { λ r. ⌜ length (now (work .exit)) ≡ 3456 ⌝ }
 {
-    large::whole::add_times(work, 1728, 24, 576, 24, n, n, 0.75);
+    large_products::whole::add_times(work, 1728, 24, 576, 24, n, n, 0.75);
 }
 
 // The Cholesky factor in the place of the matrix at 1152; whether it is refused.
@@ -87,14 +87,14 @@ fn factored(work: &mut [f64], n: usize) -> bool
     requires { ⌜ (length (now work) ≡ 3456) × (n ≤ 24) ⌝ }
     ensures { λ r. ⌜ length (now (work .exit)) ≡ 3456 ⌝ }
 {
-    large::factor::cholesky(work, 1152, 24, n)
+    large_factor::cholesky(work, 1152, 24, n)
 }
 
 fn lower(work: &mut [f64], n: usize)
     requires { ⌜ (length (now work) ≡ 3456) × (n ≤ 24) ⌝ }
     ensures { λ r. ⌜ length (now (work .exit)) ≡ 3456 ⌝ }
 {
-    large::factor::zero_above(work, 1152, 24, n);
+    large_factor::zero_above(work, 1152, 24, n);
 }
 
 // The inverse of the matrix at 1152, at 0, by elimination in the two squares from 1728 on.
@@ -102,7 +102,7 @@ fn inverted(work: &mut [f64], n: usize) -> bool
     requires { ⌜ (length (now work) ≡ 3456) × (n ≤ 24) ⌝ }
     ensures { λ r. ⌜ length (now (work .exit)) ≡ 3456 ⌝ }
 {
-    large::back::invert(work, 0, 24, 1728, 48, 1152, 24, n)
+    large_inverse::back::invert(work, 0, 24, 1728, 48, 1152, 24, n)
 }
 
 // The matrix at 576 times that at 2880, at 1728.
@@ -110,7 +110,7 @@ fn multiplied(work: &mut [f64], n: usize)
     requires { ⌜ (length (now work) ≡ 3456) × (n ≤ 24) ⌝ }
     ensures { λ r. ⌜ length (now (work .exit)) ≡ 3456 ⌝ }
 {
-    large::whole::product(work, 1728, 24, 576, 24, 2880, 24, n, n, n);
+    large_products::whole::product(work, 1728, 24, 576, 24, 2880, 24, n, n, n);
 }
 
 // The matrix at 2880 times the first three columns of the square at 0, taken as a narrow matrix.
@@ -118,7 +118,7 @@ fn narrowed(work: &[f64], n: usize)
     requires { ⌜ (length (now work) ≡ 3456) × (n ≤ 24) ⌝ }
 {
     let mut out = [0.0; 144];
-    large::narrow::times_narrow(
+    large_products::narrow::times_narrow(
         &mut out,
         0,
         6,
@@ -180,7 +180,7 @@ fn products(work: &mut [f64], n: usize)
     square(work, 2880, n);
     multiplied(work, n);
     square(work, 1728, n);
-    print::number(large::narrow::cross_sum(work, 576, 24, 2880, 24, n));
+    print::number(large_products::narrow::cross_sum(work, 576, 24, 2880, 24, n));
     narrowed(work, n);
 }
 

@@ -26,7 +26,7 @@ pub fn fill_o(
     requires { ⌜ Holds 6 d n p (length (now narrow)) × Holds s a n n (length (now work)) × Holds xs 0 n p (length (now x)) ⌝ }
     ensures { λ e. ⌜ now (narrow .exit) ≡ putRows 6 d n p (oRows n p (rowsAt s a n n (now (work .entry))) (rowsAt xs 0 n p (now (x .entry)))) (now (narrow .entry)) ⌝ }
 {
-    large::narrow::times_narrow(narrow, d, 6, work, a, s, x, 0, xs, n, n, p);
+    large_products::narrow::times_narrow(narrow, d, 6, work, a, s, x, 0, xs, n, n, p);
 }
 
 // Cell (a, b) of OᵀT, with O at o and T at t.
@@ -62,7 +62,7 @@ pub fn k_of(work: &[f64], p: usize, q: usize, s: usize, n: usize) -> f64
     requires { ⌜ Holds s p n n (length (now work)) × Holds s q n n (length (now work)) ⌝ }
     ensures { λ x. ⌜ x ≡ kCell n (rowsAt s p n n (now (work .entry))) (rowsAt s q n n (now (work .entry))) ⌝ }
 {
-    large::narrow::cross_sum(work, p, s, q, s, n)
+    large_products::narrow::cross_sum(work, p, s, q, s, n)
 }
 
 // The row at d gains, for each k by rising index, cell (k, a) of the narrow matrix at o times row k of the matrix at q.
@@ -84,7 +84,7 @@ pub fn gain_turned(
         let u = start(o, 6, k, n, p, narrow.len());
         let b = start(q, s, k, n, n, work.len());
         let f = narrow[u + a];
-        large::narrow::gain_from(narrow, d, work, b, n, f);
+        large_products::narrow::gain_from(narrow, d, work, b, n, f);
     }
 }
 

@@ -17,8 +17,8 @@ use Rattle.large.specs.Slab.{rowsAt, putRow, putRows, gramOf, Holds, Apart}
 use Rattle.large.specs.Steps.{backOver}
 use Rattle.large.proofs.SlabLaws.{Shape, shape-rowsAt, shape-table, row-in, row-fits, InRow, within, beyond, in-row, putRow-at, putRow-other, length-putRow, putRows-at, putRows-other, length-putRows, putRows-is}
 use Rattle.large.proofs.InPlace.{put-turn, read-now}
-use Rattle.large.proofs.FactorLaws.{shape-cholesky}
-use Rattle.large.proofs.BackLaws.{shape-back}
+use Rattle.large_factor.proofs.FactorLaws.{shape-cholesky}
+use Rattle.large_inverse.proofs.BackLaws.{shape-back}
 use Rattle.adjustment.specs.Covariance.{Rows, Design, sigmaCell, sigmaRows, cholesky, notDefinite, inverseFactor, inverseFactorRefused, precision}
 use Rattle.adjustment.specs.Adjusted.{precisionOf}
 use Rattle.kr_vcov_adj.specs.Work.{square, zeros, precisionIn}

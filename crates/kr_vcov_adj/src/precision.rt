@@ -24,9 +24,9 @@ pub fn fill_factor(work: &mut [f64], s: usize, n: usize) -> bool
 {
     let a = square_at(s, 0, work.len());
     let b = square_at(s, 2, work.len());
-    large::whole::copy(work, b, s, a, s, n, n);
-    let z = large::factor::cholesky(work, b, s, n);
-    large::factor::zero_above(work, b, s, n);
+    large_products::whole::copy(work, b, s, a, s, n, n);
+    let z = large_factor::cholesky(work, b, s, n);
+    large_factor::zero_above(work, b, s, n);
     z
 }
 
@@ -39,7 +39,7 @@ pub fn fill_inverse(work: &mut [f64], s: usize, n: usize) -> bool
     let l = square_at(s, 2, work.len());
     let b = square_at(s, 3, work.len());
     let a = square_at(s, 4, work.len());
-    large::back::invert(work, b, s, a, s + s, l, s, n)
+    large_inverse::back::invert(work, b, s, a, s + s, l, s, n)
 }
 
 // Square 1 becomes S = L⁻ᵀL⁻¹, of L⁻¹ in square 3.
@@ -49,7 +49,7 @@ pub fn fill_precision(work: &mut [f64], s: usize, n: usize)
 {
     let a = square_at(s, 1, work.len());
     let b = square_at(s, 3, work.len());
-    large::whole::gram(work, a, s, b, s, n, n);
+    large_products::whole::gram(work, a, s, b, s, n, n);
 }
 
 // Σ in square 0 and S in square 1, of a work slice that is cleared first, and ends as zeros elsewhere. A refusal, 9 or 10, leaves zeros alone.

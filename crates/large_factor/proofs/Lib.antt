@@ -1,0 +1,2 @@
+-- The laws of the Cholesky factor in place.
+pub mod FactorLaws

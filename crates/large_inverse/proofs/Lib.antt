@@ -1,0 +1,4 @@
+-- The laws of the inverse of a large matrix.
+pub mod EliminationLaws
+pub mod BackLaws
+pub mod InverseLaws

@@ -1,0 +1,2 @@
+-- The laws of a large matrix times a narrow one.
+pub mod NarrowLaws
