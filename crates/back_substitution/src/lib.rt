@@ -3,36 +3,21 @@ ghost use mathlib.Core.Path.{_≡_};
 ghost use Prim.Native.Nat.{_+_, _<_, _≤_};
 ghost use Rattle.algebra.specs.Kind.{floats, nil};
 ghost use Rattle.algebra.specs.Table.{row};
-ghost use Rattle.algebra.specs.Elimination.{backSum, backCell, backTo};
+ghost use Rattle.algebra.specs.Elimination.{backTo};
+ghost use Rattle.back_substitution.specs.Parts.{lessKnown, knownCell};
 
-// Cell (i, k) of B less the known terms, by rising index.
-fn back_sum(m: [[f64; 12]; 6], x: [[f64; 6]; 6], n: usize, i: usize, k: usize) -> f64
-    requires { ⌜ (n ≤ 6) × (i < n) × (k < 6) ⌝ }
-    ensures { λ q. ⌜ q ≡ backSum floats n n m x i k ⌝ }
-{
-    let mut sum = m[i][n + k];
-    for j in i + 1..n {
-        sum = sum - m[i][j] * x[j][k];
-    }
-    sum
-}
-
-// Cell (i, k) of X, from the rows of X below i.
-fn back_cell(m: [[f64; 12]; 6], x: [[f64; 6]; 6], n: usize, i: usize, k: usize) -> f64
-    requires { ⌜ (n ≤ 6) × (i < n) × (k < 6) ⌝ }
-    ensures { λ q. ⌜ q ≡ backCell floats n m x i k ⌝ }
-{
-    let sum = back_sum(m, x, n, i, k);
-    sum / m[i][i]
-}
-
-fn back_row(m: [[f64; 12]; 6], x: [[f64; 6]; 6], n: usize, cols: usize, i: usize) -> [f64; 6]
+// Row i of X, from the rows of X below i: each cell of B less the known terms, by rising index, over the pivot. `a` is row i of A and B side by side.
+fn back_row(a: [f64; 12], x: [[f64; 6]; 6], n: usize, cols: usize, i: usize) -> [f64; 6]
     requires { ⌜ (n ≤ 6) × (i < n) × (cols ≤ 6) ⌝ }
-    ensures { λ q. ⌜ q ≡ row (nil floats) 6 cols (backCell floats n m x i) ⌝ }
+    ensures { λ q. ⌜ q ≡ row (nil floats) 6 cols (knownCell floats n a x i) ⌝ }
 {
     let mut out = [0.0; 6];
     for k in 0..cols {
-        out[k] = back_cell(m, x, n, i, k);
+        let mut sum = a[n + k];
+        for j in i + 1..n {
+            sum = sum - a[j] * x[j][k];
+        }
+        out[k] = sum / a[i];
     }
     out
 }
@@ -45,7 +30,7 @@ pub fn back(m: [[f64; 12]; 6], n: usize, cols: usize) -> [[f64; 6]; 6]
     let mut x = [[0.0; 6]; 6];
     for d in 0..n {
         let i = n - 1 - d;
-        x[i] = back_row(m, x, n, cols, i);
+        x[i] = back_row(m[i], x, n, cols, i);
     }
     x
 }
