@@ -17,7 +17,7 @@ use Rattle.arithmetic.specs.Numbers.{ofCount}
 use Rattle.arithmetic.proofs.PlainLaws.{count-exact}
 use Rattle.algebra.proofs.FoldLaws.{fold-steps}
 use Rattle.products.specs.Small.{values}
-use Rattle.contrast_basis.specs.Order.{indexAt}
+use Rattle.falling_order.specs.Order.{indexAt}
 use Rattle.contrast_basis.specs.Basis.{Rows, Basis, divided, sweepsTo, norms, singular, tolerance, rankOf, contrastBasis}
 use Rattle.contrast_basis.proofs.RankRounding.{fl, fl-le, Near, fl-near}
 use Rattle.contrast_basis.proofs.RankUnits.{unit, unit-pos, Is, lt-units, mul-rounds, rounded}

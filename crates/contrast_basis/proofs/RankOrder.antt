@@ -11,7 +11,7 @@ use lib.ListN.{getD}
 use lib.Ieee.{Float, nan, eq}
 use borrow.Author.Tests.{lt-ltb, le-ltb, eq-eqb, eqb-true}
 use Rattle.algebra.proofs.FoldLaws.{fold-steps, fold-keeps}
-use Rattle.contrast_basis.specs.Order.{comesBefore, placeIn, indexAt}
+use Rattle.falling_order.specs.Order.{comesBefore, placeIn, indexAt}
 use Rattle.contrast_basis.proofs.RankUnits.{Is, lt-units, eq-units}
 
 -- the first of the largest of n numbers

@@ -18,7 +18,7 @@ use Rattle.algebra.specs.Kind.{floats}
 use Rattle.algebra.specs.Product.{at, sum}
 use Rattle.algebra.specs.Jacobi.{ratio, tangent, cosine, sine, turnedFirst, turnedSecond}
 use Rattle.products.specs.Small.{values, allMarks}
-use Rattle.contrast_basis.specs.Order.{indexAt}
+use Rattle.falling_order.specs.Order.{indexAt}
 
 abbrev pub Rows : Type 0
 Rows = List (List Float)

@@ -1,3 +1,2 @@
--- Document 01, "kr_modcomp.rs": the contrast basis, and falling order with ties by index. Definitions alone.
-pub mod Order
+-- Document 01, "kr_modcomp.rs": the contrast basis. Definitions alone.
 pub mod Basis

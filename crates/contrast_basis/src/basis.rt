@@ -11,16 +11,16 @@ ghost use Rattle.algebra.specs.Table.{row};
 ghost use Rattle.algebra.specs.Kind.{floats};
 ghost use Rattle.algebra.specs.Product.{at};
 ghost use Rattle.algebra.specs.Jacobi.{ratio, tangent, turnedFirst, turnedSecond};
-ghost use Rattle.contrast_basis.specs.Order.{indexAt};
+ghost use Rattle.falling_order.specs.Order.{indexAt};
 ghost use Rattle.contrast_basis.specs.Basis.{largest, dividedCell, divided, rowDot, turnRows, turnPair, pairsTo, sweepTo, sweepsTo, norms, singular, tolerance, rankOf, basisRows, contrastBasis};
-use crate::order::counted;
-use crate::order::index_at;
 use arithmetic::Marked;
 use arithmetic::plain::is_zero;
 use arithmetic::plain::magnitude;
 use arithmetic::plain::of_count;
 use arithmetic::root::sqrt;
 use arithmetic::step::given;
+use falling_order::counted;
+use falling_order::index_at;
 
 // 2^-52, the distance from 1 to the next number.
 const EPSILON: f64 = 2.220446049250313e-16;

@@ -1,3 +1,2 @@
-// The contrast basis (kr_modcomp), and the falling order of singular values and of eigenvalues.
+// The contrast basis (kr_modcomp).
 pub mod basis;
-pub mod order;

@@ -30,7 +30,7 @@ use Rattle.algebra.proofs.FoldLaws.{fold-both, fold-steps}
 use Rattle.algebra.proofs.TableLaws.{table-at}
 use Rattle.algebra.proofs.MovingCells.{MovesCells, table-moves, alike-over, less-agrees, cond-two, cond-both}
 use Rattle.products.specs.Small.{values, allMarks}
-use Rattle.contrast_basis.specs.Order.{indexAt}
+use Rattle.falling_order.specs.Order.{indexAt}
 use Rattle.contrast_basis.specs.Basis.{Rows, Basis, largest, dividedCell, divided, sweepsTo, norms, singular, rankOf, basisRows, contrastBasis}
 use Rattle.contrast_basis.proofs.Rank.{rank-most}
 use Rattle.converter.specs.Converted.{WrittenCells}

@@ -18,7 +18,7 @@ use Rattle.adjustment.specs.Cutoffs.{decimal, documentCutoffs}
 use Rattle.answers.specs.declared.Number.the-variants.{Is, None}
 use Rattle.answers.specs.declared.Entry.{Entry}
 use Rattle.answers.specs.Answer.{numberOf}
-use Rattle.contrast_basis.specs.Order.{comesBefore, placeIn, indexAt}
+use Rattle.falling_order.specs.Order.{comesBefore, placeIn, indexAt}
 use Rattle.ddf.specs.VarianceDf.{isPositive, relativeGradient, relativeVariance, dfOfRelative, varianceDf, gradientSeen}
 use Rattle.ddf.specs.PooledDf.{tolerance, allWithin, anyLow, expected, pooled, getFstatDdf}
 use Rattle.ddf.specs.Satterthwaite.{column, contrastOf, transformed, transformedAll, squareOne, gradientOne, eigenvalues, notPositive, variancesOf, directionsOf, projected, squaresOver, turnedAll, gradientAt, capped, componentDf, componentDfs, anyNone, severalDf, componentsSeen, stackSeen, Inputs, Outcome, ldRows, vRows, jStack, turned, variances, directions, jxStack, fOne, fSeveral, dfOne, dfSeveral, startSeen, seenOne, seenSeveral, oneRow, severalRows, satterthwaite}

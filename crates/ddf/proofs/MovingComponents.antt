@@ -24,7 +24,7 @@ use Rattle.algebra.proofs.MovingProducts.{sum-moves, cell-moves, product-moves,
 use Rattle.products.specs.Small.{givenCells, allMarks}
 use Rattle.adjustment.specs.declared.Cutoffs.{Cutoffs}
 use Rattle.answers.specs.Answer.{floatOf}
-use Rattle.contrast_basis.specs.Order.{indexAt}
+use Rattle.falling_order.specs.Order.{indexAt}
 use Rattle.ddf.specs.VarianceDf.{entryAt, isPositive, varianceDf, gradientSeen}
 use Rattle.ddf.specs.Satterthwaite.{Rows, MarkedRows, column, contrastOf, transformed, transformedAll, squareOne, gradientOne, eigenvalues, notPositive, variancesOf, directionsOf, projected, squaresOver, turnedAll, gradientAt, capped, componentDf, componentDfs, componentsSeen, stackSeen}
 use Rattle.products.proofs.MovingSmall.{cells-by, given-cells, sandwich-moves, allMarks-first, allMarks-cells}

@@ -13,7 +13,7 @@ use Rattle.arithmetic.proofs.ScaleLaws.{eq-scale}
 use Rattle.algebra.specs.Fold.{fold}
 use Rattle.algebra.proofs.FoldLaws.{fold-ext, fold-keeps}
 use Rattle.algebra.proofs.MovingCells.{less-agrees, cond-both}
-use Rattle.contrast_basis.specs.Order.{comesBefore, placeIn, indexAt}
+use Rattle.falling_order.specs.Order.{comesBefore, placeIn, indexAt}
 
 pub equal-agrees : (u : ℤ) (x y x' y' : Float) → Tied u x x' → Tied u y y' → eq x' y' ≡ eq x y
 equal-agrees u x y x' y' p q = rw (p .moved, q .moved) (eq-scale u x y)

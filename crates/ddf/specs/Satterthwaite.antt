@@ -20,7 +20,7 @@ use Rattle.answers.specs.declared.Number.{Number}
 use Rattle.answers.specs.declared.Number.the-variants.{Is, None}
 use Rattle.answers.specs.declared.Entry.{Entry}
 use Rattle.answers.specs.Answer.{numberOf, floatOf}
-use Rattle.contrast_basis.specs.Order.{indexAt}
+use Rattle.falling_order.specs.Order.{indexAt}
 use Rattle.ddf.specs.VarianceDf.{entryAt, isPositive, varianceDf, gradientSeen}
 use Rattle.ddf.specs.PooledDf.{tolerance, getFstatDdf}
 

@@ -6,7 +6,7 @@ use Rattle.algebra.specs.Table.{table}
 use Rattle.algebra.specs.Kind.{floats}
 use Rattle.algebra.specs.Product.{at}
 use Rattle.arithmetic.specs.Numbers.{plusZero}
-use Rattle.contrast_basis.specs.Order.{indexAt}
+use Rattle.falling_order.specs.Order.{indexAt}
 use Rattle.contrast_basis.specs.Basis.{singular, basisRows}
 use Rattle.algebra.proofs.TableLaws.{table-none, Filling, filling-none, filling-more, filling-row}
 use Rattle.products.proofs.LoopLaws.{table-end}

@@ -11,7 +11,7 @@ use Rattle.algebra.specs.Kind.{marks}
 use Rattle.algebra.specs.Product.{at}
 use Rattle.products.proofs.LoopLaws.{table-end}
 use Rattle.algebra.proofs.TableLaws.{Filling, table-none, filling-none, filling-more, filling-row}
-use Rattle.contrast_basis.specs.Order.{indexAt}
+use Rattle.falling_order.specs.Order.{indexAt}
 use Rattle.ddf.specs.Satterthwaite.{directionsOf}
 use borrow.Author.Needs.{needs}
 use native.Mathlib.Omega.{arith}

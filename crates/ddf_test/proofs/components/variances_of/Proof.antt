@@ -10,7 +10,7 @@ use Rattle.algebra.specs.Table.{row}
 use Rattle.algebra.specs.Kind.{marks}
 use Rattle.algebra.specs.Product.{at}
 use Rattle.algebra.proofs.FoldLaws.{fold-start, fold-next, fold-end}
-use Rattle.contrast_basis.specs.Order.{indexAt}
+use Rattle.falling_order.specs.Order.{indexAt}
 use Rattle.ddf.specs.Satterthwaite.{variancesOf}
 use borrow.Author.Needs.{needs}
 use native.Mathlib.Omega.{arith}

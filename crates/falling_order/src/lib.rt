@@ -3,7 +3,7 @@ ghost use mathlib.Core.Path.{_≡_};
 ghost use mathlib.Core.Bool.{cond};
 ghost use Prim.Native.Nat.{_+_, _<_, _≤_};
 ghost use lib.Dec.{eqb};
-ghost use Rattle.contrast_basis.specs.Order.{comesBefore, placeIn, indexAt};
+ghost use Rattle.falling_order.specs.Order.{comesBefore, placeIn, indexAt};
 
 // Whether number j stands before number i: it is larger, or equal with the lower index.
 pub fn comes_before(xs: [f64; 6], j: usize, i: usize) -> bool

@@ -1,14 +1,14 @@
--- `contrast_basis::order::index_at` meets its contract.
+-- `falling_order::index_at` meets its contract.
 use Prim.Native.Nat.{_≤_, _<_, _-_}
 use mathlib.Core.Path.{_≡_}
 use mathlib.Core.Bool.{cond}
 use lib.Dec.{eqb}
 use Rattle.algebra.specs.Fold.{fold}
-use Rattle.contrast_basis.specs.Order.{placeIn, indexAt}
+use Rattle.falling_order.specs.Order.{placeIn, indexAt}
 use Rattle.algebra.proofs.FoldLaws.{fold-start, fold-next, fold-end}
 use native.Mathlib.Omega.{arith}
-use Rattle.contrast_basis.proofs.order.index_at.Statement.{statement}
-use Rattle.contrast_basis.proofs.order.index_at.Tie as tie
+use Rattle.falling_order.proofs.index_at.Statement.{statement}
+use Rattle.falling_order.proofs.index_at.Tie as tie
 
 abbrev Inv-loop : tie.InvT-loop
 Inv-loop n xs k found₀ i₀ found i = (i ≤ n) × (found < 6) × (found ≡ fold 0 i (λ i found. cond (eqb (placeIn n xs i) k) i found) 0)

@@ -1,11 +1,11 @@
--- `contrast_basis::order::place_in` meets its contract.
+-- `falling_order::place_in` meets its contract.
 use Prim.Native.Nat.{_≤_, _-_}
 use mathlib.Core.Path.{_≡_}
-use Rattle.contrast_basis.specs.Order.{placeIn}
+use Rattle.falling_order.specs.Order.{placeIn}
 use Rattle.algebra.proofs.FoldLaws.{fold-start, fold-next, fold-end}
 use native.Mathlib.Omega.{arith}
-use Rattle.contrast_basis.proofs.order.place_in.Statement.{statement}
-use Rattle.contrast_basis.proofs.order.place_in.Tie as tie
+use Rattle.falling_order.proofs.place_in.Statement.{statement}
+use Rattle.falling_order.proofs.place_in.Tie as tie
 
 abbrev Inv-loop : tie.InvT-loop
 Inv-loop n xs i place₀ j₀ place j = (j ≤ n) × (place ≤ j) × (place ≡ placeIn j xs i)

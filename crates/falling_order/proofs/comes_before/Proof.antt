@@ -1,9 +1,9 @@
--- `contrast_basis::order::comes_before` meets its contract.
+-- `falling_order::comes_before` meets its contract.
 use mathlib.Core.Path.{refl}
-use Rattle.contrast_basis.specs.Order.{comesBefore}
+use Rattle.falling_order.specs.Order.{comesBefore}
 use borrow.Author.Needs.{needs}
-use Rattle.contrast_basis.proofs.order.comes_before.Statement.{statement}
-use Rattle.contrast_basis.proofs.order.comes_before.Tie as tie
+use Rattle.falling_order.proofs.comes_before.Statement.{statement}
+use Rattle.falling_order.proofs.comes_before.Tie as tie
 
 mul-larger : tie.Need-mul-larger
 mul-larger c = search needs

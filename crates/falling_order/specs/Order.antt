@@ -1,4 +1,4 @@
--- Falling order, ties by index: of singular values here, and of eigenvalues.
+-- Falling order, ties by index: of singular values, and of eigenvalues.
 use Prim.Native.Nat.{ℕ, _+_}
 use mathlib.Core.Bool.{Bool, cond, _&&_, _||_}
 use mathlib.Core.List.{List}

@@ -1,8 +1,8 @@
--- `contrast_basis::order::counted` meets its contract.
+-- `falling_order::counted` meets its contract.
 use native.Mathlib.Omega.{arith}
 use borrow.Author.Needs.{needs}
-use Rattle.contrast_basis.proofs.order.counted.Statement.{statement}
-use Rattle.contrast_basis.proofs.order.counted.Tie as tie
+use Rattle.falling_order.proofs.counted.Statement.{statement}
+use Rattle.falling_order.proofs.counted.Tie as tie
 
 add-result : tie.Need-add-result
 add-result c = search needs

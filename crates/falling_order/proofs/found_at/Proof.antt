@@ -1,9 +1,9 @@
--- `contrast_basis::order::found_at` meets its contract.
+-- `falling_order::found_at` meets its contract.
 use borrow.Author.Tests.{eq-eqb, ne-eqb}
 use native.Mathlib.Omega.{arith}
 use borrow.Author.Needs.{needs}
-use Rattle.contrast_basis.proofs.order.found_at.Statement.{statement}
-use Rattle.contrast_basis.proofs.order.found_at.Tie as tie
+use Rattle.falling_order.proofs.found_at.Statement.{statement}
+use Rattle.falling_order.proofs.found_at.Tie as tie
 
 place-in-requires : tie.Need-place-in-requires
 place-in-requires c κs = search needs
