@@ -7,10 +7,11 @@ use lib.Ieee.{Float}
 use Rattle.arithmetic.specs.declared.Marked.{Marked}
 use Rattle.arithmetic.specs.Numbers.{isFinite}
 use Rattle.algebra.specs.Kind.{floats, marks}
-use Rattle.algebra.specs.Product.{at, transpose, plusCells}
+use Rattle.algebra.specs.Product.{at, product, transpose, plusCells, timesNumber}
+use Rattle.algebra.specs.Jacobi.{two}
 use Rattle.adjustment.specs.Covariance.{Rows}
 use Rattle.adjustment.specs.Information.{packed}
-use Rattle.adjustment.specs.Adjusted.{Stack, matrixAt, uTerm, uTermAt, uAbove, uDiagonalTo, uRows, scaledUp, scaledDown, notAllFinite, notAllFiniteMarked, psNotFiniteTo, outputNotFinite}
+use Rattle.adjustment.specs.Adjusted.{Stack, matrixAt, uTerm, uTermAt, uAbove, uDiagonalTo, uRows, phiARows, scaledUp, scaledDown, notAllFinite, notAllFiniteMarked, psNotFiniteTo, outputNotFinite}
 
 -- u with a term added, t by its definition x
 pub plus-is : (p : ℕ) (u t x y : Rows) → t ≡ x → y ≡ plusCells floats 6 6 p p u t → y ≡ plusCells floats 6 6 p p u x
@@ -27,6 +28,12 @@ pub uRows-is : (p N : ℕ) (phi : Rows) (ps qs : Stack) (w above below both out 
     → both ≡ plusCells floats 6 6 p p above below → out ≡ uDiagonalTo p N phi ps qs w N both → out ≡ uRows p N phi ps qs w
 unfolding uRows uDiagonalTo
 uRows-is p N phi ps qs w above below both out e f g h = rw (← e, ← f, ← g) h
+
+-- Φ_A from its products
+pub phiA-is : (p : ℕ) (phi u left gamma twice out : Rows) → left ≡ product floats 6 6 p p p phi u → gamma ≡ product floats 6 6 p p p left phi
+    → twice ≡ timesNumber floats 6 6 p p gamma two → out ≡ plusCells floats 6 6 p p phi twice → out ≡ phiARows p phi u
+unfolding phiARows
+phiA-is p phi u left gamma twice out e f g h = rw (← e, ← f, ← g) h
 
 -- the step of the search for a number that is not finite
 abbrev pub finiteStep : Rows → ℕ → ℕ → Bool → Bool

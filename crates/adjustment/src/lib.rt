@@ -1,6 +1,5 @@
-// The Kenward–Roger covariance adjustment (kr_vcov_adj).
-pub mod adjusted;
-pub mod information;
+// The Kenward–Roger covariance adjustment (kr_vcov_adj): its types and definitions, the packing of the Qs and the lab's small numbers.
+pub mod packing;
 pub mod small_numbers;
 
 // The lab's small numbers, which go by value through every function that looks at one: a2 and d; V0 and V2; the divisor of div; qρ − 1; df near 2;

@@ -1,7 +1,6 @@
 // Document 01's bench examples (a) to (j): a line for each letter, with what the functions give. (k) is run by adjustment_table, the `pulltest` example by pulltest.
 ghost use Prim.Native.Nat.{_≤_};
-use adjustment::adjusted::scaled_up;
-use adjustment::information::index_symmat2vec;
+use adjustment::packing::index_symmat2vec;
 use adjustment::small_numbers::document_cutoffs;
 use answers::Entry;
 use answers::Number;
@@ -9,6 +8,7 @@ use arithmetic::step::given;
 use ddf_test::pooled::get_fstat_ddf;
 use ddf_test::satterthwaite::satterthwaite_contrast_f_test;
 use ddf_test::variance::variance_df;
+use response_units::scaled_up;
 
 fn print_bits(x: f64) {
     io::write_all(1, b" ");

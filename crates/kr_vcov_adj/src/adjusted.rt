@@ -17,7 +17,7 @@ pub fn inverted_of(c: Cutoffs, n: usize, ie: [[f64; 6]; 6], made: &mut usize) ->
 {
     let both = jacobi::jacobi(ie, n, c.rotation, made);
     let eigen = both[0];
-    adjustment::information::inverted(c, n, ie, eigen)
+    ridge::inverted(c, n, ie, eigen)
 }
 
 // Φ_A, from W.
@@ -32,8 +32,8 @@ pub fn phi_a_of(
     requires { ⌜ (p ≤ 6) × (n ≤ 4) ⌝ }
     ensures { λ m. ⌜ m ≡ phiARows p phi (uRows p n phi ps qs w) ⌝ }
 {
-    let u = adjustment::adjusted::u_of(p, n, phi, ps, qs, w);
-    adjustment::adjusted::phi_a(p, phi, u)
+    let u = adjusted_phi::u_of(p, n, phi, ps, qs, w);
+    adjusted_phi::phi_a(p, phi, u)
 }
 
 // From IE on. A refusal, 10 or 4, leaves what is lent as it is.
@@ -61,12 +61,12 @@ pub fn from_information(
     let mut made = 0;
     let m = inverted_of(c, n, ie, &mut made);
     let mut zero_pivot = false;
-    let inverse = adjustment::information::w_of(n, m, &mut zero_pivot);
+    let inverse = information::w_of(n, m, &mut zero_pivot);
     if zero_pivot {
         return 10;
     }
     let adjusted = phi_a_of(p, n, phi, ps, qs, inverse);
-    if adjustment::adjusted::output_not_finite(p, n, phi, sigma2, adjusted, ps, inverse) {
+    if response_units::output_not_finite(p, n, phi, sigma2, adjusted, ps, inverse) {
         return 4;
     }
     *phi_a = adjusted;

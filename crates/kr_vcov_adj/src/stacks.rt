@@ -16,7 +16,7 @@ ghost use Rattle.kr_vcov_adj.specs.Steps.{sAt, hAt, sxAt, oAt, turned, t
 use crate::squares::part_at;
 use crate::squares::square_at;
 use adjustment::Block;
-use adjustment::information::index_symmat2vec;
+use adjustment::packing::index_symmat2vec;
 
 // Square 2 + r becomes H_r, for each r < k, of S in square 1.
 pub fn fill_hs(
@@ -194,7 +194,7 @@ pub fn ie_at(
     let q = qs[at];
     let first = ps[r];
     let second = ps[t];
-    adjustment::information::ie_cell(p, trace, phi, q, first, second)
+    information::ie_cell(p, trace, phi, q, first, second)
 }
 
 // A cell of IE's upper half, and zero below it: no cell is made twice.

@@ -8,7 +8,6 @@ ghost use Rattle.products.specs.Small.{sandwich};
 ghost use Rattle.contrast_basis.specs.Basis.{Rows};
 ghost use Rattle.tests.specs.KenwardRoger.{scaledPs, scalingSeen, difference, thetaOf, uOf, uStack, uValues, uSeen, waldOne, waldOneGiven, waldMany, scaledOf, basisOf, waldOf, waldNumberOf, thetaSeen, waldSeen, entryOf, waldEntry, thetaEntry, tested, unitRow};
 use adjustment::Cutoffs;
-use adjustment::adjusted::scaled_down;
 use answers::Entry;
 use answers::Number;
 use answers::number_of;
@@ -34,6 +33,7 @@ use products_marked::sandwich;
 use products_marked::transpose;
 use products_marked::values;
 use products_marked::zeros;
+use response_units::scaled_down;
 
 // Each of the n matrices P in response units.
 pub fn scaled_ps(ps: [[[f64; 6]; 6]; 4], sigma2: f64, n: usize, p: usize) -> [[[Marked; 6]; 6]; 4]
