@@ -17,6 +17,7 @@ use answers::number_of;
 use arithmetic::plain::is_finite;
 use arithmetic::plain::magnitude;
 use arithmetic::plain::of_count;
+use rho::rho_from;
 
 // W_ij counts once on the diagonal and twice off it, since only i ≤ j is summed.
 pub fn weight(w: [[f64; 6]; 6], i: usize, j: usize) -> f64
@@ -217,8 +218,9 @@ pub fn rho_of(c: Cutoffs, q: usize, a1: f64, a2: f64) -> f64
     requires { ⌜ q ≤ 6 ⌝ }
     ensures { λ r. ⌜ r ≡ rhoOf c q a1 a2 ⌝ }
 {
-    let h = rho_root(c, q, a1, a2);
-    (1.0 / of_count(q)) * (h * h) * rho_factor(c, q, a1, a2)
+    let root = rho_root(c, q, a1, a2);
+    let factor = rho_factor(c, q, a1, a2);
+    rho_from(q, root, factor)
 }
 
 // A df that is positive; zero, a negative number and a NaN are none.
