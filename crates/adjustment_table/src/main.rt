@@ -18,7 +18,7 @@ fn print_adjustment(file: &[u8])
     requires { ⌜ refusal (now file) ≡ 0 ⌝ }
 {
     let z = series::sizes_of(file);
-    let sheet = records::sheet_of(false, file);
+    let sheet = record_sheet::sheet_of(false, file);
     let p = at_most(z.coefficients, 6);
     let n = at_most(z.thetas, 3) + 1;
     let blank = products::zeros();
@@ -45,7 +45,7 @@ fn print_adjustment(file: &[u8])
 // What `pulltest` prints, and whether that is a refusal: no other line begins with an r.
 fn print_tests(file: &[u8]) -> bool {
     let mut out = [0u8; 512];
-    let n = kenward_roger::text(file, &mut out);
+    let n = kr_call::text(file, &mut out);
     io::write_all(1, &out[..n]);
     out[0] == b'r'
 }
@@ -54,7 +54,7 @@ fn print_case(file: &[u8]) {
     if print_tests(file) {
         return;
     }
-    if series::refusal(file) == 0 {
+    if refusals::refusal(file) == 0 {
         print_adjustment(file);
     }
 }

@@ -28,7 +28,7 @@ use Rattle.records.specs.Series.{specimens, coefficients, zColumns, blockCount,
 use Rattle.records.proofs.Sheets.{length-sheet}
 use Rattle.series.specs.declared.Sizes.{Sizes}
 use Rattle.series.specs.Gathered.{sizesOf, Small}
-use Rattle.series.specs.Checks.{numbersAt, sixAt}
+use Rattle.sheet_parts.specs.Parts.{numbersAt, sixAt}
 use Rattle.series.proofs.Gathers.{small}
 use Rattle.series.proofs.Accepted.{Accepted, accepted}
 use Rattle.series.proofs.Numbers.{sigma2-at}

@@ -1,14 +1,14 @@
 // The reader of record files: what a file says, cell by cell. The functions that take `call` read the kinds of Satterthwaite's call where it is
 // true, and those of Kenward and Roger's where it is false.
 ghost use mathlib.Core.Path.{_≡_};
-ghost use mathlib.Core.Bool.{false, cond};
+ghost use mathlib.Core.Bool.{cond};
 ghost use lib.Dec.{eqb};
-ghost use Prim.Native.Nat.{_+_, _≤_, _<_, max};
+ghost use Prim.Native.Nat.{_+_, _<_, max};
 ghost use lib.ListN.{getD};
 ghost use Rattle.records.specs.Scan.{any};
 ghost use Rattle.records.specs.Kinds.{cells, blocks, unread, kindAt, kenwardRoger, satterthwaite};
-ghost use Rattle.records.specs.File.{count, kindOf, rowOf, columnOf, paddingOf, countOf, bitsOf, valueOf, outOf, badRecord, again, rows, columns, notFinite};
-ghost use Rattle.records.specs.Sheet.{tableOf, firstSlot, offset, slotOf, flagsAfter, sheetAfter};
+ghost use Rattle.records.specs.File.{count, kindOf, rowOf, columnOf, paddingOf, countOf, bitsOf, valueOf, rows, columns, notFinite};
+ghost use Rattle.records.specs.Sheet.{tableOf};
 
 // What the records of a kind may name: how many counts, rows and columns. Of a block the count and the column are numbers and no indices.
 pub struct Kind {
@@ -18,7 +18,8 @@ pub struct Kind {
     pub block: bool,
 }
 
-fn index(x: u8) -> usize
+// A byte as an index.
+pub fn index(x: u8) -> usize
     ensures { λ r. ⌜ (r ≡ x) × (r < 256) ⌝ }
 {
     x as usize
@@ -173,56 +174,6 @@ pub fn kind_of(call: bool, kind: u8) -> Kind
     cells(0, 0, 0)
 }
 
-// Record i lies outside what a kind has.
-pub fn out_of(k: Kind, s: &[u8], i: usize) -> bool
-    requires { ⌜ i < count (now s) ⌝ }
-    ensures { λ r. ⌜ r ≡ outOf k (now (s .entry)) i ⌝ }
-{
-    if row_at(s, i) >= k.rows {
-        return true;
-    }
-    if k.block {
-        return false;
-    }
-    if column_at(s, i) >= k.columns {
-        return true;
-    }
-    !(count_at(s, i) < k.counts)
-}
-
-// Record i is of a kind that the call does not read, has a nonzero unused field, or names an index past a limit.
-pub fn bad_record(call: bool, s: &[u8], i: usize) -> bool
-    requires { ⌜ i < count (now s) ⌝ }
-    ensures { λ r. ⌜ r ≡ badRecord (tableOf call) (now (s .entry)) i ⌝ }
-{
-    let k = kind_of(call, kind_at(s, i));
-    if out_of(k, s, i) {
-        return true;
-    }
-    if padding_at(s, i) != 0 {
-        return true;
-    }
-    if k.block {
-        return bits_at(s, i) != 0;
-    }
-    false
-}
-
-// Some record is bad.
-pub fn any_bad(call: bool, s: &[u8]) -> bool
-    ensures { λ r. ⌜ r ≡ any (count (now (s .entry))) (badRecord (tableOf call) (now (s .entry))) ⌝ }
-{
-    let n = s.len() / 16;
-    let mut i = 0;
-    while i < n {
-        if bad_record(call, s, i) {
-            return true;
-        }
-        i += 1;
-    }
-    false
-}
-
 pub fn larger(a: usize, b: usize) -> usize
     ensures { λ r. ⌜ r ≡ max a b ⌝ }
 {
@@ -299,165 +250,4 @@ pub fn any_not_finite(s: &[u8]) -> bool
         i += 1;
     }
     false
-}
-
-// The slots of the kinds before this one, for each call.
-const KENWARD_ROGER_FIRST: [usize; 33] = [
-    0,
-    0,
-    144,
-    720,
-    723,
-    726,
-    750,
-    786,
-    787,
-    793,
-    829,
-    835,
-    835,
-    835,
-    835,
-    835,
-    835,
-    835,
-    835,
-    835,
-    835,
-    835,
-    835,
-    835,
-    835,
-    835,
-    835,
-    835,
-    835,
-    835,
-    835,
-    835,
-    835,
-];
-
-const SATTERTHWAITE_FIRST: [usize; 33] = [
-    0,
-    0,
-    0,
-    0,
-    0,
-    0,
-    0,
-    0,
-    0,
-    6,
-    42,
-    48,
-    48,
-    48,
-    48,
-    48,
-    48,
-    48,
-    48,
-    48,
-    48,
-    48,
-    48,
-    48,
-    48,
-    48,
-    48,
-    48,
-    48,
-    48,
-    48,
-    84,
-    228,
-];
-
-pub fn first_slot(call: bool, kind: u8) -> usize
-    requires { ⌜ kind < 33 ⌝ }
-    ensures { λ r. ⌜ r ≡ firstSlot (tableOf call) kind ⌝ }
-{
-    let k = index(kind);
-    if call {
-        SATTERTHWAITE_FIRST[k]
-    } else {
-        KENWARD_ROGER_FIRST[k]
-    }
-}
-
-// A cell's place among those of its kind.
-fn offset_in(k: Kind, n: usize, r: usize, c: usize) -> usize
-    requires { ⌜ (n ≤ 4294967295) × (r ≤ 255) × (c ≤ 255) × (k .rows ≤ 24) × (k .columns ≤ 24) ⌝ }
-    ensures { λ a. ⌜ a ≡ offset k n r c ⌝ }
-{
-    if k.block {
-        return r;
-    }
-    let rows = k.rows;
-    let columns = k.columns;
-    (n * rows + r) * columns + c
-}
-
-// The slot of record i, which is not bad.
-fn slot_at(call: bool, s: &[u8], i: usize) -> usize
-    requires { ⌜ (i < count (now s)) × (badRecord (tableOf call) (now s) i ≡ false) ⌝ }
-    ensures { λ r. ⌜ (r ≡ slotOf (tableOf call) (now (s .entry)) i) × (r < 835) ⌝ }
-{
-    let kind = kind_at(s, i);
-    let first = first_slot(call, kind);
-    let k = kind_of(call, kind);
-    first + offset_in(k, count_at(s, i), row_at(s, i), column_at(s, i))
-}
-
-// Some record names a cell that an earlier one names. A flag for each cell: a file of more records than cells stops at the first that is there
-// already.
-pub fn any_again(call: bool, s: &[u8]) -> bool
-    requires { ⌜ any (count (now s)) (badRecord (tableOf call) (now s)) ≡ false ⌝ }
-    ensures { λ r. ⌜ r ≡ any (count (now (s .entry))) (again (tableOf call) (now (s .entry))) ⌝ }
-{
-    let n = s.len() / 16;
-    let mut flags = [false; 835];
-    let mut i = 0;
-    while i < n {
-        let at = slot_at(call, s, i);
-        if flags[at] {
-            return true;
-        }
-        flags[at] = true;
-        i += 1;
-    }
-    false
-}
-
-// A flag for each cell that some record names.
-pub fn flags_of(call: bool, s: &[u8]) -> [bool; 835]
-    requires { ⌜ any (count (now s)) (badRecord (tableOf call) (now s)) ≡ false ⌝ }
-    ensures { λ r. ⌜ r ≡ flagsAfter (tableOf call) (now (s .entry)) (count (now (s .entry))) ⌝ }
-{
-    let n = s.len() / 16;
-    let mut flags = [false; 835];
-    let mut i = 0;
-    while i < n {
-        let at = slot_at(call, s, i);
-        flags[at] = true;
-        i += 1;
-    }
-    flags
-}
-
-// The number in each cell, +0 where no record names it.
-pub fn sheet_of(call: bool, s: &[u8]) -> [f64; 835]
-    requires { ⌜ any (count (now s)) (badRecord (tableOf call) (now s)) ≡ false ⌝ }
-    ensures { λ r. ⌜ r ≡ sheetAfter (tableOf call) (now (s .entry)) (count (now (s .entry))) ⌝ }
-{
-    let n = s.len() / 16;
-    let mut sheet = [0.0; 835];
-    let mut i = 0;
-    while i < n {
-        let at = slot_at(call, s, i);
-        sheet[at] = value_at(s, i);
-        i += 1;
-    }
-    sheet
 }

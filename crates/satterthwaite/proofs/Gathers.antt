@@ -17,7 +17,6 @@ use Rattle.records.specs.Sheet.{firstSlot, slots}
 use Rattle.records.proofs.Laws.{any-none}
 use Rattle.records.proofs.Slots.{kind-low, kind-high, kind-small, each-kind}
 use Rattle.records.proofs.Limits.{rows-within, columns-within}
-use Rattle.series.proofs.Gathers.{row-ends}
 use Rattle.satterthwaite.specs.declared.Sizes.{Sizes}
 use Rattle.satterthwaite.specs.Parameters.{sizes}
 use Rattle.satterthwaite.specs.Gathered.{sizesOf, tableFor, Small}
@@ -91,10 +90,7 @@ size-below z h k = go (decLt k 30)
         let m : 30 ≤ k = omega arith in
         rw (kind-high (tableFor z) k m, kind-high satterthwaite k m) (each-below (tableFor z .high) (satterthwaite .high) (high-below z h) (k - 30))
 
--- row i of r, and the last slot of a kind
-pub row-inside : (at i r stride : ℕ) → at + r * stride ≤ 835 → i < r → at + i * stride + stride ≤ 835
-row-inside at i r stride h l = let z = row-ends i r stride l in omega arith
-
+-- the last slot of a kind
 ends : (k : ℕ) → k < 33 → firstSlot satterthwaite k + kindAt satterthwaite k .counts * (kindAt satterthwaite k .rows * kindAt satterthwaite k .columns) ≤ 835
 unfolding any firstSlot total slots kindAt satterthwaite
 ends k l =

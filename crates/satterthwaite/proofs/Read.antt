@@ -19,12 +19,12 @@ use Rattle.records.proofs.Sheets.{cell-value}
 use Rattle.adjustment.specs.declared.Cutoffs.{Cutoffs}
 use Rattle.answers.specs.declared.Entry.{Entry}
 use Rattle.ddf.specs.Satterthwaite.{Rows, Inputs, satterthwaite as test}
-use Rattle.series.specs.Checks.{numbersAt}
+use Rattle.sheet_parts.specs.Parts.{numbersAt, cellsAt, stackAt}
 use Rattle.ddf_test.specs.Parts.{inputsOf}
 use Rattle.satterthwaite.specs.declared.Sizes.{Sizes}
 use Rattle.satterthwaite.specs.Call.{outcome}
 use Rattle.satterthwaite.specs.Parameters.{coefficients, contrastRows, parameters, number, jacobians, inputs}
-use Rattle.satterthwaite.specs.Gathered.{sizesOf, cellsAt, stackAt, inputsFrom}
+use Rattle.satterthwaite.specs.Gathered.{sizesOf, inputsFrom}
 use Rattle.satterthwaite.proofs.Gathers.{small}
 
 -- rows of functions that agree

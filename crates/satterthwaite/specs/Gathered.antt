@@ -3,17 +3,15 @@ use Prim.Native.Nat.{ℕ, _+_, _*_, _%_, _≤_}
 use mathlib.Core.Bool.{Bool, not, cond, _||_}
 use mathlib.Core.List.{List, [], _∷_}
 use lib.Dec.{eqb}
-use lib.ListN.{length, getD, replicate}
-use lib.Ieee.{Float, nan}
-use Rattle.arithmetic.specs.Numbers.{plusZero}
-use Rattle.algebra.specs.Fold.{span}
-use Rattle.algebra.specs.Table.{table, blank}
+use lib.ListN.{length}
+use lib.Ieee.{Float}
 use Rattle.records.specs.Scan.{any}
 use Rattle.records.specs.Kinds.{Table, cells, unread, kindAt, satterthwaite}
 use Rattle.records.specs.File.{count, present, badRecord, again, beyond}
 use Rattle.records.specs.Sheet.{firstSlot}
-use Rattle.series.specs.Checks.{gaps, numbersAt}
-use Rattle.ddf.specs.Satterthwaite.{Rows, Inputs}
+use Rattle.sheet_parts.specs.Parts.{numbersAt, cellsAt, stackAt}
+use Rattle.series.specs.Checks.{gaps}
+use Rattle.ddf.specs.Satterthwaite.{Inputs}
 use Rattle.ddf_test.specs.Parts.{inputsOf}
 use Rattle.satterthwaite.specs.declared.Sizes.{Sizes}
 use Rattle.satterthwaite.specs.Parameters.{coefficients, contrastRows, parameters, sizes, incomplete}
@@ -67,14 +65,7 @@ malformedFile s =
     || any (count s) (beyond (sizes s) s)
     || incomplete s
 
--- ---- the numbers of the sheet from a place on: r rows of c, a stride apart, of six rows of six; n such tables of p rows of p, of four
-unfoldable pub cellsAt : List Float → ℕ → ℕ → ℕ → ℕ → Rows
-cellsAt sheet at stride r c = table plusZero 6 6 r c (λ i j. getD sheet (at + i * stride + j) nan)
-
-unfoldable pub stackAt : List Float → ℕ → ℕ → ℕ → List Rows
-stackAt sheet at n p = span 0 n (λ i. cellsAt sheet (at + i * 36) 6 p p) (replicate 4 (blank plusZero 6 6))
-
--- the first slots of β, contrast, β_H, v, Jacobian and A are 0, 6, 42, 48, 84 and 228
+-- ---- what the test takes, off the sheet: the first slots of β, contrast, β_H, v, Jacobian and A are 0, 6, 42, 48, 84 and 228
 unfoldable pub inputsFrom : List Float → Sizes → Inputs
 inputsFrom sheet z =
     inputsOf (z .coefficients) (z .contrasts) (z .parameters)

@@ -1,28 +1,17 @@
-// The whole Satterthwaite call: the bytes of a file in, a number and an entry out (ddf).
+// What a file of the Satterthwaite call says, and the number that refuses it before anything is computed (ddf).
 ghost use mathlib.Core.Path.{_≡_};
 ghost use Prim.Native.Nat.{_+_, _*_, _≤_, _<_};
 ghost use lib.ListN.{getD};
-ghost use Rattle.adjustment.specs.Cutoffs.{documentCutoffs};
-ghost use Rattle.answers.specs.Answer.{noEntry};
 ghost use Rattle.records.specs.Scan.{any};
 ghost use Rattle.records.specs.Kinds.{unread, kindAt};
 ghost use Rattle.records.specs.File.{count, beyond};
-ghost use Rattle.ddf.specs.Satterthwaite.{satterthwaite};
 ghost use Rattle.satterthwaite.specs.Parameters.{refusal};
-ghost use Rattle.satterthwaite.specs.Gathered.{sizesOf, tableFor, Small, stackGaps, missingIn, malformedFile, cellsAt, stackAt, inputsFrom};
-ghost use Rattle.satterthwaite.specs.Call.{number as fileNumber, entry, returned, written};
-use adjustment::Cutoffs;
-use adjustment::small_numbers::document_cutoffs;
-use answer_bytes::put_entry;
-use answers::Entry;
-use answers::Number;
-use ddf_test::satterthwaite::satterthwaite_contrast_f_test;
+ghost use Rattle.satterthwaite.specs.Gathered.{sizesOf, tableFor, Small, stackGaps, missingIn, malformedFile};
 use records::cells;
 use records::larger;
 use series::any_gap;
 use series::at_least_one;
 use series::given;
-use series::six_at;
 
 // The sizes of a test: coefficients, contrast rows and parameters; whether there is β_H.
 pub struct Sizes {
@@ -97,7 +86,7 @@ fn beyond_at(z: Sizes, s: &[u8], i: usize) -> bool
     requires { ⌜ i < count (now s) ⌝ }
     ensures { λ r. ⌜ r ≡ beyond (tableFor z) (now (s .entry)) i ⌝ }
 {
-    records::out_of(size_of(z, records::kind_at(s, i)), s, i)
+    record_limits::out_of(size_of(z, records::kind_at(s, i)), s, i)
 }
 
 fn any_beyond(z: Sizes, s: &[u8]) -> bool
@@ -144,7 +133,7 @@ fn missing_in(flags: &[bool; 835], z: Sizes, k: u8) -> bool
 {
     let size = size_of(z, k);
     let kind = records::kind_of(true, k);
-    let first = records::first_slot(true, k);
+    let first = record_sheet::first_slot(true, k);
     let stride = kind.columns;
     let step = kind.rows * stride;
     stack_gap(
@@ -179,17 +168,17 @@ fn malformed(s: &[u8]) -> bool
     if s.len() % 16 != 0 {
         return true;
     }
-    if records::any_bad(true, s) {
+    if record_limits::any_bad(true, s) {
         return true;
     }
-    if records::any_again(true, s) {
+    if record_sheet::any_again(true, s) {
         return true;
     }
     let z = sizes_of(s);
     if any_beyond(z, s) {
         return true;
     }
-    let flags = records::flags_of(true, s);
+    let flags = record_sheet::flags_of(true, s);
     any_missing(&flags, z)
 }
 
@@ -203,101 +192,5 @@ pub fn refusal(s: &[u8]) -> u32
     if records::any_not_finite(s) {
         return 4;
     }
-    0
-}
-
-// The r rows of c numbers from `at` on, a stride apart.
-fn cells_at(sheet: &[f64; 835], at: usize, stride: usize, r: usize, c: usize) -> [[f64; 6]; 6]
-    requires { ⌜ (r ≤ 6) × (c ≤ 6) × (c ≤ stride) × (at + r * stride ≤ 835) ⌝ }
-    ensures { λ m. ⌜ m ≡ cellsAt (now (sheet .entry)) at stride r c ⌝ }
-{
-    let mut out = [[0.0; 6]; 6];
-    for i in 0..r {
-        for j in 0..c {
-            out[i][j] = sheet[at + i * stride + j];
-        }
-    }
-    out
-}
-
-// n tables of p rows of p numbers, one after another.
-fn stack_at(sheet: &[f64; 835], at: usize, n: usize, p: usize) -> [[[f64; 6]; 6]; 4]
-    requires { ⌜ (n ≤ 4) × (p ≤ 6) × (at + 144 ≤ 835) ⌝ }
-    ensures { λ r. ⌜ r ≡ stackAt (now (sheet .entry)) at n p ⌝ }
-{
-    let mut out = [[[0.0; 6]; 6]; 4];
-    for i in 0..n {
-        let m = cells_at(sheet, at + i * 36, 6, p, p);
-        out[i] = m;
-    }
-    out
-}
-
-// The test of what the sheet says.
-fn test(c: Cutoffs, sheet: &[f64; 835], z: Sizes, refused: &mut bool) -> Entry
-    requires { ⌜ Small z ⌝ }
-    ensures { λ r. ⌜ r ≡ satterthwaite c (inputsFrom (now (sheet .entry)) z) .entry ⌝ }
-    ensures { λ r. ⌜ now (refused .exit) ≡ satterthwaite c (inputsFrom (now (sheet .entry)) z) .refused ⌝ }
-{
-    let p = z.coefficients;
-    let q = z.contrasts;
-    let n = z.parameters;
-    let beta = six_at(sheet, 0, p);
-    let l = cells_at(sheet, 6, 6, q, p);
-    let beta_h = six_at(sheet, 42, p);
-    let v = cells_at(sheet, 48, 6, p, p);
-    let js = stack_at(sheet, 84, n, p);
-    let a = cells_at(sheet, 228, 4, n, n);
-    satterthwaite_contrast_f_test(c, beta, v, l, js, a, beta_h, p, q, n, refused)
-}
-
-// An entry that is not in use.
-fn no_entry() -> Entry
-    ensures { λ r. ⌜ r ≡ noEntry ⌝ }
-{
-    Entry {
-        f: Number::None,
-        df: Number::None,
-        rank: 0,
-        inside: false,
-    }
-}
-
-// The number of a file, and its entry, which is not in use where the number is not 0.
-pub fn judge(c: Cutoffs, s: &[u8], number: &mut u32) -> Entry
-    ensures { λ r. ⌜ r ≡ entry c (now (s .entry)) ⌝ }
-    ensures { λ r. ⌜ now (number .exit) ≡ fileNumber c (now (s .entry)) ⌝ }
-{
-    let early = refusal(s);
-    if early != 0 {
-        *number = early;
-        return no_entry();
-    }
-    let z = sizes_of(s);
-    let sheet = records::sheet_of(true, s);
-    let mut refused = false;
-    let e = test(c, &sheet, z, &mut refused);
-    if refused {
-        *number = 11;
-        return no_entry();
-    }
-    *number = 0;
-    e
-}
-
-// The call: its number, and the entry's 24 bytes where the number is 0. A refusal leaves the lent bytes as they were.
-pub fn call(records: &[u8], answer: &mut [u8]) -> u32
-    ensures { λ r. ⌜ r ≡ returned documentCutoffs (now (records .entry)) (now (answer .entry)) ⌝ }
-    ensures { λ r. ⌜ now (answer .exit) ≡ written documentCutoffs (now (records .entry)) (now (answer .entry)) ⌝ }
-{
-    if answer.len() != 24 {
-        return 1;
-    }
-    let mut number: u32 = 0;
-    let e = judge(document_cutoffs(), records, &mut number);
-    if number != 0 {
-        return number;
-    }
-    put_entry(answer, 0, e);
     0
 }

@@ -74,9 +74,6 @@ set-bounded (x ∷ l) (suc i) v h f zero = f zero
 set-bounded (x ∷ l) (suc i) v h f (suc b) = set-bounded l i v h (λ j. f (suc j)) b
 
 -- ---- what the sizes leave a kind lies within the kind
-pub row-ends : (i r stride : ℕ) → i < r → i * stride + stride ≤ r * stride
-row-ends i r stride l = let z : (i + 1) * stride ≤ r * stride = mul-le-mul (omega arith) (omega arith) in omega arith
-
 pub record Below (a b : Kind) : Type 0 where
   pub counts : a .counts ≤ b .counts
   pub rows : a .rows ≤ b .rows

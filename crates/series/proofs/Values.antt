@@ -17,7 +17,7 @@ use Rattle.records.specs.File.{count, badRecord}
 use Rattle.records.specs.Sheet.{firstSlot, slots, sheetAfter}
 use Rattle.records.specs.Series.{specimens, coefficients, zColumns, contrastRows, thetas, number, design, phi, beta, betaH, contrast}
 use Rattle.series.specs.Gathered.{sizesOf}
-use Rattle.series.specs.Checks.{numbersAt, sixAt}
+use Rattle.sheet_parts.specs.Parts.{numbersAt, sixAt}
 use Rattle.series.proofs.Gathers.{small}
 use Rattle.series.proofs.Marks.{number-at}
 use Rattle.series.proofs.Numbers.{one-at, six-at}

@@ -6,10 +6,8 @@ use lib.Dec.{eqb, ltb}
 use lib.ListN.{getD}
 use lib.Ieee.{Float, nan, le}
 use Rattle.arithmetic.specs.Numbers.{plusZero, isZero}
-use Rattle.algebra.specs.Table.{row, table}
 use Rattle.adjustment.specs.declared.Block.{Block}
 use Rattle.adjustment.specs.Blocks.{blockAt}
-use Rattle.adjustment.specs.Covariance.{Rows}
 use Rattle.records.specs.Scan.{any, total, first}
 use Rattle.records.specs.Kinds.{kindAt, kenwardRoger}
 use Rattle.records.specs.Sheet.{firstSlot}
@@ -48,13 +46,6 @@ parametersIn blocks n = total n (λ b. parametersOf (blockAt blocks b))
 
 unfoldable pub columnsIn : List Block → ℕ → ℕ
 columnsIn blocks n = total n (λ b. blockAt blocks b .groups * blockAt blocks b .effects)
-
--- the numbers of the sheet from a place on: n of C, and r rows of c, of six rows of six
-unfoldable pub numbersAt : List Float → ℕ → ℕ → ℕ → List Float
-numbersAt sheet C at n = row plusZero C n (λ i. getD sheet (at + i) nan)
-
-unfoldable pub sixAt : List Float → ℕ → ℕ → ℕ → Rows
-sixAt sheet at r c = table plusZero 6 6 r c (λ i j. getD sheet (at + i * 6 + j) nan)
 
 -- refusals 3, and 7, of an array of n blocks
 unfoldable pub badSizeIn : List Block → ℕ → Bool

@@ -10,9 +10,9 @@ use Rattle.kenward_roger.proofs.adjust.Reads as reads
 use Rattle.kenward_roger.proofs.adjust.Lts as lts
 use Rattle.kr_vcov_adj.proofs.kr_vcov_adj.Reads as kr-vcov-adj-reads
 use Rattle.series.proofs.blocks_of.Reads as blocks-of-reads
-use Rattle.series.proofs.square_at.Reads as square-at-reads
-use Rattle.series.proofs.three_at.Reads as three-at-reads
-use Rattle.series.proofs.twenty_four_at.Reads as twenty-four-at-reads
+use Rattle.sheet_parts.proofs.square_at.Reads as square-at-reads
+use Rattle.sheet_parts.proofs.three_at.Reads as three-at-reads
+use Rattle.sheet_parts.proofs.twenty_four_at.Reads as twenty-four-at-reads
 
 blocks-of-requires : tie.Need-blocks-of-requires
 blocks-of-requires c κs =

@@ -11,8 +11,8 @@ use Rattle.kenward_roger.proofs.tests_of.Lts as lts
 use Rattle.covariance.proofs.blocks.places_before.Reads as places-before-reads
 use Rattle.kr_run.proofs.run.Reads as run-reads
 use Rattle.series.proofs.blocks_of.Reads as blocks-of-reads
-use Rattle.series.proofs.six_at.Reads as six-at-reads
-use Rattle.series.proofs.square_at.Reads as square-at-reads
+use Rattle.sheet_parts.proofs.six_at.Reads as six-at-reads
+use Rattle.sheet_parts.proofs.square_at.Reads as square-at-reads
 
 blocks-of-requires : tie.Need-blocks-of-requires
 blocks-of-requires c κs =

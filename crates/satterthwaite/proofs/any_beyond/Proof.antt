@@ -1,6 +1,6 @@
 -- `satterthwaite::any_beyond` meets its contract.
 use Prim.Native.Nat.{_≤_, _-_}
-use mathlib.Core.Path.{_≡_, refl, sym}
+use mathlib.Core.Path.{_≡_, refl, sym, _∙_}
 use mathlib.Core.Bool.{false}
 use denote.Ref.{now}
 use Rattle.records.specs.Scan.{any}
@@ -25,7 +25,7 @@ beyond-at-requires : tie.Need-beyond-at-requires Inv-loop μ-loop
 beyond-at-requires c κs = omega arith
 
 returns : tie.Need-returns Inv-loop μ-loop
-returns c = sym (any-hit _ _ (c .before .before .before .loop .i) (omega arith) (cc))
+returns c = sym (any-hit _ _ (c .before .before .before .loop .i) (omega arith) (sym (c .before .beyond-at .ensures) ∙ c .if1 .taken))
 
 add-i : tie.Need-add-i Inv-loop μ-loop
 add-i c = omega arith
@@ -34,10 +34,10 @@ loop-less : tie.Need-loop-less Inv-loop μ-loop
 loop-less c = omega arith
 
 loop-again : tie.Need-loop-again Inv-loop μ-loop
-loop-again c = (refl, omega arith, any-miss _ _ (c .before .before .before .loop .inv .2) (cc))
+loop-again c = (refl, omega arith, any-miss _ _ (c .before .before .before .loop .inv .2) (sym (c .before .beyond-at .ensures) ∙ c .if1 .left))
 
 returns-2 : tie.Need-returns-2 Inv-loop μ-loop
-returns-2 c = let e : c .before .loop .i ≡ count (now (c .before .before .before .args .s)) = omega arith in cc
+returns-2 c = let e : c .before .loop .i ≡ count (now (c .before .before .before .args .s)) = omega arith in sym (rw e at (c .before .loop .inv .2))
 
 pub any-beyond-spec : {M : Type 1} → statement M
 any-beyond-spec =

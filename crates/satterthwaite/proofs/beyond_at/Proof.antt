@@ -15,7 +15,7 @@ out-of-requires c κs = search needs
 
 returns : tie.Need-returns
 unfolding beyond
-returns c = cc
+returns c = rw (← c .before .before .kind-at .ensures, ← c .before .size-of .ensures) (c .out-of .ensures)
 
 pub beyond-at-spec : {M : Type 1} → statement M
 beyond-at-spec = tie.close (tie.spec kind-at-requires size-of-requires out-of-requires returns)

@@ -5,7 +5,7 @@ use mathlib.Core.Bool.{false}
 use Rattle.records.specs.Scan.{any}
 use Rattle.records.proofs.Laws.{any-miss, any-hit}
 use Rattle.satterthwaite.specs.Gathered.{stackGaps}
-use Rattle.series.proofs.Gathers.{row-ends}
+use Rattle.sheet_parts.proofs.Strides.{row-ends}
 use native.Mathlib.Omega.{arith}
 use Rattle.satterthwaite.proofs.stack_gap.Statement.{statement}
 use Rattle.satterthwaite.proofs.stack_gap.Tie as tie

@@ -1,0 +1,2 @@
+-- Laws of rows that stand a stride apart.
+pub mod Strides

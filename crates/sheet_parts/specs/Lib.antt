@@ -1,0 +1,2 @@
+-- Parts of a sheet of numbers. Definitions alone.
+pub mod Parts
