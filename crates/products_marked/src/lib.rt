@@ -1,15 +1,19 @@
 // Small matrices of marked numbers, by value: the cells up to the sizes given are in use, and zeros stand past them.
 ghost use mathlib.Core.Path.{_≡_};
 ghost use Prim.Native.Nat.{_≤_, _<_};
+ghost use Rattle.arithmetic.specs.Marks.{markedAdd, markedMul};
 ghost use Rattle.algebra.specs.Table.{blank};
 ghost use Rattle.algebra.specs.Kind.{marks, nil};
 ghost use Rattle.algebra.specs.Product.{cell, product, transpose, likeCells, trace, plusCells, minusCells, timesNumber, overNumber};
 ghost use Rattle.products.specs.Small.{withTerms, sandwich, givenCells, values, allMarks};
+ghost use Rattle.products_marked.specs.Settled.{Settled, SettledRow, SettledCells, settled, settledCells};
 use arithmetic::Marked;
 use arithmetic::step::add;
 use arithmetic::step::also;
 use arithmetic::step::div;
 use arithmetic::step::given;
+use arithmetic::step::in_range;
+use arithmetic::step::lost_product;
 use arithmetic::step::mul;
 use arithmetic::step::sub;
 
@@ -40,19 +44,77 @@ pub fn cell(a: [[Marked; 6]; 6], b: [[Marked; 6]; 6], inner: usize, i: usize, j:
     sum
 }
 
-// A row of sums, each with one term more: x times the like cell of `terms`.
-fn with_terms(sums: [Marked; 6], x: Marked, terms: [Marked; 6], cols: usize) -> [Marked; 6]
-    requires { ⌜ cols ≤ 6 ⌝ }
-    ensures { λ r. ⌜ r ≡ withTerms marks cols sums x terms ⌝ }
+// x, whose mark counts its range.
+fn settled(x: Marked) -> Marked
+    ensures { λ r. ⌜ r ≡ settled x ⌝ }
 {
-    let mut out = sums;
-    for j in 0..cols {
-        out[j] = add(out[j], mul(x, terms[j]));
+    Marked {
+        value: x.value,
+        inside: x.inside & in_range(x.value),
+    }
+}
+
+// Each cell with a mark that counts its range, so that a product tests a cell once and not once for each row.
+fn settled_cells(m: [[Marked; 6]; 6], rows: usize, cols: usize) -> [[Marked; 6]; 6]
+    requires { ⌜ (rows ≤ 6) × (cols ≤ 6) ⌝ }
+    ensures { λ r. ⌜ r ≡ settledCells 6 6 rows cols m ⌝ }
+{
+    let mut out = zeros();
+    for i in 0..rows {
+        for j in 0..cols {
+            out[i][j] = settled(m[i][j]);
+        }
     }
     out
 }
 
-// a, of rows by inner, times b, of inner by cols. A row at a time, so that a cell's sum still runs by rising index, and no matrix is copied.
+// sum + x * y, with no test of the three: a number that is inside is in range.
+fn with_term(sum: Marked, x: Marked, y: Marked) -> Marked
+    requires { ⌜ Settled sum × Settled x × Settled y ⌝ }
+    ensures { λ r. ⌜ r ≡ markedAdd sum (markedMul x y) ⌝ }
+{
+    let p = x.value * y.value;
+    let s = sum.value + p;
+    let inside = sum.inside & x.inside & y.inside;
+    Marked {
+        value: s,
+        inside: inside & in_range(p) & !lost_product(x.value, y.value, p) & in_range(s),
+    }
+}
+
+// A row of sums, each with one term more: x times the like cell of `terms`.
+fn with_terms(sums: [Marked; 6], x: Marked, terms: [Marked; 6], cols: usize) -> [Marked; 6]
+    requires { ⌜ (cols ≤ 6) × SettledRow cols sums × Settled x × SettledRow cols terms ⌝ }
+    ensures { λ r. ⌜ r ≡ withTerms marks cols sums x terms ⌝ }
+{
+    let mut out = sums;
+    for j in 0..cols {
+        out[j] = with_term(out[j], x, terms[j]);
+    }
+    out
+}
+
+// a, of rows by inner, times b, of inner by cols and settled. A row at a time: a cell's sum still runs by rising index, and no matrix is copied.
+fn settled_product(
+    a: [[Marked; 6]; 6],
+    b: [[Marked; 6]; 6],
+    rows: usize,
+    inner: usize,
+    cols: usize,
+) -> [[Marked; 6]; 6]
+    requires { ⌜ (rows ≤ 6) × (inner ≤ 6) × (cols ≤ 6) × SettledCells inner cols b ⌝ }
+    ensures { λ r. ⌜ r ≡ product marks 6 6 rows inner cols a b ⌝ }
+{
+    let mut out = zeros();
+    for i in 0..rows {
+        for k in 0..inner {
+            out[i] = with_terms(out[i], settled(a[i][k]), b[k], cols);
+        }
+    }
+    out
+}
+
+// a, of rows by inner, times b, of inner by cols.
 pub fn product(
     a: [[Marked; 6]; 6],
     b: [[Marked; 6]; 6],
@@ -63,13 +125,8 @@ pub fn product(
     requires { ⌜ (rows ≤ 6) × (inner ≤ 6) × (cols ≤ 6) ⌝ }
     ensures { λ r. ⌜ r ≡ product marks 6 6 rows inner cols a b ⌝ }
 {
-    let mut out = zeros();
-    for i in 0..rows {
-        for k in 0..inner {
-            out[i] = with_terms(out[i], a[i][k], b[k], cols);
-        }
-    }
-    out
+    let ready = settled_cells(b, inner, cols);
+    settled_product(a, ready, rows, inner, cols)
 }
 
 // The rows of a as columns.

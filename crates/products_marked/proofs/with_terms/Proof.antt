@@ -1,8 +1,7 @@
 -- `products_marked::with_terms` meets its contract.
-use Prim.Native.Nat.{_≤_, _-_}
+use Prim.Native.Nat.{_≤_, _<_, _-_}
 use Rattle.algebra.specs.Kind.{marks}
-use Rattle.products.proofs.RowLaws.{Gaining, gaining-none, gaining-more, gaining-end}
-use borrow.Author.Needs.{needs}
+use Rattle.products.proofs.RowLaws.{Gaining, gaining-none, gaining-own, gaining-more, gaining-end}
 use native.Mathlib.Omega.{arith}
 use Rattle.products_marked.proofs.with_terms.Statement.{statement}
 use Rattle.products_marked.proofs.with_terms.Tie as tie
@@ -16,23 +15,25 @@ abbrev μ-loop : tie.MeasureT-loop
 loop-holds : tie.Need-loop-holds Inv-loop μ-loop
 loop-holds c = (omega arith, gaining-none marks)
 
-mul-add : tie.Need-mul-add Inv-loop μ-loop
-mul-add c = omega arith
+mul-with-term : tie.Need-mul-with-term Inv-loop μ-loop
+mul-with-term c = omega arith
 
-array-copy-out-add : tie.Need-array-copy-out-add Inv-loop μ-loop
-array-copy-out-add c = omega arith
+array-copy-out-with-term : tie.Need-array-copy-out-with-term Inv-loop μ-loop
+array-copy-out-with-term c = omega arith
 
-mul-mul : tie.Need-mul-mul Inv-loop μ-loop
-mul-mul c = omega arith
+mul-with-term-2 : tie.Need-mul-with-term-2 Inv-loop μ-loop
+mul-with-term-2 c = omega arith
 
-array-copy-out-mul : tie.Need-array-copy-out-mul Inv-loop μ-loop
-array-copy-out-mul c = omega arith
+array-copy-out-with-term-2 : tie.Need-array-copy-out-with-term-2 Inv-loop μ-loop
+array-copy-out-with-term-2 c = omega arith
 
-mul-requires : tie.Need-mul-requires Inv-loop μ-loop
-mul-requires c κs = search needs
-
-add-requires : tie.Need-add-requires Inv-loop μ-loop
-add-requires c κs = search needs
+with-term-requires : tie.Need-with-term-requires Inv-loop μ-loop
+with-term-requires c κs =
+    let l : c .before .before .before .loop .j < c .before .before .before .before .args .cols = omega arith in (
+      rw (gaining-own marks (c .before .before .before .loop .inv .1)) (c .before .before .before .before .pre .1 .each _ l),
+      c .before .before .before .before .pre .2,
+      c .before .before .before .before .pre .3 .each _ l,
+    )
 
 mul-out : tie.Need-mul-out Inv-loop μ-loop
 mul-out c = omega arith
@@ -47,7 +48,7 @@ loop-less : tie.Need-loop-less Inv-loop μ-loop
 loop-less c = omega arith
 
 loop-again : tie.Need-loop-again Inv-loop μ-loop
-loop-again c = (omega arith, gaining-more marks (c .before .before .before .before .before .loop .inv .1) (rw (c .add .ensures, c .before .mul .ensures)))
+loop-again c = (omega arith, gaining-more marks (c .before .before .before .before .loop .inv .1) (c .with-term .ensures))
 
 returns : tie.Need-returns Inv-loop μ-loop
 returns c = gaining-end marks (c .before .loop .inv .0) (c .loop-test .left) (c .before .loop .inv .1)
@@ -59,12 +60,11 @@ with-terms-spec =
     Inv-loop
     μ-loop
     loop-holds
-    mul-add
-    array-copy-out-add
-    mul-mul
-    array-copy-out-mul
-    mul-requires
-    add-requires
+    mul-with-term
+    array-copy-out-with-term
+    mul-with-term-2
+    array-copy-out-with-term-2
+    with-term-requires
     mul-out
     array-set-from-out
     add-j

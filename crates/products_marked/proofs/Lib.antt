@@ -1,0 +1,2 @@
+-- The laws of the marked products' own steps.
+pub mod SettledLaws

@@ -1,0 +1,30 @@
+-- Marks that count their number's range already, as a step's result has: a step on such numbers need not test its operands again.
+use Prim.Native.Nat.{ℕ, _<_}
+use mathlib.Core.Bool.{_&&_}
+use mathlib.Core.List.{List}
+use lib.Dec.{T}
+use lib.ListN.{getD}
+use Rattle.arithmetic.specs.declared.Marked.{Marked}
+use Rattle.arithmetic.specs.Marks.{marked, inRange}
+use Rattle.algebra.specs.Table.{table}
+use Rattle.algebra.specs.Kind.{marks, nil}
+use Rattle.algebra.specs.Product.{at}
+
+-- a number that is inside is in range
+pub record Settled (a : Marked) : Type 0 where
+  pub range : T (a .inside) → T (inRange (a .value))
+
+-- the first c numbers of a row
+pub record SettledRow (c : ℕ) (row : List Marked) : Type 0 where
+  pub each : (j : ℕ) → j < c → Settled (getD row j (marks .void))
+
+-- the cells of r rows and c columns
+pub record SettledCells (r c : ℕ) (m : List (List Marked)) : Type 0 where
+  pub each : (i j : ℕ) → i < r → j < c → Settled (at marks m i j)
+
+-- the number a, whose mark counts its range
+unfoldable pub settled : Marked → Marked
+settled a = marked (a .value) (a .inside && inRange (a .value))
+
+unfoldable pub settledCells : ℕ → ℕ → ℕ → ℕ → List (List Marked) → List (List Marked)
+settledCells R C r c m = table (nil marks) R C r c (λ i j. settled (at marks m i j))
