@@ -2,17 +2,17 @@
 ghost use mathlib.Core.Path.{_≡_};
 ghost use mathlib.Core.Bool.{cond};
 ghost use Prim.Native.Nat.{_+_, _<_, _≤_, min, max};
-ghost use lib.Ieee.{binary64, div, lt};
+ghost use lib.Ieee.{binary64, mul, div, lt};
 ghost use lib.ListN.{getD};
 ghost use Rattle.arithmetic.specs.Numbers.{plusZero};
 ghost use Rattle.arithmetic.specs.Marks.{marked};
 ghost use Rattle.algebra.specs.Fold.{fold};
 ghost use Rattle.algebra.specs.Table.{row};
 ghost use Rattle.algebra.specs.Kind.{floats};
-ghost use Rattle.algebra.specs.Product.{at};
+ghost use Rattle.algebra.specs.Product.{at, sum};
 ghost use Rattle.algebra.specs.Jacobi.{ratio, tangent, turnedFirst, turnedSecond};
 ghost use Rattle.falling_order.specs.Order.{indexAt};
-ghost use Rattle.contrast_basis.specs.Basis.{largest, dividedCell, divided, rowDot, turnRows, turnPair, pairsTo, sweepTo, sweepsTo, norms, singular, tolerance, rankOf, basisRows, contrastBasis};
+ghost use Rattle.contrast_basis.specs.Basis.{largest, dividedCell, divided, turnPair, pairsTo, sweepTo, sweepsTo, norms, singular, tolerance, rankOf, basisRows, contrastBasis};
 use arithmetic::Marked;
 use arithmetic::plain::is_zero;
 use arithmetic::plain::magnitude;
@@ -73,14 +73,14 @@ pub fn divided(rows: usize, p: usize, l: [[f64; 6]; 6]) -> [[Marked; 6]; 6]
     out
 }
 
-// The dot product of rows i and j.
-pub fn row_dot(p: usize, m: [[f64; 6]; 6], i: usize, j: usize) -> f64
-    requires { ⌜ (p ≤ 6) × (i < 6) × (j < 6) ⌝ }
-    ensures { λ r. ⌜ r ≡ rowDot p m i j ⌝ }
+// The dot product of two rows of p cells.
+pub fn row_dot(p: usize, x: [f64; 6], y: [f64; 6]) -> f64
+    requires { ⌜ p ≤ 6 ⌝ }
+    ensures { λ r. ⌜ r ≡ sum floats p (λ k. mul binary64 (getD x k (floats .void)) (getD y k (floats .void))) ⌝ }
 {
     let mut sum = 0.0;
     for k in 0..p {
-        sum = sum + m[i][k] * m[j][k];
+        sum = sum + x[k] * y[k];
     }
     sum
 }
@@ -92,7 +92,7 @@ fn first_turned(p: usize, x: [f64; 6], y: [f64; 6], c: f64, s: f64) -> [f64; 6]
 {
     let mut out = [0.0; 6];
     for k in 0..p {
-        out[k] = rotation::turned_first(c, s, x[k], y[k]);
+        out[k] = jacobi::turned_first(c, s, x[k], y[k]);
     }
     out
 }
@@ -104,82 +104,65 @@ fn second_turned(p: usize, x: [f64; 6], y: [f64; 6], c: f64, s: f64) -> [f64; 6]
 {
     let mut out = [0.0; 6];
     for k in 0..p {
-        out[k] = rotation::turned_second(c, s, x[k], y[k]);
+        out[k] = jacobi::turned_second(c, s, x[k], y[k]);
     }
     out
 }
 
-// Rows i and j turned: both come from the old two.
-pub fn turn_rows(p: usize, i: usize, j: usize, c: f64, s: f64, m: [[f64; 6]; 6]) -> [[f64; 6]; 6]
-    requires { ⌜ (p ≤ 6) × (i < 6) × (j < 6) ⌝ }
-    ensures { λ r. ⌜ r ≡ turnRows p i j c s m ⌝ }
+// The tangent of the rotation that makes rows x and y orthogonal, from their dot product g.
+fn pair_tangent(p: usize, x: [f64; 6], y: [f64; 6], g: f64) -> f64
+    requires { ⌜ p ≤ 6 ⌝ }
+    ensures { λ r. ⌜ r ≡ tangent floats (ratio floats (sum floats p (λ k. mul binary64 (getD x k (floats .void)) (getD x k (floats .void)))) (sum floats p (λ k. mul binary64 (getD y k (floats .void)) (getD y k (floats .void)))) g) ⌝ }
 {
-    let mut out = m;
-    out[i] = first_turned(p, m[i], m[j], c, s);
-    out[j] = second_turned(p, m[i], m[j], c, s);
-    out
+    rotation::tangent(rotation::ratio(row_dot(p, x, x), row_dot(p, y, y), g))
 }
 
-// The tangent of the rotation that makes rows i and j orthogonal, from their dot product g.
-fn pair_tangent(p: usize, m: [[f64; 6]; 6], i: usize, j: usize, g: f64) -> f64
+// The pair (i, j) of the rows of m, turned in place unless its dot product is zero. Both rows come from the old two.
+pub fn turn_pair(p: usize, i: usize, j: usize, m: &mut [[f64; 6]; 6])
     requires { ⌜ (p ≤ 6) × (i < 6) × (j < 6) ⌝ }
-    ensures { λ r. ⌜ r ≡ tangent floats (ratio floats (rowDot p m i i) (rowDot p m j j) g) ⌝ }
+    ensures { λ r. ⌜ now (m .exit) ≡ turnPair p i j (now (m .entry)) ⌝ }
 {
-    rotation::tangent(rotation::ratio(row_dot(p, m, i, i), row_dot(p, m, j, j), g))
-}
-
-// The pair (i, j), turned unless its dot product is zero.
-pub fn turn_pair(p: usize, i: usize, j: usize, m: [[f64; 6]; 6]) -> [[f64; 6]; 6]
-    requires { ⌜ (p ≤ 6) × (i < 6) × (j < 6) ⌝ }
-    ensures { λ r. ⌜ r ≡ turnPair p i j m ⌝ }
-{
-    let g = row_dot(p, m, i, j);
+    let x = m[i];
+    let y = m[j];
+    let g = row_dot(p, x, y);
     if is_zero(g) {
-        return m;
+        return;
     }
-    let t = pair_tangent(p, m, i, j, g);
+    let t = pair_tangent(p, x, y, g);
     let c = rotation::cosine(t);
     let s = rotation::sine(t, c);
-    turn_rows(p, i, j, c, s, m)
+    m[i] = first_turned(p, x, y, c, s);
+    m[j] = second_turned(p, x, y, c, s);
 }
 
 // The pairs of row i.
-pub fn pairs(rows: usize, p: usize, i: usize, m: [[f64; 6]; 6]) -> [[f64; 6]; 6]
+pub fn pairs(rows: usize, p: usize, i: usize, m: &mut [[f64; 6]; 6])
     requires { ⌜ (rows ≤ 6) × (p ≤ 6) × (i < rows) ⌝ }
-    ensures { λ r. ⌜ r ≡ pairsTo rows p i m ⌝ }
+    ensures { λ r. ⌜ now (m .exit) ≡ pairsTo rows p i (now (m .entry)) ⌝ }
 {
-    let mut out = m;
     for j in i + 1..rows {
-        let next = turn_pair(p, i, j, out);
-        out = next;
+        turn_pair(p, i, j, m);
     }
-    out
 }
 
 // A sweep over all pairs.
-pub fn sweep(rows: usize, p: usize, m: [[f64; 6]; 6]) -> [[f64; 6]; 6]
+pub fn sweep(rows: usize, p: usize, m: &mut [[f64; 6]; 6])
     requires { ⌜ (rows ≤ 6) × (p ≤ 6) ⌝ }
-    ensures { λ r. ⌜ r ≡ sweepTo rows rows p m ⌝ }
+    ensures { λ r. ⌜ now (m .exit) ≡ sweepTo rows rows p (now (m .entry)) ⌝ }
 {
-    let mut out = m;
     for i in 0..rows {
-        let next = pairs(rows, p, i, out);
-        out = next;
+        pairs(rows, p, i, m);
     }
-    out
 }
 
 // The 30 sweeps, whether or not the last ones still turn a pair.
-pub fn sweeps(rows: usize, p: usize, m: [[f64; 6]; 6]) -> [[f64; 6]; 6]
+pub fn sweeps(rows: usize, p: usize, m: &mut [[f64; 6]; 6])
     requires { ⌜ (rows ≤ 6) × (p ≤ 6) ⌝ }
-    ensures { λ r. ⌜ r ≡ sweepsTo 30 rows p m ⌝ }
+    ensures { λ r. ⌜ now (m .exit) ≡ sweepsTo 30 rows p (now (m .entry)) ⌝ }
 {
-    let mut out = m;
     for i in 0..30usize {
-        let next = sweep(rows, p, out);
-        out = next;
+        sweep(rows, p, m);
     }
-    out
 }
 
 // The lengths of the rows.
@@ -189,7 +172,8 @@ pub fn norms(rows: usize, p: usize, m: [[f64; 6]; 6]) -> [f64; 6]
 {
     let mut out = [0.0; 6];
     for i in 0..rows {
-        out[i] = sqrt(row_dot(p, m, i, i));
+        let x = m[i];
+        out[i] = sqrt(row_dot(p, x, x));
     }
     out
 }
@@ -252,13 +236,27 @@ pub fn rank_of(rows: usize, p: usize, ns: [f64; 6]) -> usize
     above(limit, n, rows, ns)
 }
 
-// Cell j of the row in place k, over its norm.
-fn basis_cell(rows: usize, m: [[f64; 6]; 6], ns: [f64; 6], k: usize, j: usize) -> f64
-    requires { ⌜ (rows ≤ 6) × (j < 6) ⌝ }
-    ensures { λ r. ⌜ r ≡ div binary64 (at floats m (indexAt rows ns k) j) (singular rows ns k) ⌝ }
+// A row of p cells over its norm.
+fn over_norm(p: usize, x: [f64; 6], norm: f64) -> [f64; 6]
+    requires { ⌜ p ≤ 6 ⌝ }
+    ensures { λ r. ⌜ r ≡ row plusZero 6 p (λ j. div binary64 (getD x j (floats .void)) norm) ⌝ }
+{
+    let mut out = [0.0; 6];
+    for j in 0..p {
+        out[j] = x[j] / norm;
+    }
+    out
+}
+
+// The row in place k, over its norm: where it stands is looked up once.
+fn basis_row(rows: usize, p: usize, m: [[f64; 6]; 6], ns: [f64; 6], k: usize) -> [f64; 6]
+    requires { ⌜ (rows ≤ 6) × (p ≤ 6) ⌝ }
+    ensures { λ r. ⌜ r ≡ row plusZero 6 p (λ j. div binary64 (at floats m (indexAt rows ns k) j) (singular rows ns k)) ⌝ }
 {
     let i = index_at(rows, ns, k);
-    m[i][j] / singular(rows, ns, k)
+    let x = m[i];
+    let norm = ns[i];
+    over_norm(p, x, norm)
 }
 
 // The rows of the first `rank` singular values, over their norms.
@@ -274,9 +272,7 @@ pub fn basis_rows(
 {
     let mut out = products::zeros();
     for k in 0..rank {
-        for j in 0..p {
-            out[k][j] = basis_cell(rows, m, ns, k, j);
-        }
+        out[k] = basis_row(rows, p, m, ns, k);
     }
     out
 }
@@ -306,11 +302,11 @@ pub fn contrast_basis(
     let d = divided(rows, p, l);
     let all = products_marked::all_marks(d, rows, p, given(0.0));
     *seen = all.inside;
-    let m = products_marked::values(d, rows, p);
+    let mut m = products_marked::values(d, rows, p);
     if rows == 1 {
         *rank = 1;
         return m;
     }
-    let turned = sweeps(rows, p, m);
-    unit_rows(rows, p, turned, rank)
+    sweeps(rows, p, &mut m);
+    unit_rows(rows, p, m, rank)
 }

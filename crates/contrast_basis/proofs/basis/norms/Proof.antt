@@ -3,7 +3,7 @@ use Prim.Native.Nat.{_≤_, _-_}
 use mathlib.Core.Path.{_≡_}
 use lib.Ieee.{ofBits}
 use Rattle.algebra.specs.Table.{row}
-use Rattle.contrast_basis.specs.Basis.{norms}
+use Rattle.contrast_basis.specs.Basis.{rowDot, norms}
 use Rattle.algebra.proofs.FoldLaws.{fold-start, fold-next, fold-end}
 use borrow.Author.Needs.{needs}
 use native.Mathlib.Omega.{arith}
@@ -19,6 +19,12 @@ abbrev μ-loop : tie.MeasureT-loop
 loop-holds : tie.Need-loop-holds Inv-loop μ-loop
 unfolding norms row ofBits
 loop-holds c = (omega arith, fold-start _ _ _)
+
+mul-x : tie.Need-mul-x Inv-loop μ-loop
+mul-x c = omega arith
+
+array-copy-out-x : tie.Need-array-copy-out-x Inv-loop μ-loop
+array-copy-out-x c = omega arith
 
 row-dot-requires : tie.Need-row-dot-requires Inv-loop μ-loop
 row-dot-requires c κs = omega arith
@@ -39,8 +45,8 @@ loop-less : tie.Need-loop-less Inv-loop μ-loop
 loop-less c = omega arith
 
 loop-again : tie.Need-loop-again Inv-loop μ-loop
-unfolding norms row
-loop-again c = (omega arith, fold-next _ _ _ _ _ _ (omega arith) (c .before .before .before .loop .inv .1) (rw (c .sqrt .ensures, c .before .row-dot .ensures)))
+unfolding norms row rowDot
+loop-again c = (omega arith, fold-next _ _ _ _ _ _ (omega arith) (c .before .before .before .before .loop .inv .1) (rw (c .sqrt .ensures, c .before .row-dot .ensures)))
 
 returns : tie.Need-returns Inv-loop μ-loop
 unfolding norms row
@@ -53,6 +59,8 @@ norms-spec =
     Inv-loop
     μ-loop
     loop-holds
+    mul-x
+    array-copy-out-x
     row-dot-requires
     sqrt-requires
     mul-out

@@ -8,10 +8,10 @@ use Rattle.contrast_basis.proofs.basis.pairs.Statement.{statement}
 use Rattle.contrast_basis.proofs.basis.pairs.Tie as tie
 
 abbrev Inv-loop : tie.InvT-loop
-Inv-loop rows p i out₀ j₀ out j = (i + 1 ≤ j) × (j ≤ rows) × (out ≡ pairsTo j p i out₀)
+Inv-loop rows p i m₀ j₀ m j = (i + 1 ≤ j) × (j ≤ rows) × (m ≡ pairsTo j p i m₀)
 
 abbrev μ-loop : tie.MeasureT-loop
-μ-loop rows p i out₀ j₀ out j = rows - j
+μ-loop rows p i m₀ j₀ m j = rows - j
 
 add-j : tie.Need-add-j Inv-loop μ-loop
 add-j c = omega arith
@@ -32,7 +32,7 @@ loop-less c = omega arith
 loop-again : tie.Need-loop-again Inv-loop μ-loop
 unfolding pairsTo
 loop-again c =
-    let v = c .before .before .loop .inv in
+    let v = c .before .before .before .loop .inv in
     (omega arith, omega arith, fold-next _ _ _ _ _ _ (v .0) (v .2) (c .turn-pair .ensures))
 
 returns : tie.Need-returns Inv-loop μ-loop
