@@ -1,2 +1,3 @@
 -- The laws of the moments.
 pub mod Pairs
+pub mod MomentLaws

@@ -3,8 +3,10 @@ ghost use mathlib.Core.Path.{_≡_};
 ghost use Prim.Native.Nat.{ℕ, _≤_, _<_};
 ghost use mathlib.Core.List.{[]};
 ghost use lib.ListN.{getD};
-ghost use lib.Ieee.{Float, binary64, mul};
-ghost use Rattle.arithmetic.specs.Numbers.{one, ofCount};
+ghost use lib.Ieee.{Float, nan, binary64, mul};
+ghost use Rattle.arithmetic.specs.Numbers.{plusZero, one, ofCount};
+ghost use Rattle.algebra.specs.Fold.{fold};
+ghost use Rattle.algebra.specs.Table.{row};
 ghost use Rattle.algebra.specs.Kind.{floats};
 ghost use Rattle.algebra.specs.Product.{trace, likeCells, transpose};
 ghost use Rattle.adjustment.specs.declared.Cutoffs.{Cutoffs};
@@ -20,9 +22,9 @@ use arithmetic::plain::of_count;
 use rho::rho_from;
 
 // W_ij counts once on the diagonal and twice off it, since only i ≤ j is summed.
-pub fn weight(w: [[f64; 6]; 6], i: usize, j: usize) -> f64
+pub fn weight(w: &[[f64; 6]; 6], i: usize, j: usize) -> f64
     requires { ⌜ (i < 6) × (j < 6) ⌝ }
-    ensures { λ r. ⌜ r ≡ weight w i j ⌝ }
+    ensures { λ r. ⌜ r ≡ weight (now (w .entry)) i j ⌝ }
 {
     if i == j {
         return 1.0 * w[i][j];
@@ -38,33 +40,61 @@ pub fn spur(m: [[f64; 6]; 6], p: usize) -> f64
     products::trace(m, p)
 }
 
-// The sum of the products of like cells of u_i and u_j transposed.
-pub fn sum_ui_t_uj(ui: [[f64; 6]; 6], uj: [[f64; 6]; 6], p: usize) -> f64
-    requires { ⌜ p ≤ 6 ⌝ }
-    ensures { λ r. ⌜ r ≡ likeCells floats p p ui (transpose floats 6 6 p p uj) ⌝ }
+// The traces of n matrices, each taken once for all the pairs that it is in.
+pub fn traces(us: &[[[f64; 6]; 6]; 4], n: usize, p: usize) -> [f64; 4]
+    requires { ⌜ (n ≤ 4) × (p ≤ 6) ⌝ }
+    ensures { λ r. ⌜ r ≡ row plusZero 4 n (λ i. trace floats p (getD (now (us .entry)) i [])) ⌝ }
 {
-    let turned = products::transpose(uj, p, p);
-    products::like_cells(ui, turned, p, p)
+    let mut out = [0.0; 4];
+    for i in 0..n {
+        let u = us[i];
+        out[i] = spur(u, p);
+    }
+    out
 }
 
-// What i and j add to a1.
-pub fn a1_term(us: [[[f64; 6]; 6]; 4], w: [[f64; 6]; 6], p: usize, i: usize, j: usize) -> f64
-    requires { ⌜ (p ≤ 6) × (i < 4) × (j < 4) ⌝ }
-    ensures { λ r. ⌜ r ≡ mul binary64 (mul binary64 (weight w i j) (trace floats p (getD us i []))) (trace floats p (getD us j [])) ⌝ }
+// The sum of the products of like cells of u_i and u_j transposed. The transpose is read off u_j, and not made.
+pub fn sum_ui_t_uj<'a>(ui: &'a [[f64; 6]; 6], uj: &'a [[f64; 6]; 6], p: usize) -> f64
+    requires { ⌜ p ≤ 6 ⌝ }
+    ensures { λ r. ⌜ r ≡ likeCells floats p p (now (ui .entry)) (transpose floats 6 6 p p (now (uj .entry))) ⌝ }
 {
-    let ui = us[i];
-    let uj = us[j];
-    weight(w, i, j) * spur(ui, p) * spur(uj, p)
+    let mut sum = 0.0;
+    for i in 0..p {
+        for j in 0..p {
+            sum = sum + ui[i][j] * uj[j][i];
+        }
+    }
+    sum
+}
+
+// What i and j add to a1, from the traces.
+pub fn a1_term(w: &[[f64; 6]; 6], ts: &[f64; 4], i: usize, j: usize) -> f64
+    requires { ⌜ (i < 4) × (j < 4) ⌝ }
+    ensures { λ r. ⌜ r ≡ mul binary64 (mul binary64 (weight (now (w .entry)) i j) (getD (now (ts .entry)) i nan)) (getD (now (ts .entry)) j nan) ⌝ }
+{
+    weight(w, i, j) * ts[i] * ts[j]
 }
 
 // What i and j add to a2.
-pub fn a2_term(us: [[[f64; 6]; 6]; 4], w: [[f64; 6]; 6], p: usize, i: usize, j: usize) -> f64
+pub fn a2_term(us: &[[[f64; 6]; 6]; 4], w: &[[f64; 6]; 6], p: usize, i: usize, j: usize) -> f64
     requires { ⌜ (p ≤ 6) × (i < 4) × (j < 4) ⌝ }
-    ensures { λ r. ⌜ r ≡ mul binary64 (weight w i j) (likeCells floats p p (getD us i []) (transpose floats 6 6 p p (getD us j []))) ⌝ }
+    ensures { λ r. ⌜ r ≡ mul binary64 (weight (now (w .entry)) i j) (likeCells floats p p (getD (now (us .entry)) i []) (transpose floats 6 6 p p (getD (now (us .entry)) j []))) ⌝ }
 {
-    let ui = us[i];
-    let uj = us[j];
-    weight(w, i, j) * sum_ui_t_uj(ui, uj, p)
+    weight(w, i, j) * sum_ui_t_uj(&us[i], &us[j], p)
+}
+
+// The sum of a1 over the pairs i ≤ j, row after row, from the traces.
+fn a1_sum(w: &[[f64; 6]; 6], ts: &[f64; 4], n: usize) -> f64
+    requires { ⌜ n ≤ 4 ⌝ }
+    ensures { λ r. ⌜ r ≡ fold 0 n (λ i s. fold i n (λ j s. floats .plus s (mul binary64 (mul binary64 (weight (now (w .entry)) i j) (getD (now (ts .entry)) i nan)) (getD (now (ts .entry)) j nan))) s) plusZero ⌝ }
+{
+    let mut sum = 0.0;
+    for i in 0..n {
+        for j in i..n {
+            sum = sum + a1_term(w, ts, i, j);
+        }
+    }
+    sum
 }
 
 // a1, over the pairs i ≤ j of n matrices, row after row.
@@ -72,13 +102,8 @@ pub fn a1_of(us: [[[f64; 6]; 6]; 4], w: [[f64; 6]; 6], n: usize, p: usize) -> f6
     requires { ⌜ (n ≤ 4) × (p ≤ 6) ⌝ }
     ensures { λ r. ⌜ r ≡ a1Of n p w us ⌝ }
 {
-    let mut sum = 0.0;
-    for i in 0..n {
-        for j in i..n {
-            sum = sum + a1_term(us, w, p, i, j);
-        }
-    }
-    sum
+    let ts = traces(&us, n, p);
+    a1_sum(&w, &ts, n)
 }
 
 // a2, over the same pairs.
@@ -89,7 +114,7 @@ pub fn a2_of(us: [[[f64; 6]; 6]; 4], w: [[f64; 6]; 6], n: usize, p: usize) -> f6
     let mut sum = 0.0;
     for i in 0..n {
         for j in i..n {
-            sum = sum + a2_term(us, w, p, i, j);
+            sum = sum + a2_term(&us, &w, p, i, j);
         }
     }
     sum

@@ -3,26 +3,20 @@ use borrow.Author.Needs.{needs}
 use Rattle.moments.proofs.a1_term.Statement.{statement}
 use Rattle.moments.proofs.a1_term.Tie as tie
 
-mul-ui : tie.Need-mul-ui
-mul-ui c = search needs
-
-array-copy-out-ui : tie.Need-array-copy-out-ui
-array-copy-out-ui c = search needs
-
-mul-uj : tie.Need-mul-uj
-mul-uj c = search needs
-
-array-copy-out-uj : tie.Need-array-copy-out-uj
-array-copy-out-uj c = search needs
-
 weight-requires : tie.Need-weight-requires
 weight-requires c κs = search needs
 
-spur-requires : tie.Need-spur-requires
-spur-requires c κs = search needs
+mul-result : tie.Need-mul-result
+mul-result c = search needs
 
-spur-requires-2 : tie.Need-spur-requires-2
-spur-requires-2 c κs = search needs
+element-copy-out-result : tie.Need-element-copy-out-result
+element-copy-out-result c = search needs
+
+mul-result-2 : tie.Need-mul-result-2
+mul-result-2 c = search needs
+
+element-copy-out-result-2 : tie.Need-element-copy-out-result-2
+element-copy-out-result-2 c = search needs
 
 returns : tie.Need-returns
 returns c = cc
@@ -31,11 +25,9 @@ pub a1-term-spec : {M : Type 1} → statement M
 a1-term-spec =
     tie.close
     (tie.spec
-    mul-ui
-    array-copy-out-ui
-    mul-uj
-    array-copy-out-uj
     weight-requires
-    spur-requires
-    spur-requires-2
+    mul-result
+    element-copy-out-result
+    mul-result-2
+    element-copy-out-result-2
     returns)

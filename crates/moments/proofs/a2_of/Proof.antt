@@ -19,16 +19,16 @@ abbrev step : List (List (List Float)) → List (List Float) → ℕ → ℕ →
 step us w p i j s = floats .plus s (floats .times (weight w i j) (likeCells floats p p (getD us i []) (transpose floats 6 6 p p (getD us j []))))
 
 abbrev Inv-loop2 : tie.InvT-loop2
-Inv-loop2 us w n p sum₀ i j₀ sum j = (i < n) × (i ≤ j) × (j ≤ n) × (sum ≡ fold i j (step us w p i) sum₀)
+Inv-loop2 n p us w sum₀ i j₀ sum j = (i < n) × (i ≤ j) × (j ≤ n) × (sum ≡ fold i j (step us w p i) sum₀)
 
 abbrev μ-loop2 : tie.MeasureT-loop2
-μ-loop2 us w n p sum₀ i j₀ sum j = n - j
+μ-loop2 n p us w sum₀ i j₀ sum j = n - j
 
 abbrev Inv-loop : tie.InvT-loop
-Inv-loop us w n p sum₀ i₀ sum i = (i ≤ n) × (sum ≡ pairsTo (step us w p) (nil floats) n i)
+Inv-loop n p us w sum₀ i₀ sum i = (i ≤ n) × (sum ≡ pairsTo (step us w p) (nil floats) n i)
 
 abbrev μ-loop : tie.MeasureT-loop
-μ-loop us w n p sum₀ i₀ sum i = n - i
+μ-loop n p us w sum₀ i₀ sum i = n - i
 
 loop-holds : tie.Need-loop-holds Inv-loop2 μ-loop2 Inv-loop μ-loop
 unfolding ofBits
@@ -47,7 +47,7 @@ loop2-less : tie.Need-loop2-less Inv-loop2 μ-loop2 Inv-loop μ-loop
 loop2-less c = omega arith
 
 loop2-again : tie.Need-loop2-again Inv-loop2 μ-loop2 Inv-loop μ-loop
-loop2-again c = (omega arith, omega arith, omega arith, fold-next _ _ _ _ _ _ (omega arith) (c .before .before .loop2 .inv .3) (cc))
+loop2-again c = (omega arith, omega arith, omega arith, fold-next _ _ _ _ _ _ (omega arith) (c .before .before .before .before .loop2 .inv .3) (cc))
 
 add-i : tie.Need-add-i Inv-loop2 μ-loop2 Inv-loop μ-loop
 add-i c = omega arith

@@ -3,20 +3,20 @@ use borrow.Author.Needs.{needs}
 use Rattle.moments.proofs.a2_term.Statement.{statement}
 use Rattle.moments.proofs.a2_term.Tie as tie
 
-mul-ui : tie.Need-mul-ui
-mul-ui c = search needs
-
-array-copy-out-ui : tie.Need-array-copy-out-ui
-array-copy-out-ui c = search needs
-
-mul-uj : tie.Need-mul-uj
-mul-uj c = search needs
-
-array-copy-out-uj : tie.Need-array-copy-out-uj
-array-copy-out-uj c = search needs
-
 weight-requires : tie.Need-weight-requires
 weight-requires c κs = search needs
+
+mul-sum-ui-t-uj : tie.Need-mul-sum-ui-t-uj
+mul-sum-ui-t-uj c = search needs
+
+index-1-sum-ui-t-uj : tie.Need-index-1-sum-ui-t-uj
+index-1-sum-ui-t-uj c = search needs
+
+mul-sum-ui-t-uj-2 : tie.Need-mul-sum-ui-t-uj-2
+mul-sum-ui-t-uj-2 c = search needs
+
+index-1-sum-ui-t-uj-2 : tie.Need-index-1-sum-ui-t-uj-2
+index-1-sum-ui-t-uj-2 c = search needs
 
 sum-ui-t-uj-requires : tie.Need-sum-ui-t-uj-requires
 sum-ui-t-uj-requires c κs = search needs
@@ -28,10 +28,10 @@ pub a2-term-spec : {M : Type 1} → statement M
 a2-term-spec =
     tie.close
     (tie.spec
-    mul-ui
-    array-copy-out-ui
-    mul-uj
-    array-copy-out-uj
     weight-requires
+    mul-sum-ui-t-uj
+    index-1-sum-ui-t-uj
+    mul-sum-ui-t-uj-2
+    index-1-sum-ui-t-uj-2
     sum-ui-t-uj-requires
     returns)
