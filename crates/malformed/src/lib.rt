@@ -6,33 +6,31 @@ ghost use Rattle.records.specs.Kinds.{kindAt};
 ghost use Rattle.records.specs.File.{count, beyond};
 ghost use Rattle.series.specs.Gathered.{tableFor, Small, malformedFile};
 ghost use Rattle.series.specs.Checks.{missingIn};
+use records::cells;
 use series::Sizes;
 use series::any_gap;
 use series::given;
 use series::sizes_of;
 
-// What the sizes leave a kind: none, X, Z, block, theta, weight, Φ, sigma2, β, contrast, β_H.
+// What the sizes leave a kind: X, Z, block, theta, weight, Φ, sigma2, β, contrast, β_H.
 fn size_of(z: Sizes, kind: u8) -> records::Kind
     ensures { λ r. ⌜ r ≡ kindAt (tableFor z) kind ⌝ }
 {
     let n = z.specimens;
     let p = z.coefficients;
-    let none = records::cells(0, 0, 0);
-    let table = [
-        none,
-        records::cells(1, n, p),
-        records::cells(1, n, z.columns),
-        records::blocks(z.blocks),
-        records::cells(1, z.thetas, 1),
-        records::cells(1, given(z.weighted, n), 1),
-        records::cells(1, p, p),
-        records::cells(1, 1, 1),
-        records::cells(1, p, 1),
-        records::cells(1, z.contrasts, p),
-        records::cells(1, given(z.hypothesis, p), 1),
-    ];
-    let k = kind as usize;
-    if k < 11 { table[k] } else { none }
+    match kind {
+        1 => cells(1, n, p),
+        2 => cells(1, n, z.columns),
+        3 => records::blocks(z.blocks),
+        4 => cells(1, z.thetas, 1),
+        5 => cells(1, given(z.weighted, n), 1),
+        6 => cells(1, p, p),
+        7 => cells(1, 1, 1),
+        8 => cells(1, p, 1),
+        9 => cells(1, z.contrasts, p),
+        10 => cells(1, given(z.hypothesis, p), 1),
+        _ => cells(0, 0, 0),
+    }
 }
 
 // Record i names a cell that the sizes do not leave its kind.

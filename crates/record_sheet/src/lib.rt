@@ -4,6 +4,7 @@ ghost use mathlib.Core.Path.{_≡_};
 ghost use mathlib.Core.Bool.{false};
 ghost use Prim.Native.Nat.{_≤_, _<_};
 ghost use Rattle.records.specs.Scan.{any};
+ghost use Rattle.records.specs.Kinds.{kenwardRoger, satterthwaite};
 ghost use Rattle.records.specs.File.{count, badRecord, again};
 ghost use Rattle.records.specs.Sheet.{tableOf, firstSlot, offset, slotOf, flagsAfter, sheetAfter};
 use records::Kind;
@@ -16,77 +17,41 @@ use records::row_at;
 use records::value_at;
 
 // The slots of the kinds before this one, for each call.
-const KENWARD_ROGER_FIRST: [usize; 33] = [
-    0,
-    0,
-    144,
-    720,
-    723,
-    726,
-    750,
-    786,
-    787,
-    793,
-    829,
-    835,
-    835,
-    835,
-    835,
-    835,
-    835,
-    835,
-    835,
-    835,
-    835,
-    835,
-    835,
-    835,
-    835,
-    835,
-    835,
-    835,
-    835,
-    835,
-    835,
-    835,
-    835,
-];
+fn kenward_roger_first(k: usize) -> usize
+    requires { ⌜ k < 33 ⌝ }
+    ensures { λ r. ⌜ r ≡ firstSlot kenwardRoger k ⌝ }
+{
+    match k {
+        0 => 0,
+        1 => 0,
+        2 => 144,
+        3 => 720,
+        4 => 723,
+        5 => 726,
+        6 => 750,
+        7 => 786,
+        8 => 787,
+        9 => 793,
+        10 => 829,
+        _ => 835,
+    }
+}
 
-const SATTERTHWAITE_FIRST: [usize; 33] = [
-    0,
-    0,
-    0,
-    0,
-    0,
-    0,
-    0,
-    0,
-    0,
-    6,
-    42,
-    48,
-    48,
-    48,
-    48,
-    48,
-    48,
-    48,
-    48,
-    48,
-    48,
-    48,
-    48,
-    48,
-    48,
-    48,
-    48,
-    48,
-    48,
-    48,
-    48,
-    84,
-    228,
-];
+fn satterthwaite_first(k: usize) -> usize
+    requires { ⌜ k < 33 ⌝ }
+    ensures { λ r. ⌜ r ≡ firstSlot satterthwaite k ⌝ }
+{
+    if k < 9 {
+        return 0;
+    }
+    match k {
+        9 => 6,
+        10 => 42,
+        31 => 84,
+        32 => 228,
+        _ => 48,
+    }
+}
 
 pub fn first_slot(call: bool, kind: u8) -> usize
     requires { ⌜ kind < 33 ⌝ }
@@ -94,10 +59,9 @@ pub fn first_slot(call: bool, kind: u8) -> usize
 {
     let k = index(kind);
     if call {
-        SATTERTHWAITE_FIRST[k]
-    } else {
-        KENWARD_ROGER_FIRST[k]
+        return satterthwaite_first(k);
     }
+    kenward_roger_first(k)
 }
 
 // A cell's place among those of its kind.

@@ -8,7 +8,7 @@ use native.Mathlib.Omega.{arith}
 use native.Mathlib.Decide.{decLt}
 use lib.Dec.{eqb, ltb, leb}
 use lib.ListN.{length, getD, List·getD-eq-default}
-use borrow.Author.Tests.{eq-eqb, eqb-true, ltb-true, lt-ltb, le-ltb, leb-true, not-false}
+use borrow.Author.Tests.{eq-eqb, eqb-true, ltb-true, lt-ltb, le-ltb, le-leb, leb-true, not-false}
 use Rattle.records.specs.declared.Kind.{Kind}
 use Rattle.records.specs.Scan.{any, total}
 use Rattle.records.specs.Kinds.{Table, kindAt, unread, kenwardRoger, satterthwaite}
@@ -221,9 +221,10 @@ all-slots false = omega arith
 pub slot-fits : (call : Bool) (k n r c : ℕ) → Inside (kindAt (tableOf call) k) n r c → slot (tableOf call) k n r c < 835
 slot-fits call k n r c w = let a = slot-below (tableOf call) k n r c 33 w (kind-below call k r (w .row)) in let b = all-slots call in omega arith
 
--- the first slots as a list
-pub first-at : (t : Table) (l : List ℕ) → any 33 (λ j. not (eqb (getD l j 0) (firstSlot t j))) ≡ false → (k : ℕ) → k < 33 → getD l k 0 ≡ firstSlot t k
-first-at t l e k h = eqb-true _ _ (not-false _ (any-none 33 (λ j. not (eqb (getD l j 0) (firstSlot t j))) k h e))
+-- the first slot of kind k, where the kinds from a to b have the same
+pub first-among : (t : Table) (a b v : ℕ) → any 33 (λ j. leb a j && leb j b && not (eqb v (firstSlot t j))) ≡ false → (k : ℕ) → k < 33 → a ≤ k → k ≤ b → v ≡ firstSlot t k
+first-among t a b v e k h l m =
+    eqb-true _ _ (not-false _ (rw (le-leb a k l, le-leb k b m) at (any-none 33 (λ j. leb a j && leb j b && not (eqb v (firstSlot t j))) k h e)))
 
 -- a record's slot from its fields
 pub slot-is : (t : Table) (s : List ℕ) (i k f o n r c : ℕ) (z : Kind) → k ≡ kindOf s i → f ≡ firstSlot t k → z ≡ kindAt t k → n ≡ countOf s i → r ≡ rowOf s i → c ≡ columnOf s i → o ≡ offset z n r c → f + o ≡ slotOf t s i

@@ -105,56 +105,47 @@ pub fn blocks(rows: usize) -> Kind
     }
 }
 
-// What Kenward and Roger's call reads: none, X, Z, block, theta, weight, Φ, sigma2, β, contrast, β_H.
+// What Kenward and Roger's call reads: X, Z, block, theta, weight, Φ, sigma2, β, contrast, β_H.
 fn kenward_roger_low(k: usize) -> Kind
     ensures { λ r. ⌜ r ≡ getD (kenwardRoger .low) k unread ⌝ }
 {
-    let none = cells(0, 0, 0);
-    let table = [
-        none,
-        cells(1, 24, 6),
-        cells(1, 24, 24),
-        blocks(3),
-        cells(1, 3, 1),
-        cells(1, 24, 1),
-        cells(1, 6, 6),
-        cells(1, 1, 1),
-        cells(1, 6, 1),
-        cells(1, 6, 6),
-        cells(1, 6, 1),
-    ];
-    if k < 11 { table[k] } else { none }
+    match k {
+        1 => cells(1, 24, 6),
+        2 => cells(1, 24, 24),
+        3 => blocks(3),
+        4 => cells(1, 3, 1),
+        5 => cells(1, 24, 1),
+        6 => cells(1, 6, 6),
+        7 => cells(1, 1, 1),
+        8 => cells(1, 6, 1),
+        9 => cells(1, 6, 6),
+        10 => cells(1, 6, 1),
+        _ => cells(0, 0, 0),
+    }
 }
 
-// What Satterthwaite's call reads: eight that are none, β, contrast, β_H.
+// What Satterthwaite's call reads: β, contrast, β_H.
 fn satterthwaite_low(k: usize) -> Kind
     ensures { λ r. ⌜ r ≡ getD (satterthwaite .low) k unread ⌝ }
 {
-    let none = cells(0, 0, 0);
-    let row = cells(1, 6, 1);
-    let table = [
-        none,
-        none,
-        none,
-        none,
-        none,
-        none,
-        none,
-        none,
-        row,
-        cells(1, 6, 6),
-        row,
-    ];
-    if k < 11 { table[k] } else { none }
+    match k {
+        8 => cells(1, 6, 1),
+        9 => cells(1, 6, 6),
+        10 => cells(1, 6, 1),
+        _ => cells(0, 0, 0),
+    }
 }
 
 // And from 30 on: v, Jacobian, A.
 fn satterthwaite_high(k: usize) -> Kind
     ensures { λ r. ⌜ r ≡ getD (satterthwaite .high) k unread ⌝ }
 {
-    let none = cells(0, 0, 0);
-    let table = [cells(1, 6, 6), cells(4, 6, 6), cells(1, 4, 4)];
-    if k < 3 { table[k] } else { none }
+    match k {
+        0 => cells(1, 6, 6),
+        1 => cells(4, 6, 6),
+        2 => cells(1, 4, 4),
+        _ => cells(0, 0, 0),
+    }
 }
 
 // What a call's records of this kind may name.

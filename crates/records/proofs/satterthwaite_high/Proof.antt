@@ -1,14 +1,19 @@
 -- `records::satterthwaite_high` meets its contract.
-use mathlib.Core.Path.{sym, _∙_}
-use lib.ListN.{List·getD-eq-default}
+use Prim.Native.Nat.{ℕ, zero, suc}
+use mathlib.Core.Path.{_≡_, refl, _∙_}
+use lib.ListN.{getD}
 use Rattle.records.specs.Kinds.{satterthwaite, unread}
-use Rattle.records.proofs.Laws.{same-three}
 use borrow.Author.Needs.{needs}
 use Rattle.records.proofs.satterthwaite_high.Statement.{statement}
 use Rattle.records.proofs.satterthwaite_high.Tie as tie
-use Rattle.records.proofs.satterthwaite_high.Reads as reads
-use Rattle.records.proofs.satterthwaite_high.Lts as lts
-use Rattle.records.proofs.cells.Reads as cells-reads
+
+-- a kind that no arm names
+unnamed : (k : ℕ) → (k ≡ 0 → ⊥) → (k ≡ 1 → ⊥) → (k ≡ 2 → ⊥) → unread ≡ getD (satterthwaite .high) k unread
+unfolding satterthwaite
+unnamed zero h0 h1 h2 = absurd (h0 refl)
+unnamed (suc zero) h0 h1 h2 = absurd (h1 refl)
+unnamed (suc (suc zero)) h0 h1 h2 = absurd (h2 refl)
+unnamed (suc (suc (suc k))) h0 h1 h2 = refl
 
 cells-requires : tie.Need-cells-requires
 cells-requires c κs = search needs
@@ -22,19 +27,20 @@ cells-requires-3 c κs = search needs
 cells-requires-4 : tie.Need-cells-requires-4
 cells-requires-4 c κs = search needs
 
-mul-result : tie.Need-mul-result
-mul-result c = search needs
-
-array-copy-out-result : tie.Need-array-copy-out-result
-array-copy-out-result c = search needs
-
 returns : tie.Need-returns
 unfolding satterthwaite
-returns c = same-three (c .before .before .before .before .before .before .args .k) unread (c .before .before .before .before .cells2 .ensures) (c .before .before .before .cells3 .ensures) (c .before .before .cells4 .ensures)
+returns c = rw (c .before .match .keys1) (c .cells .ensures)
 
 returns-2 : tie.Need-returns-2
 unfolding satterthwaite
-returns-2 c = c .before .before .before .before .cells .ensures ∙ sym (List·getD-eq-default (satterthwaite .high) unread (c .if1 .left))
+returns-2 c = rw (c .before .match .keys2) (c .cells2 .ensures)
+
+returns-3 : tie.Need-returns-3
+unfolding satterthwaite
+returns-3 c = rw (c .before .match .keys3) (c .cells3 .ensures)
+
+returns-4 : tie.Need-returns-4
+returns-4 c = c .cells4 .ensures ∙ unnamed _ (c .before .match .rest .0 .0 .1) (c .before .match .rest .0 .1) (c .before .match .rest .1)
 
 pub satterthwaite-high-spec : {M : Type 1} → statement M
 satterthwaite-high-spec =
@@ -44,7 +50,7 @@ satterthwaite-high-spec =
     cells-requires-2
     cells-requires-3
     cells-requires-4
-    mul-result
-    array-copy-out-result
     returns
-    returns-2)
+    returns-2
+    returns-3
+    returns-4)

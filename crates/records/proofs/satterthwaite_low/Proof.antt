@@ -1,14 +1,27 @@
 -- `records::satterthwaite_low` meets its contract.
-use mathlib.Core.Path.{sym, _∙_}
-use lib.ListN.{List·getD-eq-default}
+use Prim.Native.Nat.{ℕ, zero, suc}
+use mathlib.Core.Path.{_≡_, refl, _∙_}
+use lib.ListN.{getD}
 use Rattle.records.specs.Kinds.{satterthwaite, unread}
-use Rattle.records.proofs.Laws.{same-eleven}
 use borrow.Author.Needs.{needs}
 use Rattle.records.proofs.satterthwaite_low.Statement.{statement}
 use Rattle.records.proofs.satterthwaite_low.Tie as tie
-use Rattle.records.proofs.satterthwaite_low.Reads as reads
-use Rattle.records.proofs.satterthwaite_low.Lts as lts
-use Rattle.records.proofs.cells.Reads as cells-reads
+
+-- a kind that no arm names
+unnamed : (k : ℕ) → (k ≡ 8 → ⊥) → (k ≡ 9 → ⊥) → (k ≡ 10 → ⊥) → unread ≡ getD (satterthwaite .low) k unread
+unfolding satterthwaite
+unnamed zero h8 h9 h10 = refl
+unnamed (suc zero) h8 h9 h10 = refl
+unnamed (suc (suc zero)) h8 h9 h10 = refl
+unnamed (suc (suc (suc zero))) h8 h9 h10 = refl
+unnamed (suc (suc (suc (suc zero)))) h8 h9 h10 = refl
+unnamed (suc (suc (suc (suc (suc zero))))) h8 h9 h10 = refl
+unnamed (suc (suc (suc (suc (suc (suc zero)))))) h8 h9 h10 = refl
+unnamed (suc (suc (suc (suc (suc (suc (suc zero))))))) h8 h9 h10 = refl
+unnamed (suc (suc (suc (suc (suc (suc (suc (suc zero)))))))) h8 h9 h10 = absurd (h8 refl)
+unnamed (suc (suc (suc (suc (suc (suc (suc (suc (suc zero))))))))) h8 h9 h10 = absurd (h9 refl)
+unnamed (suc (suc (suc (suc (suc (suc (suc (suc (suc (suc zero)))))))))) h8 h9 h10 = absurd (h10 refl)
+unnamed (suc (suc (suc (suc (suc (suc (suc (suc (suc (suc (suc k))))))))))) h8 h9 h10 = refl
 
 cells-requires : tie.Need-cells-requires
 cells-requires c κs = search needs
@@ -19,19 +32,23 @@ cells-requires-2 c κs = search needs
 cells-requires-3 : tie.Need-cells-requires-3
 cells-requires-3 c κs = search needs
 
-mul-result : tie.Need-mul-result
-mul-result c = search needs
-
-array-copy-out-result : tie.Need-array-copy-out-result
-array-copy-out-result c = search needs
+cells-requires-4 : tie.Need-cells-requires-4
+cells-requires-4 c κs = search needs
 
 returns : tie.Need-returns
 unfolding satterthwaite
-returns c = same-eleven (c .before .before .before .before .before .args .k) unread (c .before .before .before .before .cells .ensures) (c .before .before .before .before .cells .ensures) (c .before .before .before .before .cells .ensures) (c .before .before .before .before .cells .ensures) (c .before .before .before .before .cells .ensures) (c .before .before .before .before .cells .ensures) (c .before .before .before .before .cells .ensures) (c .before .before .before .before .cells .ensures) (c .before .before .before .cells2 .ensures) (c .before .before .cells3 .ensures) (c .before .before .before .cells2 .ensures)
+returns c = rw (c .before .match .keys1) (c .cells .ensures)
 
 returns-2 : tie.Need-returns-2
 unfolding satterthwaite
-returns-2 c = c .before .before .before .cells .ensures ∙ sym (List·getD-eq-default (satterthwaite .low) unread (c .if1 .left))
+returns-2 c = rw (c .before .match .keys2) (c .cells2 .ensures)
+
+returns-3 : tie.Need-returns-3
+unfolding satterthwaite
+returns-3 c = rw (c .before .match .keys3) (c .cells3 .ensures)
+
+returns-4 : tie.Need-returns-4
+returns-4 c = c .cells4 .ensures ∙ unnamed _ (c .before .match .rest .0 .0 .1) (c .before .match .rest .0 .1) (c .before .match .rest .1)
 
 pub satterthwaite-low-spec : {M : Type 1} → statement M
 satterthwaite-low-spec =
@@ -40,7 +57,8 @@ satterthwaite-low-spec =
     cells-requires
     cells-requires-2
     cells-requires-3
-    mul-result
-    array-copy-out-result
+    cells-requires-4
     returns
-    returns-2)
+    returns-2
+    returns-3
+    returns-4)
