@@ -72,7 +72,7 @@ pub fn sigma_and_precision(
 {
     clear_all(work);
     let a = square_at(s, 0, work.len());
-    covariance::sigma::fill_sigma(
+    sigma::fill_sigma(
         work,
         a,
         s,

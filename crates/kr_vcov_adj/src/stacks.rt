@@ -38,7 +38,7 @@ pub fn fill_hs(
     for r in 0..k {
         let q = square_at(s, 1, work.len());
         let d = square_at(s, 2 + r, work.len());
-        covariance::sigma::fill_h(
+        sigma::fill_h(
             work,
             d,
             q,

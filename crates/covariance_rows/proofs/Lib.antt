@@ -1,0 +1,2 @@
+-- The laws of the rows of the Gs.
+pub mod RowLaws

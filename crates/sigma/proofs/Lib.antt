@@ -1,0 +1,2 @@
+-- The laws of Σ and the Hs.
+pub mod PartLaws
