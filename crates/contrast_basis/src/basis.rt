@@ -92,7 +92,7 @@ fn first_turned(p: usize, x: [f64; 6], y: [f64; 6], c: f64, s: f64) -> [f64; 6]
 {
     let mut out = [0.0; 6];
     for k in 0..p {
-        out[k] = jacobi::turned_first(c, s, x[k], y[k]);
+        out[k] = rotation::turned_first(c, s, x[k], y[k]);
     }
     out
 }
@@ -104,7 +104,7 @@ fn second_turned(p: usize, x: [f64; 6], y: [f64; 6], c: f64, s: f64) -> [f64; 6]
 {
     let mut out = [0.0; 6];
     for k in 0..p {
-        out[k] = jacobi::turned_second(c, s, x[k], y[k]);
+        out[k] = rotation::turned_second(c, s, x[k], y[k]);
     }
     out
 }
