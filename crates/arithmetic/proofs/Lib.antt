@@ -6,6 +6,7 @@ pub mod Tied
 pub mod Ranges
 pub mod RangeTest
 pub mod PlainLaws
+pub mod RangeCode
 pub mod PowerOfTwo
 pub mod RootWhole
 pub mod RootLoop

@@ -11,14 +11,11 @@ const LEAST: f64 = 1.499696813895631e-241;
 
 const LIMIT: f64 = 1.333602886575971e+241;
 
-// Zero, or of a binary exponent from -800 to 800.
+// Zero, or of a binary exponent from -800 to 800. The number itself is compared, on both sides of zero, so that there is no branch.
 pub fn in_range(x: f64) -> bool
     ensures { λ r. ⌜ r ≡ inRange x ⌝ }
 {
-    let m = magnitude(x);
-    let a = LEAST <= m;
-    let b = m < LIMIT;
-    is_zero(x) | (a & b)
+    (x < LIMIT) & (-LIMIT < x) & ((LEAST <= x) | (x <= -LEAST) | is_zero(x))
 }
 
 // The mark of a step on a and b with the rounded result r.
