@@ -1,2 +1,3 @@
 -- The laws of the marked products' own steps.
 pub mod SettledLaws
+pub mod ZeroTerms

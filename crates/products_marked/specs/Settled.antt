@@ -1,10 +1,11 @@
 -- Marks that count their number's range already, as a step's result has: a step on such numbers need not test its operands again.
 use Prim.Native.Nat.{ℕ, _<_}
-use mathlib.Core.Bool.{_&&_}
+use mathlib.Core.Bool.{Bool, _&&_}
 use mathlib.Core.List.{List}
 use lib.Dec.{T}
 use lib.ListN.{getD}
 use Rattle.arithmetic.specs.declared.Marked.{Marked}
+use Rattle.arithmetic.specs.Numbers.{isZero}
 use Rattle.arithmetic.specs.Marks.{marked, inRange}
 use Rattle.algebra.specs.Table.{table}
 use Rattle.algebra.specs.Kind.{marks, nil}
@@ -21,6 +22,14 @@ pub record SettledRow (c : ℕ) (row : List Marked) : Type 0 where
 -- the cells of r rows and c columns
 pub record SettledCells (r c : ℕ) (m : List (List Marked)) : Type 0 where
   pub each : (i j : ℕ) → i < r → j < c → Settled (at marks m i j)
+
+-- where `whole` is true, the cells of r rows and c columns are inside
+pub record Whole (whole : Bool) (r c : ℕ) (m : List (List Marked)) : Type 0 where
+  pub each : T whole → (i j : ℕ) → i < r → j < c → T (at marks m i j .inside)
+
+-- x is a zero that is inside, and so is all that it is to be multiplied by
+unfoldable pub addsNothing : Marked → Bool → Bool
+addsNothing x whole = whole && x .inside && isZero (x .value)
 
 -- the number a, whose mark counts its range
 unfoldable pub settled : Marked → Marked

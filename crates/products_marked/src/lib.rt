@@ -6,8 +6,9 @@ ghost use Rattle.algebra.specs.Table.{blank};
 ghost use Rattle.algebra.specs.Kind.{marks, nil};
 ghost use Rattle.algebra.specs.Product.{cell, product, transpose, likeCells, trace, plusCells, minusCells, timesNumber, overNumber};
 ghost use Rattle.products.specs.Small.{withTerms, sandwich, givenCells, values, allMarks};
-ghost use Rattle.products_marked.specs.Settled.{Settled, SettledRow, SettledCells, settled, settledCells};
+ghost use Rattle.products_marked.specs.Settled.{Settled, SettledRow, SettledCells, Whole, settled, settledCells, addsNothing};
 use arithmetic::Marked;
+use arithmetic::plain::is_zero;
 use arithmetic::step::add;
 use arithmetic::step::also;
 use arithmetic::step::div;
@@ -94,21 +95,33 @@ fn with_terms(sums: [Marked; 6], x: Marked, terms: [Marked; 6], cols: usize) -> 
     out
 }
 
-// a, of rows by inner, times b, of inner by cols and settled. A row at a time: a cell's sum still runs by rising index, and no matrix is copied.
+// Whether a turn with x on the left adds nothing: x is a zero, and so, where every number on the right is inside, is each product.
+fn adds_nothing(x: Marked, whole: bool) -> bool
+    ensures { λ r. ⌜ r ≡ addsNothing x whole ⌝ }
+{
+    whole & x.inside & is_zero(x.value)
+}
+
+// a, of rows by inner, times b, of inner by cols and settled; `whole` says that every cell of b is inside.
+// A row at a time: a cell's sum still runs by rising index, and no matrix is copied.
 fn settled_product(
     a: [[Marked; 6]; 6],
     b: [[Marked; 6]; 6],
     rows: usize,
     inner: usize,
     cols: usize,
+    whole: bool,
 ) -> [[Marked; 6]; 6]
-    requires { ⌜ (rows ≤ 6) × (inner ≤ 6) × (cols ≤ 6) × SettledCells inner cols b ⌝ }
+    requires { ⌜ (rows ≤ 6) × (inner ≤ 6) × (cols ≤ 6) × SettledCells inner cols b × Whole whole inner cols b ⌝ }
     ensures { λ r. ⌜ r ≡ product marks 6 6 rows inner cols a b ⌝ }
 {
     let mut out = zeros();
     for i in 0..rows {
         for k in 0..inner {
-            out[i] = with_terms(out[i], settled(a[i][k]), b[k], cols);
+            let x = a[i][k];
+            if !adds_nothing(x, whole) {
+                out[i] = with_terms(out[i], settled(x), b[k], cols);
+            }
         }
     }
     out
@@ -126,7 +139,8 @@ pub fn product(
     ensures { λ r. ⌜ r ≡ product marks 6 6 rows inner cols a b ⌝ }
 {
     let ready = settled_cells(b, inner, cols);
-    settled_product(a, ready, rows, inner, cols)
+    let all = all_marks(ready, inner, cols, given(0.0));
+    settled_product(a, ready, rows, inner, cols, all.inside)
 }
 
 // The rows of a as columns.
