@@ -1,12 +1,13 @@
 // One Kenward–Roger contrast test, from a basis and the scaled matrices to its entry. Every step but the moments carries its mark.
 ghost use mathlib.Core.Path.{_≡_};
 ghost use Prim.Native.Nat.{_≤_};
+ghost use mathlib.Core.List.{List};
 ghost use Rattle.algebra.specs.Kind.{marks};
 ghost use Rattle.algebra.specs.Product.{product};
 ghost use Rattle.algebra.specs.Elimination.{refused};
-ghost use Rattle.products.specs.Small.{sandwich};
+ghost use Rattle.products.specs.Small.{sandwich, allMarks};
 ghost use Rattle.contrast_basis.specs.Basis.{Rows};
-ghost use Rattle.tests.specs.KenwardRoger.{scaledPs, scalingSeen, difference, thetaOf, uOf, uStack, uValues, uSeen, waldOne, waldOneGiven, waldMany, scaledOf, basisOf, waldOf, waldNumberOf, thetaSeen, waldSeen, entryOf, waldEntry, thetaEntry, tested, unitRow};
+ghost use Rattle.tests.specs.KenwardRoger.{MarkedRows, scaledPs, scalingSeen, difference, thetaOf, uOf, uStack, uValues, uSeen, waldOne, waldOneGiven, waldMany, scaledOf, basisOf, waldOf, waldNumberOf, waldSeen, entryOf, waldEntry, thetaEntry, tested, unitRow};
 use adjustment::Cutoffs;
 use answers::Entry;
 use answers::Number;
@@ -100,40 +101,31 @@ pub fn u_of(
     product(left, phi, p, p, p)
 }
 
-// The n matrices u_i.
-pub fn u_stack(
+// The n matrices u_i, each taken apart as it is made: `plain` gets the values, for the moments, which are unmarked, and the marks are counted with `seen`.
+pub fn u_split(
     tp: [[Marked; 6]; 6],
     ps: [[[Marked; 6]; 6]; 4],
     phi: [[Marked; 6]; 6],
     n: usize,
     p: usize,
-) -> [[[Marked; 6]; 6]; 4]
+    seen: Marked,
+    plain: &mut [[[f64; 6]; 6]; 4],
+) -> Marked
     requires { ⌜ (n ≤ 4) × (p ≤ 6) ⌝ }
-    ensures { λ r. ⌜ r ≡ uStack n p tp ps phi ⌝ }
-{
-    let blank = zeros();
-    let mut out = [blank; 4];
-    for i in 0..n {
-        let pi = ps[i];
-        let u = u_of(tp, pi, phi, p);
-        out[i] = u;
-    }
-    out
-}
-
-// The u_i without their marks: the moments are unmarked.
-pub fn u_values(us: [[[Marked; 6]; 6]; 4], n: usize, p: usize) -> [[[f64; 6]; 6]; 4]
-    requires { ⌜ (n ≤ 4) × (p ≤ 6) ⌝ }
-    ensures { λ r. ⌜ r ≡ uValues n p us ⌝ }
+    ensures { λ r. ⌜ r ≡ uSeen n p (uStack n p tp ps phi) seen ⌝ }
+    ensures { λ r. ⌜ now (plain .exit) ≡ uValues n p (uStack n p tp ps phi) ⌝ }
 {
     let blank = products::zeros();
     let mut out = [blank; 4];
+    let mut all = seen;
     for i in 0..n {
-        let u = us[i];
-        let plain = values(u, p, p);
-        out[i] = plain;
+        let pi = ps[i];
+        let u = u_of(tp, pi, phi, p);
+        out[i] = values(u, p, p);
+        all = all_marks(u, p, p, all);
     }
-    out
+    *plain = out;
+    all
 }
 
 // `seen`, with the marks of the n matrices counted.
@@ -225,26 +217,23 @@ pub fn wald_number(v: [[Marked; 6]; 6], wald: Marked, q: usize) -> Number
     number_of(wald.value)
 }
 
-// The marks of D, A, A⁻¹L, ΘΦ and the u_i.
+// The marks of D, A, A⁻¹L and ΘΦ.
 pub fn theta_seen(
     d: [[Marked; 6]; 6],
     a: [[Marked; 6]; 6],
     x: [[Marked; 6]; 6],
     tp: [[Marked; 6]; 6],
-    us: [[[Marked; 6]; 6]; 4],
-    n: usize,
     p: usize,
     q: usize,
     seen: Marked,
 ) -> Marked
-    requires { ⌜ (n ≤ 4) × (p ≤ 6) × (q ≤ 6) ⌝ }
-    ensures { λ r. ⌜ r ≡ thetaSeen n p q d a x tp us seen ⌝ }
+    requires { ⌜ (p ≤ 6) × (q ≤ 6) ⌝ }
+    ensures { λ r. ⌜ r ≡ allMarks p p tp (allMarks q p x (allMarks q q a (allMarks p 1 d seen))) ⌝ }
 {
     let s1 = all_marks(d, p, 1, seen);
     let s2 = all_marks(a, q, q, s1);
     let s3 = all_marks(x, q, p, s2);
-    let s4 = all_marks(tp, p, p, s3);
-    u_seen(us, n, p, s4)
+    all_marks(tp, p, p, s3)
 }
 
 // The marks of LD, v, Y and Wald. One row needs no Y.
@@ -268,10 +257,10 @@ pub fn wald_seen(
     also(s3, wald)
 }
 
-// The entry, from the u_i, Wald and what was seen.
+// The entry, from the values of the u_i, Wald and what was seen.
 pub fn entry_of(
     c: Cutoffs,
-    us: [[[Marked; 6]; 6]; 4],
+    plain: [[[f64; 6]; 6]; 4],
     w: [[f64; 6]; 6],
     n: usize,
     p: usize,
@@ -280,9 +269,8 @@ pub fn entry_of(
     seen: Marked,
 ) -> Entry
     requires { ⌜ (n ≤ 4) × (p ≤ 6) × (q ≤ 6) ⌝ }
-    ensures { λ r. ⌜ r ≡ entryOf c n p q w us wald seen ⌝ }
+    ensures { λ r. ⌜ ((us : List MarkedRows) → plain ≡ uValues n p us → r ≡ entryOf c n p q w us wald seen) ⌝ }
 {
-    let plain = u_values(us, n, p);
     let a1 = a1_of(plain, w, n, p);
     let a2 = a2_of(plain, w, n, p);
     let scaling = scaling_of(c, q, a1, a2);
@@ -296,10 +284,10 @@ pub fn entry_of(
     }
 }
 
-// The entry, from the u_i, LD, v, Y and what was seen before these.
+// The entry, from the values of the u_i, LD, v, Y and what was seen before these.
 pub fn wald_entry(
     c: Cutoffs,
-    us: [[[Marked; 6]; 6]; 4],
+    plain: [[[f64; 6]; 6]; 4],
     w: [[f64; 6]; 6],
     ld: [[Marked; 6]; 6],
     v: [[Marked; 6]; 6],
@@ -310,12 +298,12 @@ pub fn wald_entry(
     seen: Marked,
 ) -> Entry
     requires { ⌜ (n ≤ 4) × (p ≤ 6) × (q ≤ 6) ⌝ }
-    ensures { λ r. ⌜ r ≡ waldEntry c n p q w us ld v y seen ⌝ }
+    ensures { λ r. ⌜ ((us : List MarkedRows) → plain ≡ uValues n p us → r ≡ waldEntry c n p q w us ld v y seen) ⌝ }
 {
     let wald = solve_wald_quadratic(v, ld, y, q);
     let number = wald_number(v, wald, q);
     let all = wald_seen(ld, v, y, wald, q, seen);
-    entry_of(c, us, w, n, p, q, number, all)
+    entry_of(c, plain, w, n, p, q, number, all)
 }
 
 // The entry, from L, D, LD, v, Y and what was seen of the basis and the scaling. A zero pivot of A refuses the test.
@@ -342,9 +330,10 @@ pub fn theta_entry(
     let a = sandwich(l, phi, q, p);
     let x = solve(a, l, q, p, zero_pivot);
     let tp = theta_phi(l, x, phi, p, q);
-    let us = u_stack(tp, ps, phi, n, p);
-    let all = theta_seen(d, a, x, tp, us, n, p, q, seen);
-    wald_entry(c, us, w, ld, v, y, n, p, q, all)
+    let before = theta_seen(d, a, x, tp, p, q, seen);
+    let mut plain = [[[0.0; 6]; 6]; 4];
+    let all = u_split(tp, ps, phi, n, p, before, &mut plain);
+    wald_entry(c, plain, w, ld, v, y, n, p, q, all)
 }
 
 // A test, for a basis of q rows; `seen` counts the marks of the basis. A zero pivot refuses the test, of Wald's elimination where several rows need it.

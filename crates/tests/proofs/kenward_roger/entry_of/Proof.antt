@@ -4,9 +4,6 @@ use borrow.Author.Needs.{needs}
 use Rattle.tests.proofs.kenward_roger.entry_of.Statement.{statement}
 use Rattle.tests.proofs.kenward_roger.entry_of.Tie as tie
 
-u-values-requires : tie.Need-u-values-requires
-u-values-requires c κs = search needs
-
 a1-of-requires : tie.Need-a1-of-requires
 a1-of-requires c κs = search needs
 
@@ -22,25 +19,23 @@ f-of-requires c κs = search needs
 df-of-requires : tie.Need-df-of-requires
 df-of-requires c κs = search needs
 
-cast-t15 : tie.Need-cast-t15
-cast-t15 c = search needs
+cast-t14 : tie.Need-cast-t14
+cast-t14 c = search needs
 
 returns : tie.Need-returns
 returns c =
-    let plain = c .before .before .before .before .before .u-values .ensures in
     let a1 = c .before .before .before .before .a1-of .ensures in
     let a2 = c .before .before .before .a2-of .ensures in
-    entry-is _ _ _ _ _ _ _ _ _ _ _ _ _ _ plain a1 a2 (c .before .before .scaling-of .ensures) (c .before .f-of .ensures) (c .df-of .ensures)
+    λ us e. entry-is _ _ _ _ _ us _ _ _ _ _ _ _ _ e a1 a2 (c .before .before .scaling-of .ensures) (c .before .f-of .ensures) (c .df-of .ensures)
 
 pub entry-of-spec : {M : Type 1} → statement M
 entry-of-spec =
     tie.close
     (tie.spec
-    u-values-requires
     a1-of-requires
     a2-of-requires
     scaling-of-requires
     f-of-requires
     df-of-requires
-    cast-t15
+    cast-t14
     returns)

@@ -13,21 +13,22 @@ solve-requires c κs = search needs
 theta-phi-requires : tie.Need-theta-phi-requires
 theta-phi-requires c κs = search needs
 
-u-stack-requires : tie.Need-u-stack-requires
-u-stack-requires c κs = search needs
-
 theta-seen-requires : tie.Need-theta-seen-requires
 theta-seen-requires c κs = search needs
+
+u-split-requires : tie.Need-u-split-requires
+u-split-requires c κs = search needs
 
 wald-entry-requires : tie.Need-wald-entry-requires
 wald-entry-requires c κs = search needs
 
 returns : tie.Need-returns
 returns c =
-    let a = c .before .before .before .before .before .before .sandwich .ensures in
-    let x = c .before .before .before .before .solve .ensures in
-    let tp = c .before .before .before .theta-phi .ensures in
-    (theta-entry-is _ _ _ _ _ _ _ _ _ _ _ _ _ _ _ _ _ _ _ a (x .0) tp (c .before .before .u-stack .ensures) (c .before .theta-seen .ensures) (c .wald-entry .ensures), rw (← a) (x .1))
+    let t = c .before .before .before in
+    let a = t .before .before .before .before .sandwich .ensures in
+    let x = t .before .before .solve .ensures in
+    let u = c .before .u-split .ensures in
+    (theta-entry-is _ _ _ _ _ _ _ _ _ _ _ _ _ _ _ _ _ _ _ _ a (x .0) (t .before .theta-phi .ensures) (t .theta-seen .ensures) (u .0) (u .1) (c .wald-entry .ensures), rw (← a) (x .1))
 
 pub theta-entry-spec : {M : Type 1} → statement M
 theta-entry-spec =
@@ -36,7 +37,7 @@ theta-entry-spec =
     sandwich-requires
     solve-requires
     theta-phi-requires
-    u-stack-requires
     theta-seen-requires
+    u-split-requires
     wald-entry-requires
     returns)

@@ -1,5 +1,4 @@
 -- `tests::kenward_roger::theta_seen` meets its contract.
-use Rattle.tests.specs.KenwardRoger.{thetaSeen}
 use borrow.Author.Needs.{needs}
 use Rattle.tests.proofs.kenward_roger.theta_seen.Statement.{statement}
 use Rattle.tests.proofs.kenward_roger.theta_seen.Tie as tie
@@ -16,11 +15,7 @@ all-marks-requires-3 c κs = search needs
 all-marks-requires-4 : tie.Need-all-marks-requires-4
 all-marks-requires-4 c κs = search needs
 
-u-seen-requires : tie.Need-u-seen-requires
-u-seen-requires c κs = search needs
-
 returns : tie.Need-returns
-unfolding thetaSeen
 returns c = cc
 
 pub theta-seen-spec : {M : Type 1} → statement M
@@ -31,5 +26,4 @@ theta-seen-spec =
     all-marks-requires-2
     all-marks-requires-3
     all-marks-requires-4
-    u-seen-requires
     returns)
