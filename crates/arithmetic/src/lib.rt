@@ -1,7 +1,6 @@
 // Bit-exact f64 arithmetic: plain helpers, the square root, and marked numbers.
 pub mod plain;
 pub mod root;
-pub mod step;
 
 // A value together with its mark: whether every step up to it was inside document 01's range.
 pub struct Marked {

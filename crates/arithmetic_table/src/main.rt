@@ -24,18 +24,18 @@ fn step(line: &[u8]) -> Marked
     let name = line[0];
     let second = line[1];
     if name == b'a' {
-        return arithmetic::step::add(a, b);
+        return steps::add(a, b);
     }
     if name == b'm' {
-        return arithmetic::step::mul(a, b);
+        return steps::mul(a, b);
     }
     if name == b'd' {
-        return arithmetic::step::div(a, b);
+        return steps::div(a, b);
     }
     if second == b'u' {
-        return arithmetic::step::sub(a, b);
+        return steps::sub(a, b);
     }
-    arithmetic::step::square_root(a)
+    steps::square_root(a)
 }
 
 // The line again, without its newline, and after it the answer's bits and mark.

@@ -4,11 +4,11 @@ use adjustment::packing::index_symmat2vec;
 use adjustment::small_numbers::document_cutoffs;
 use answers::Entry;
 use answers::Number;
-use arithmetic::step::given;
 use ddf_test::pooled::get_fstat_ddf;
 use ddf_test::satterthwaite::satterthwaite_contrast_f_test;
 use ddf_test::variance::variance_df;
 use response_units::scaled_up;
+use steps::given;
 
 fn print_bits(x: f64) {
     io::write_all(1, b" ");

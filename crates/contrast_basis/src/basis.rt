@@ -18,9 +18,9 @@ use arithmetic::plain::is_zero;
 use arithmetic::plain::magnitude;
 use arithmetic::plain::of_count;
 use arithmetic::root::sqrt;
-use arithmetic::step::given;
 use falling_order::counted;
 use falling_order::index_at;
+use steps::given;
 
 // 2^-52, the distance from 1 to the next number.
 const EPSILON: f64 = 2.220446049250313e-16;
@@ -55,7 +55,7 @@ pub fn divided_cell(p: usize, l: [[f64; 6]; 6], i: usize, j: usize) -> Marked
     let scale = largest(p, l[i]);
     let x = given(l[i][j]);
     if 0.0 < scale {
-        return arithmetic::step::div(x, given(scale));
+        return steps::div(x, given(scale));
     }
     x
 }

@@ -25,15 +25,15 @@ use answers::number_of;
 use arithmetic::Marked;
 use arithmetic::plain::is_nan;
 use arithmetic::plain::of_count;
-use arithmetic::step::add;
-use arithmetic::step::div;
-use arithmetic::step::given;
-use arithmetic::step::mul;
 use falling_order::index_at;
 use products_marked::cell;
 use products_marked::product;
 use products_marked::transpose;
 use products_marked::zeros;
+use steps::add;
+use steps::div;
+use steps::given;
+use steps::mul;
 
 // The diagonal that Jacobi ends with.
 pub fn eigenvalues(d: [[Marked; 6]; 6], q: usize) -> [f64; 6]

@@ -28,13 +28,13 @@ use adjustment::Cutoffs;
 use answers::Entry;
 use answers::number_of;
 use arithmetic::Marked;
-use arithmetic::step::also;
-use arithmetic::step::div;
-use arithmetic::step::mul;
-use arithmetic::step::square_root;
 use jacobi_marked::jacobi;
 use products_marked::all_marks;
 use products_marked::given_cells;
+use steps::also;
+use steps::div;
+use steps::mul;
+use steps::square_root;
 
 // F of one row, whatever V is.
 pub fn square_one(ld: Marked, v: Marked) -> Marked

@@ -6,13 +6,13 @@ ghost use Rattle.algebra.specs.Product.{product};
 ghost use Rattle.ddf.specs.Satterthwaite.{column, contrastOf, transformed, transformedAll, stackSeen};
 ghost use Rattle.ddf_test.specs.Parts.{startSeenOf};
 use arithmetic::Marked;
-use arithmetic::step::given;
 use products_marked::all_marks;
 use products_marked::given_cells;
 use products_marked::minus_cells;
 use products_marked::product;
 use products_marked::sandwich;
 use products_marked::zeros;
+use steps::given;
 
 // b as a column.
 pub fn column(b: [f64; 6], p: usize) -> [[Marked; 6]; 6]

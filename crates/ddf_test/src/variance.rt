@@ -12,8 +12,8 @@ ghost use Rattle.ddf.specs.VarianceDf.{entryAt, isPositive, relativeGradient, r
 use answers::Number;
 use arithmetic::Marked;
 use arithmetic::plain::is_finite;
-use arithmetic::step::also;
-use arithmetic::step::div;
+use steps::also;
+use steps::div;
 
 // Six zeros, for rows of marked numbers.
 pub fn no_marks() -> [Marked; 6]

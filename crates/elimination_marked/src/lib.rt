@@ -9,10 +9,10 @@ ghost use Rattle.elimination.specs.Parts.{singular, joinedCell, identityCell};
 use arithmetic::Marked;
 use arithmetic::plain::is_larger;
 use arithmetic::plain::is_zero;
-use arithmetic::step::div;
-use arithmetic::step::given;
-use arithmetic::step::mul;
-use arithmetic::step::sub;
+use steps::div;
+use steps::given;
+use steps::mul;
+use steps::sub;
 
 // Of the rows best and r, that with the larger magnitude in column c. An equal one does not replace best.
 fn larger(m: [[Marked; 12]; 6], c: usize, r: usize, best: usize) -> usize

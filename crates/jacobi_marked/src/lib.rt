@@ -12,14 +12,14 @@ ghost use Rattle.algebra.specs.Jacobi.{State, ratio, tangent, cosine, sine, tur
 use arithmetic::Marked;
 use arithmetic::plain::is_zero;
 use arithmetic::plain::sign;
-use arithmetic::step::add;
-use arithmetic::step::also;
-use arithmetic::step::div;
-use arithmetic::step::given;
-use arithmetic::step::mul;
-use arithmetic::step::square_root;
-use arithmetic::step::sub;
-use arithmetic::step::unsigned;
+use steps::add;
+use steps::also;
+use steps::div;
+use steps::given;
+use steps::mul;
+use steps::square_root;
+use steps::sub;
+use steps::unsigned;
 
 // z: the difference of the diagonal cells over twice the cell beside them.
 pub fn ratio(aa: Marked, bb: Marked, ab: Marked) -> Marked

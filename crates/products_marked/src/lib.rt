@@ -9,14 +9,14 @@ ghost use Rattle.products.specs.Small.{withTerms, sandwich, givenCells, values,
 ghost use Rattle.products_marked.specs.Settled.{Settled, SettledRow, SettledCells, Whole, settled, settledCells, addsNothing};
 use arithmetic::Marked;
 use arithmetic::plain::is_zero;
-use arithmetic::step::add;
-use arithmetic::step::also;
-use arithmetic::step::div;
-use arithmetic::step::given;
-use arithmetic::step::in_range;
-use arithmetic::step::lost_product;
-use arithmetic::step::mul;
-use arithmetic::step::sub;
+use steps::add;
+use steps::also;
+use steps::div;
+use steps::given;
+use steps::in_range;
+use steps::lost_product;
+use steps::mul;
+use steps::sub;
 
 // Zeros alone.
 pub fn zeros() -> [[Marked; 6]; 6]

@@ -4,7 +4,7 @@ ghost use Prim.Native.Nat.{ℕ, _≤_};
 ghost use Rattle.adjustment.specs.Adjusted.{scaledUp, scaledDown, notAllFinite, notAllFiniteMarked, psNotFiniteTo, outputNotFinite};
 use arithmetic::Marked;
 use arithmetic::plain::is_finite;
-use arithmetic::step::given;
+use steps::given;
 
 // m times sigma2, as marked steps.
 pub fn scaled_up(p: usize, m: [[f64; 6]; 6], sigma2: f64) -> [[Marked; 6]; 6]

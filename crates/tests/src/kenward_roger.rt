@@ -14,13 +14,6 @@ use answers::Number;
 use answers::number_of;
 use arithmetic::Marked;
 use arithmetic::plain::is_finite;
-use arithmetic::step::add;
-use arithmetic::step::also;
-use arithmetic::step::div;
-use arithmetic::step::given;
-use arithmetic::step::mul;
-use arithmetic::step::square_root;
-use arithmetic::step::sub;
 use elimination_marked::solve;
 use moments::a1_of;
 use moments::a2_of;
@@ -35,6 +28,13 @@ use products_marked::transpose;
 use products_marked::values;
 use products_marked::zeros;
 use response_units::scaled_down;
+use steps::add;
+use steps::also;
+use steps::div;
+use steps::given;
+use steps::mul;
+use steps::square_root;
+use steps::sub;
 
 // Each of the n matrices P in response units.
 pub fn scaled_ps(ps: [[[f64; 6]; 6]; 4], sigma2: f64, n: usize, p: usize) -> [[[Marked; 6]; 6]; 4]

@@ -1,8 +1,8 @@
--- `arithmetic::step::lost_product` meets its contract.
+-- `steps::lost_product` meets its contract.
 use Rattle.arithmetic.specs.Marks.{lostProduct}
 use borrow.Author.Needs.{needs}
-use Rattle.arithmetic.proofs.step.lost_product.Statement.{statement}
-use Rattle.arithmetic.proofs.step.lost_product.Tie as tie
+use Rattle.steps.proofs.lost_product.Statement.{statement}
+use Rattle.steps.proofs.lost_product.Tie as tie
 
 is-zero-requires : tie.Need-is-zero-requires
 is-zero-requires c κs = search needs

@@ -1,10 +1,10 @@
 // The marked steps: + - * / and the square root on numbers that carry their mark.
 ghost use mathlib.Core.Path.{_≡_};
 ghost use Rattle.arithmetic.specs.Marks.{inRange, stepMark, lostProduct, lostQuotient, given, markedAdd, markedSub, markedMul, markedDiv, markedRoot, markedNeg, markedMagnitude, also};
-use crate::Marked;
-use crate::plain::is_zero;
-use crate::plain::magnitude;
-use crate::root::sqrt;
+use arithmetic::Marked;
+use arithmetic::plain::is_zero;
+use arithmetic::plain::magnitude;
+use arithmetic::root::sqrt;
 
 // 2^-800 and 2^801.
 const LEAST: f64 = 1.499696813895631e-241;

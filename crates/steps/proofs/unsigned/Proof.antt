@@ -1,8 +1,8 @@
--- `arithmetic::step::unsigned` meets its contract.
+-- `steps::unsigned` meets its contract.
 use Rattle.arithmetic.specs.Marks.{markedMagnitude}
 use borrow.Author.Needs.{needs}
-use Rattle.arithmetic.proofs.step.unsigned.Statement.{statement}
-use Rattle.arithmetic.proofs.step.unsigned.Tie as tie
+use Rattle.steps.proofs.unsigned.Statement.{statement}
+use Rattle.steps.proofs.unsigned.Tie as tie
 
 magnitude-requires : tie.Need-magnitude-requires
 magnitude-requires c κs = search needs

@@ -1,10 +1,10 @@
--- `arithmetic::step::in_range` meets its contract.
+-- `steps::in_range` meets its contract.
 use mathlib.Core.Path.{ap, _∙_}
 use lib.Ieee.{ofBits, neg}
 use borrow.Author.Needs.{needs}
 use Rattle.arithmetic.proofs.RangeCode.{test, range-code}
-use Rattle.arithmetic.proofs.step.in_range.Statement.{statement}
-use Rattle.arithmetic.proofs.step.in_range.Tie as tie
+use Rattle.steps.proofs.in_range.Statement.{statement}
+use Rattle.steps.proofs.in_range.Tie as tie
 
 is-zero-requires : tie.Need-is-zero-requires
 is-zero-requires c κs = search needs

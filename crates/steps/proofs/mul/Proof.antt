@@ -1,8 +1,8 @@
--- `arithmetic::step::mul` meets its contract.
+-- `steps::mul` meets its contract.
 use Rattle.arithmetic.specs.Marks.{markedMul}
 use borrow.Author.Needs.{needs}
-use Rattle.arithmetic.proofs.step.mul.Statement.{statement}
-use Rattle.arithmetic.proofs.step.mul.Tie as tie
+use Rattle.steps.proofs.mul.Statement.{statement}
+use Rattle.steps.proofs.mul.Tie as tie
 
 step-mark-requires : tie.Need-step-mark-requires
 step-mark-requires c κs = search needs

@@ -1,8 +1,8 @@
--- `arithmetic::step::sub` meets its contract.
+-- `steps::sub` meets its contract.
 use Rattle.arithmetic.specs.Marks.{markedSub}
 use borrow.Author.Needs.{needs}
-use Rattle.arithmetic.proofs.step.sub.Statement.{statement}
-use Rattle.arithmetic.proofs.step.sub.Tie as tie
+use Rattle.steps.proofs.sub.Statement.{statement}
+use Rattle.steps.proofs.sub.Tie as tie
 
 step-mark-requires : tie.Need-step-mark-requires
 step-mark-requires c κs = search needs

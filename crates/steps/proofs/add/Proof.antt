@@ -1,8 +1,8 @@
--- `arithmetic::step::add` meets its contract.
+-- `steps::add` meets its contract.
 use Rattle.arithmetic.specs.Marks.{markedAdd}
 use borrow.Author.Needs.{needs}
-use Rattle.arithmetic.proofs.step.add.Statement.{statement}
-use Rattle.arithmetic.proofs.step.add.Tie as tie
+use Rattle.steps.proofs.add.Statement.{statement}
+use Rattle.steps.proofs.add.Tie as tie
 
 step-mark-requires : tie.Need-step-mark-requires
 step-mark-requires c κs = search needs

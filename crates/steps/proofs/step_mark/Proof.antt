@@ -1,8 +1,8 @@
--- `arithmetic::step::step_mark` meets its contract.
+-- `steps::step_mark` meets its contract.
 use Rattle.arithmetic.specs.Marks.{stepMark}
 use borrow.Author.Needs.{needs}
-use Rattle.arithmetic.proofs.step.step_mark.Statement.{statement}
-use Rattle.arithmetic.proofs.step.step_mark.Tie as tie
+use Rattle.steps.proofs.step_mark.Statement.{statement}
+use Rattle.steps.proofs.step_mark.Tie as tie
 
 in-range-requires : tie.Need-in-range-requires
 in-range-requires c κs = search needs

@@ -1,8 +1,8 @@
--- `arithmetic::step::lost_quotient` meets its contract.
+-- `steps::lost_quotient` meets its contract.
 use Rattle.arithmetic.specs.Marks.{lostQuotient}
 use borrow.Author.Needs.{needs}
-use Rattle.arithmetic.proofs.step.lost_quotient.Statement.{statement}
-use Rattle.arithmetic.proofs.step.lost_quotient.Tie as tie
+use Rattle.steps.proofs.lost_quotient.Statement.{statement}
+use Rattle.steps.proofs.lost_quotient.Tie as tie
 
 is-zero-requires : tie.Need-is-zero-requires
 is-zero-requires c κs = search needs

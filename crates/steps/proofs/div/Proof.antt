@@ -1,8 +1,8 @@
--- `arithmetic::step::div` meets its contract.
+-- `steps::div` meets its contract.
 use Rattle.arithmetic.specs.Marks.{markedDiv}
 use borrow.Author.Needs.{needs}
-use Rattle.arithmetic.proofs.step.div.Statement.{statement}
-use Rattle.arithmetic.proofs.step.div.Tie as tie
+use Rattle.steps.proofs.div.Statement.{statement}
+use Rattle.steps.proofs.div.Tie as tie
 
 step-mark-requires : tie.Need-step-mark-requires
 step-mark-requires c κs = search needs

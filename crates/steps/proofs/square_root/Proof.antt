@@ -1,8 +1,8 @@
--- `arithmetic::step::square_root` meets its contract.
+-- `steps::square_root` meets its contract.
 use Rattle.arithmetic.specs.Marks.{markedRoot}
 use borrow.Author.Needs.{needs}
-use Rattle.arithmetic.proofs.step.square_root.Statement.{statement}
-use Rattle.arithmetic.proofs.step.square_root.Tie as tie
+use Rattle.steps.proofs.square_root.Statement.{statement}
+use Rattle.steps.proofs.square_root.Tie as tie
 
 sqrt-requires : tie.Need-sqrt-requires
 sqrt-requires c κs = search needs

@@ -1,0 +1,11 @@
+-- `steps::negated` meets its contract.
+use Rattle.arithmetic.specs.Marks.{markedNeg}
+use Rattle.steps.proofs.negated.Statement.{statement}
+use Rattle.steps.proofs.negated.Tie as tie
+
+returns : tie.Need-returns
+unfolding markedNeg
+returns c = cc
+
+pub negated-spec : {M : Type 1} → statement M
+negated-spec = tie.close (tie.spec returns)
