@@ -3,6 +3,7 @@ use Prim.Native.Nat.{ℕ, _-_}
 use mathlib.Core.Bool.{Bool, false, cond, _||_}
 use mathlib.Core.List.{List}
 use lib.Dec.{ltb, eqb}
+use lib.ListN.{getD}
 use Rattle.arithmetic.specs.Numbers.{one, isZero}
 use Rattle.algebra.specs.Fold.{fold}
 use Rattle.algebra.specs.Kind.{Arith, nil}
@@ -13,9 +14,9 @@ module _ {A : Type 0} (N : Arith A) where
   unfoldable pub singular : ℕ → List (List A) → Bool
   singular n m = fold 0 n (λ c z. z || isZero (N .value (at N m c c))) false
 
-  -- cell (i, j) of A and B side by side
-  abbrev pub joinedCell : ℕ → List (List A) → List (List A) → ℕ → ℕ → A
-  joinedCell n a b i j = cond (ltb j n) (at N a i j) (at N b i (j - n))
+  -- cell j of a row of A and a row of B side by side
+  abbrev pub joinedCell : ℕ → List A → List A → ℕ → A
+  joinedCell n a b j = cond (ltb j n) (getD a j (N .void)) (getD b (j - n) (N .void))
 
   -- cell (i, j) of document 01's "B = identity"
   abbrev pub identityCell : ℕ → ℕ → A

@@ -1,7 +1,8 @@
 // A X = B and the inverse on plain numbers. A and B stand side by side in one matrix: the n columns of A, then those of B.
 ghost use mathlib.Core.Path.{_≡_};
 ghost use Prim.Native.Nat.{_+_, _<_, _≤_};
-ghost use Rattle.algebra.specs.Kind.{floats};
+ghost use Rattle.algebra.specs.Kind.{floats, nil};
+ghost use Rattle.algebra.specs.Table.{row};
 ghost use Rattle.algebra.specs.Product.{identity};
 ghost use Rattle.algebra.specs.Elimination.{joined, solution, refused, inverse, inverseRefused};
 ghost use Rattle.elimination.specs.Parts.{singular, joinedCell, identityCell};
@@ -22,11 +23,19 @@ fn is_singular(m: [[f64; 12]; 6], n: usize) -> bool
     zero
 }
 
-fn joined_cell(a: [[f64; 6]; 6], b: [[f64; 6]; 6], n: usize, i: usize, j: usize) -> f64
-    requires { ⌜ (n ≤ 6) × (i < 6) × (j < n + 6) ⌝ }
-    ensures { λ q. ⌜ q ≡ joinedCell floats n a b i j ⌝ }
+// A row of A and a row of B side by side.
+fn joined_row(a: [f64; 6], b: [f64; 6], n: usize, cols: usize) -> [f64; 12]
+    requires { ⌜ (n ≤ 6) × (cols ≤ 6) ⌝ }
+    ensures { λ q. ⌜ q ≡ row (nil floats) 12 (n + cols) (joinedCell floats n a b) ⌝ }
 {
-    if j < n { a[i][j] } else { b[i][j - n] }
+    let mut out = [0.0; 12];
+    for j in 0..n {
+        out[j] = a[j];
+    }
+    for k in 0..cols {
+        out[n + k] = b[k];
+    }
+    out
 }
 
 // A and B side by side.
@@ -36,9 +45,7 @@ fn joined(a: [[f64; 6]; 6], b: [[f64; 6]; 6], n: usize, cols: usize) -> [[f64; 1
 {
     let mut m = [[0.0; 12]; 6];
     for i in 0..n {
-        for j in 0..n + cols {
-            m[i][j] = joined_cell(a, b, n, i, j);
-        }
+        m[i] = joined_row(a[i], b[i], n, cols);
     }
     m
 }

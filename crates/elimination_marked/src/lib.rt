@@ -1,10 +1,13 @@
 // Elimination of A X = B on marked numbers. A and B stand side by side in one matrix: the n columns of A, then those of B, w in all.
 ghost use mathlib.Core.Path.{_≡_};
+ghost use mathlib.Core.Bool.{cond};
 ghost use Prim.Native.Nat.{_+_, _<_, _≤_};
+ghost use Rattle.arithmetic.specs.Numbers.{isLarger};
 ghost use Rattle.algebra.specs.Kind.{marks, nil};
 ghost use Rattle.algebra.specs.Table.{row};
 ghost use Rattle.algebra.specs.Product.{identity};
-ghost use Rattle.algebra.specs.Elimination.{larger, pivotRow, swapRows, factor, lessBy, cleared, eliminateColumn, eliminateTo, backSum, backCell, backTo, joined, solution, refused, inverse, inverseRefused};
+ghost use Rattle.algebra.specs.Elimination.{pivotRow, factor, lessBy, cleared, eliminateColumn, eliminateTo, backTo, joined, solution, refused, inverse, inverseRefused};
+ghost use Rattle.back_substitution.specs.Parts.{knownCell};
 ghost use Rattle.elimination.specs.Parts.{singular, joinedCell, identityCell};
 use arithmetic::Marked;
 use arithmetic::plain::is_larger;
@@ -14,13 +17,10 @@ use steps::given;
 use steps::mul;
 use steps::sub;
 
-// Of the rows best and r, that with the larger magnitude in column c. An equal one does not replace best.
-fn larger(m: [[Marked; 12]; 6], c: usize, r: usize, best: usize) -> usize
-    requires { ⌜ (c < 12) × (r < 6) × (best < 6) ⌝ }
-    ensures { λ q. ⌜ q ≡ larger marks m c r best ⌝ }
+// Of the rows r and best, whose cells in the pivot's column are x and y, that with the larger magnitude there. An equal one does not replace best.
+fn larger(x: Marked, y: Marked, r: usize, best: usize) -> usize
+    ensures { λ q. ⌜ q ≡ cond (isLarger (x .value) (y .value)) r best ⌝ }
 {
-    let x = m[r][c];
-    let y = m[best][c];
     let replaced = is_larger(x.value, y.value);
     if replaced { r } else { best }
 }
@@ -32,19 +32,9 @@ fn pivot_row(m: [[Marked; 12]; 6], n: usize, c: usize) -> usize
 {
     let mut best = c;
     for r in c + 1..n {
-        best = larger(m, c, r, best);
+        best = larger(m[r][c], m[best][c], r, best);
     }
     best
-}
-
-fn swap_rows(m: [[Marked; 12]; 6], i: usize, j: usize) -> [[Marked; 12]; 6]
-    requires { ⌜ (i < 6) × (j < 6) ⌝ }
-    ensures { λ q. ⌜ q ≡ swapRows marks i j m ⌝ }
-{
-    let mut out = m;
-    out[i] = m[j];
-    out[j] = m[i];
-    out
 }
 
 // What the pivot row is multiplied with before it is taken from a lower row.
@@ -87,7 +77,9 @@ fn eliminate_column(m: [[Marked; 12]; 6], n: usize, w: usize, c: usize) -> [[Mar
     ensures { λ q. ⌜ q ≡ eliminateColumn marks n w c m ⌝ }
 {
     let pivot = pivot_row(m, n, c);
-    let swapped = swap_rows(m, c, pivot);
+    let mut swapped = m;
+    swapped[c] = m[pivot];
+    swapped[pivot] = m[c];
     clear(swapped, n, w, c)
 }
 
@@ -117,37 +109,10 @@ fn is_singular(m: [[Marked; 12]; 6], n: usize) -> bool
     zero
 }
 
-// Cell (i, k) of B less the known terms, by rising index.
-fn back_sum(m: [[Marked; 12]; 6], x: [[Marked; 6]; 6], n: usize, i: usize, k: usize) -> Marked
-    requires { ⌜ (n ≤ 6) × (i < n) × (k < 6) ⌝ }
-    ensures { λ q. ⌜ q ≡ backSum marks n n m x i k ⌝ }
-{
-    let mut sum = m[i][n + k];
-    for j in i + 1..n {
-        let product = mul(m[i][j], x[j][k]);
-        sum = sub(sum, product);
-    }
-    sum
-}
-
-// Cell (i, k) of X, from the rows of X below i.
-fn back_cell(m: [[Marked; 12]; 6], x: [[Marked; 6]; 6], n: usize, i: usize, k: usize) -> Marked
-    requires { ⌜ (n ≤ 6) × (i < n) × (k < 6) ⌝ }
-    ensures { λ q. ⌜ q ≡ backCell marks n m x i k ⌝ }
-{
-    let sum = back_sum(m, x, n, i, k);
-    div(sum, m[i][i])
-}
-
-fn back_row(
-    m: [[Marked; 12]; 6],
-    x: [[Marked; 6]; 6],
-    n: usize,
-    cols: usize,
-    i: usize,
-) -> [Marked; 6]
+// Row i of X, from the rows of X below i: each cell of B less the known terms, by rising index, over the pivot. `a` is row i of A and B side by side.
+fn back_row(a: [Marked; 12], x: [[Marked; 6]; 6], n: usize, cols: usize, i: usize) -> [Marked; 6]
     requires { ⌜ (n ≤ 6) × (i < n) × (cols ≤ 6) ⌝ }
-    ensures { λ q. ⌜ q ≡ row (nil marks) 6 cols (backCell marks n m x i) ⌝ }
+    ensures { λ q. ⌜ q ≡ row (nil marks) 6 cols (knownCell marks n a x i) ⌝ }
 {
     let zero = Marked {
         value: 0.0,
@@ -155,7 +120,12 @@ fn back_row(
     };
     let mut out = [zero; 6];
     for k in 0..cols {
-        out[k] = back_cell(m, x, n, i, k);
+        let mut sum = a[n + k];
+        for j in i + 1..n {
+            let product = mul(a[j], x[j][k]);
+            sum = sub(sum, product);
+        }
+        out[k] = div(sum, a[i]);
     }
     out
 }
@@ -173,16 +143,28 @@ fn back(m: [[Marked; 12]; 6], n: usize, cols: usize) -> [[Marked; 6]; 6]
     let mut x = [line; 6];
     for d in 0..n {
         let i = n - 1 - d;
-        x[i] = back_row(m, x, n, cols, i);
+        x[i] = back_row(m[i], x, n, cols, i);
     }
     x
 }
 
-fn joined_cell(a: [[Marked; 6]; 6], b: [[Marked; 6]; 6], n: usize, i: usize, j: usize) -> Marked
-    requires { ⌜ (n ≤ 6) × (i < 6) × (j < n + 6) ⌝ }
-    ensures { λ q. ⌜ q ≡ joinedCell marks n a b i j ⌝ }
+// A row of A and a row of B side by side.
+fn joined_row(a: [Marked; 6], b: [Marked; 6], n: usize, cols: usize) -> [Marked; 12]
+    requires { ⌜ (n ≤ 6) × (cols ≤ 6) ⌝ }
+    ensures { λ q. ⌜ q ≡ row (nil marks) 12 (n + cols) (joinedCell marks n a b) ⌝ }
 {
-    if j < n { a[i][j] } else { b[i][j - n] }
+    let zero = Marked {
+        value: 0.0,
+        inside: true,
+    };
+    let mut out = [zero; 12];
+    for j in 0..n {
+        out[j] = a[j];
+    }
+    for k in 0..cols {
+        out[n + k] = b[k];
+    }
+    out
 }
 
 // A and B side by side.
@@ -197,9 +179,7 @@ fn joined(a: [[Marked; 6]; 6], b: [[Marked; 6]; 6], n: usize, cols: usize) -> [[
     let line = [zero; 12];
     let mut m = [line; 6];
     for i in 0..n {
-        for j in 0..n + cols {
-            m[i][j] = joined_cell(a, b, n, i, j);
-        }
+        m[i] = joined_row(a[i], b[i], n, cols);
     }
     m
 }

@@ -1,17 +1,18 @@
 // Elimination of A X = B on plain numbers, its way down: for each column a pivot, its row swapped up, and the rows below less their factors times it.
 // A and B stand side by side in one matrix: the n columns of A, then those of B, w in all.
 ghost use mathlib.Core.Path.{_≡_};
+ghost use mathlib.Core.Bool.{cond};
 ghost use Prim.Native.Nat.{_+_, _<_, _≤_};
+ghost use Rattle.arithmetic.specs.Numbers.{isLarger};
 ghost use Rattle.algebra.specs.Kind.{floats};
-ghost use Rattle.algebra.specs.Elimination.{larger, pivotRow, swapRows, factor, lessBy, cleared, eliminateColumn, eliminateTo};
+ghost use Rattle.algebra.specs.Elimination.{pivotRow, factor, lessBy, cleared, eliminateColumn, eliminateTo};
 use arithmetic::plain::is_larger;
 
-// Of the rows best and r, that with the larger magnitude in column c. An equal one does not replace best.
-fn larger(m: [[f64; 12]; 6], c: usize, r: usize, best: usize) -> usize
-    requires { ⌜ (c < 12) × (r < 6) × (best < 6) ⌝ }
-    ensures { λ q. ⌜ q ≡ larger floats m c r best ⌝ }
+// Of the rows r and best, whose cells in the pivot's column are x and y, that with the larger magnitude there. An equal one does not replace best.
+fn larger(x: f64, y: f64, r: usize, best: usize) -> usize
+    ensures { λ q. ⌜ q ≡ cond (isLarger x y) r best ⌝ }
 {
-    let replaced = is_larger(m[r][c], m[best][c]);
+    let replaced = is_larger(x, y);
     if replaced { r } else { best }
 }
 
@@ -22,19 +23,9 @@ fn pivot_row(m: [[f64; 12]; 6], n: usize, c: usize) -> usize
 {
     let mut best = c;
     for r in c + 1..n {
-        best = larger(m, c, r, best);
+        best = larger(m[r][c], m[best][c], r, best);
     }
     best
-}
-
-fn swap_rows(m: [[f64; 12]; 6], i: usize, j: usize) -> [[f64; 12]; 6]
-    requires { ⌜ (i < 6) × (j < 6) ⌝ }
-    ensures { λ q. ⌜ q ≡ swapRows floats i j m ⌝ }
-{
-    let mut out = m;
-    out[i] = m[j];
-    out[j] = m[i];
-    out
 }
 
 // What the pivot row is multiplied with before it is taken from a lower row.
@@ -76,7 +67,9 @@ fn eliminate_column(m: [[f64; 12]; 6], n: usize, w: usize, c: usize) -> [[f64; 1
     ensures { λ q. ⌜ q ≡ eliminateColumn floats n w c m ⌝ }
 {
     let pivot = pivot_row(m, n, c);
-    let swapped = swap_rows(m, c, pivot);
+    let mut swapped = m;
+    swapped[c] = m[pivot];
+    swapped[pivot] = m[c];
     clear(swapped, n, w, c)
 }
 

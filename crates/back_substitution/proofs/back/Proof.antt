@@ -1,3 +1,4 @@
+-- `back_substitution::back` meets its contract.
 use Prim.Native.Nat.{_≤_, _-_}
 use mathlib.Core.Path.{_≡_}
 use lib.Ieee.{ofBits}
@@ -9,9 +10,6 @@ use Rattle.algebra.proofs.FoldLaws.{fold-start, fold-next, fold-end}
 use Rattle.back_substitution.specs.Parts.{lessKnown, knownCell}
 use Rattle.back_substitution.proofs.back.Statement.{statement}
 use Rattle.back_substitution.proofs.back.Tie as tie
-use Rattle.back_substitution.proofs.back.Reads as reads
-use Rattle.back_substitution.proofs.back.Lts as lts
-use Rattle.back_substitution.proofs.back_row.Reads as back-row-reads
 
 abbrev Inv-loop : tie.InvT-loop
 Inv-loop n cols m x₀ d₀ x d = (d ≤ n) × (x ≡ backTo floats d 6 6 n cols m)

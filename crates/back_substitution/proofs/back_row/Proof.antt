@@ -1,3 +1,4 @@
+-- `back_substitution::back_row` meets its contract.
 use Prim.Native.Nat.{_≤_, _<_, _-_, _+_}
 use mathlib.Core.Path.{_≡_, refl}
 use lib.Ieee.{ofBits}
@@ -9,8 +10,6 @@ use Rattle.back_substitution.specs.Parts.{lessKnown, knownCell}
 use Rattle.back_substitution.proofs.Steps.{known-is}
 use Rattle.back_substitution.proofs.back_row.Statement.{statement}
 use Rattle.back_substitution.proofs.back_row.Tie as tie
-use Rattle.back_substitution.proofs.back_row.Reads as reads
-use Rattle.back_substitution.proofs.back_row.Lts as lts
 
 abbrev Inv-loop2 : tie.InvT-loop2
 Inv-loop2 n cols i a x out k sum₀ j₀ sum j = (i + 1 ≤ j) × (j ≤ n) × (sum ≡ lessKnown floats n j a x i k)

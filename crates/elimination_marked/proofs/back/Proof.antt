@@ -5,16 +5,17 @@ use lib.Ieee.{ofBits}
 use native.Mathlib.Omega.{arith}
 use Rattle.algebra.specs.Kind.{marks}
 use Rattle.algebra.specs.Table.{blank}
-use Rattle.algebra.specs.Elimination.{backTo}
+use Rattle.algebra.specs.Elimination.{backSum, backCell, backTo}
 use Rattle.algebra.proofs.FoldLaws.{fold-start, fold-next, fold-end}
+use Rattle.back_substitution.specs.Parts.{lessKnown, knownCell}
 use Rattle.elimination_marked.proofs.back.Statement.{statement}
 use Rattle.elimination_marked.proofs.back.Tie as tie
 
 abbrev Inv-loop : tie.InvT-loop
-Inv-loop m n cols x₀ d₀ x d = (d ≤ n) × (x ≡ backTo marks d 6 6 n cols m)
+Inv-loop n cols m x₀ d₀ x d = (d ≤ n) × (x ≡ backTo marks d 6 6 n cols m)
 
 abbrev μ-loop : tie.MeasureT-loop
-μ-loop m n cols x₀ d₀ x d = n - d
+μ-loop n cols m x₀ d₀ x d = n - d
 
 loop-holds : tie.Need-loop-holds Inv-loop μ-loop
 unfolding backTo blank ofBits
@@ -25,6 +26,12 @@ sub-i c = omega arith
 
 sub-i-2 : tie.Need-sub-i-2 Inv-loop μ-loop
 sub-i-2 c = omega arith
+
+mul-back-row : tie.Need-mul-back-row Inv-loop μ-loop
+mul-back-row c = omega arith
+
+array-copy-out-back-row : tie.Need-array-copy-out-back-row Inv-loop μ-loop
+array-copy-out-back-row c = omega arith
 
 back-row-requires : tie.Need-back-row-requires Inv-loop μ-loop
 back-row-requires c κs = omega arith
@@ -42,8 +49,8 @@ loop-less : tie.Need-loop-less Inv-loop μ-loop
 loop-less c = omega arith
 
 loop-again : tie.Need-loop-again Inv-loop μ-loop
-unfolding backTo
-loop-again c = (omega arith, fold-next _ _ _ _ _ _ (omega arith) (c .before .before .loop .inv .1) (rw (c .back-row .ensures)))
+unfolding backTo backCell backSum knownCell lessKnown
+loop-again c = (omega arith, fold-next _ _ _ _ _ _ (omega arith) (c .before .before .before .loop .inv .1) (rw (c .back-row .ensures)))
 
 returns : tie.Need-returns Inv-loop μ-loop
 unfolding backTo
@@ -58,6 +65,8 @@ back-spec =
     loop-holds
     sub-i
     sub-i-2
+    mul-back-row
+    array-copy-out-back-row
     back-row-requires
     mul-x
     array-set-from-x

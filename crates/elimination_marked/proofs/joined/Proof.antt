@@ -1,98 +1,77 @@
 -- `elimination_marked::joined` meets its contract.
-use Prim.Native.Nat.{_≤_, _<_, _-_, _+_}
-use native.Mathlib.Nat.{le-antisymm}
-use mathlib.Core.Path.{_≡_, refl}
+use Prim.Native.Nat.{_≤_, _-_, _+_}
+use mathlib.Core.Path.{_≡_}
+use mathlib.Core.List.{[]}
 use lib.Ieee.{ofBits}
+use lib.ListN.{getD}
 use native.Mathlib.Omega.{arith}
 use Rattle.algebra.specs.Kind.{marks, nil}
 use Rattle.algebra.specs.Table.{table, blank}
 use Rattle.algebra.specs.Elimination.{joined}
-use Rattle.algebra.proofs.TableLaws.{table-none, Filling, filling-none, filling-more, filling-row}
+use Rattle.algebra.proofs.FoldLaws.{fold-start, fold-next, fold-end}
 use Rattle.elimination.specs.Parts.{joinedCell}
 use Rattle.elimination_marked.proofs.joined.Statement.{statement}
 use Rattle.elimination_marked.proofs.joined.Tie as tie
 
-abbrev Inv-loop2 : tie.InvT-loop2
-Inv-loop2 a b n cols m₀ i j₀ j-end m j =
-    (i < n) × (j ≤ n + cols) × (j-end ≡ n + cols) × Filling (nil marks) 6 12 (joinedCell marks n a b) (n + cols) i j m₀ m
-
-abbrev μ-loop2 : tie.MeasureT-loop2
-μ-loop2 a b n cols m₀ i j₀ j-end m j = n + cols - j
-
 abbrev Inv-loop : tie.InvT-loop
-Inv-loop a b n cols m₀ i₀ m i = (i ≤ n) × (m ≡ table (nil marks) 6 12 i (n + cols) (joinedCell marks n a b))
+Inv-loop n cols a b m₀ i₀ m i = (i ≤ n) × (m ≡ table (nil marks) 6 12 i (n + cols) (λ i. joinedCell marks n (getD a i []) (getD b i [])))
 
 abbrev μ-loop : tie.MeasureT-loop
-μ-loop a b n cols m₀ i₀ m i = n - i
+μ-loop n cols a b m₀ i₀ m i = n - i
 
-loop-holds : tie.Need-loop-holds Inv-loop2 μ-loop2 Inv-loop μ-loop
-unfolding blank ofBits
-loop-holds c = (omega arith, table-none _ _ _ _ _ _ refl)
+loop-holds : tie.Need-loop-holds Inv-loop μ-loop
+unfolding table blank ofBits
+loop-holds c = (omega arith, fold-start _ _ _)
 
-add-j-end : tie.Need-add-j-end Inv-loop2 μ-loop2 Inv-loop μ-loop
-add-j-end c = omega arith
+mul-joined-row : tie.Need-mul-joined-row Inv-loop μ-loop
+mul-joined-row c = omega arith
 
-loop2-holds : tie.Need-loop2-holds Inv-loop2 μ-loop2 Inv-loop μ-loop
-loop2-holds c = (omega arith, omega arith, refl, filling-none (omega arith) (c .before .loop .inv .1))
+array-copy-out-joined-row : tie.Need-array-copy-out-joined-row Inv-loop μ-loop
+array-copy-out-joined-row c = omega arith
 
-joined-cell-requires : tie.Need-joined-cell-requires Inv-loop2 μ-loop2 Inv-loop μ-loop
-joined-cell-requires c κs = omega arith
+mul-joined-row-2 : tie.Need-mul-joined-row-2 Inv-loop μ-loop
+mul-joined-row-2 c = omega arith
 
-mul-t14 : tie.Need-mul-t14 Inv-loop2 μ-loop2 Inv-loop μ-loop
-mul-t14 c = omega arith
+array-copy-out-joined-row-2 : tie.Need-array-copy-out-joined-row-2 Inv-loop μ-loop
+array-copy-out-joined-row-2 c = omega arith
 
-mul-t17 : tie.Need-mul-t17 Inv-loop2 μ-loop2 Inv-loop μ-loop
-mul-t17 c = omega arith
+joined-row-requires : tie.Need-joined-row-requires Inv-loop μ-loop
+joined-row-requires c κs = omega arith
 
-index-1-m : tie.Need-index-1-m Inv-loop2 μ-loop2 Inv-loop μ-loop
-index-1-m c = omega arith
+mul-m : tie.Need-mul-m Inv-loop μ-loop
+mul-m c = omega arith
 
-index-2-m : tie.Need-index-2-m Inv-loop2 μ-loop2 Inv-loop μ-loop
-index-2-m c = omega arith
+array-set-from-m : tie.Need-array-set-from-m Inv-loop μ-loop
+array-set-from-m c = omega arith
 
-add-j : tie.Need-add-j Inv-loop2 μ-loop2 Inv-loop μ-loop
-add-j c = omega arith
-
-loop2-less : tie.Need-loop2-less Inv-loop2 μ-loop2 Inv-loop μ-loop
-loop2-less c = omega arith
-
-loop2-again : tie.Need-loop2-again Inv-loop2 μ-loop2 Inv-loop μ-loop
-loop2-again c = (omega arith, omega arith, c .before .before .loop2 .inv .2, filling-more (omega arith) (c .before .before .loop2 .inv .3) (c .joined-cell .ensures))
-
-add-i : tie.Need-add-i Inv-loop2 μ-loop2 Inv-loop μ-loop
+add-i : tie.Need-add-i Inv-loop μ-loop
 add-i c = omega arith
 
-loop-less : tie.Need-loop-less Inv-loop2 μ-loop2 Inv-loop μ-loop
+loop-less : tie.Need-loop-less Inv-loop μ-loop
 loop-less c = omega arith
 
-loop-again : tie.Need-loop-again Inv-loop2 μ-loop2 Inv-loop μ-loop
-loop-again c =
-    let v = c .before .loop2 .inv in
-    (omega arith, filling-row (v .3) (v .1) (omega (arith, v .2, c .loop2-test .left)))
+loop-again : tie.Need-loop-again Inv-loop μ-loop
+unfolding table
+loop-again c = (omega arith, fold-next _ _ _ _ _ _ (omega arith) (c .before .before .before .before .loop .inv .1) (rw (c .joined-row .ensures)))
 
-returns : tie.Need-returns Inv-loop2 μ-loop2 Inv-loop μ-loop
-unfolding joined
-returns c = cc (le-antisymm (c .before .loop .inv .0) (c .loop-test .left))
+returns : tie.Need-returns Inv-loop μ-loop
+unfolding table joined
+returns c = fold-end _ _ _ _ _ _ (c .before .loop .inv .0) (c .loop-test .left) (c .before .loop .inv .1)
 
 pub joined-spec : {M : Type 1} → statement M
 joined-spec =
     tie.close
     (tie.spec
-    Inv-loop2
-    μ-loop2
     Inv-loop
     μ-loop
     loop-holds
-    add-j-end
-    loop2-holds
-    joined-cell-requires
-    mul-t14
-    mul-t17
-    index-1-m
-    index-2-m
-    add-j
-    loop2-less
-    loop2-again
+    mul-joined-row
+    array-copy-out-joined-row
+    mul-joined-row-2
+    array-copy-out-joined-row-2
+    joined-row-requires
+    mul-m
+    array-set-from-m
     add-i
     loop-less
     loop-again
