@@ -33,7 +33,7 @@ use Rattle.series.proofs.Gathers.{small}
 use Rattle.series.proofs.Accepted.{Accepted, accepted}
 use Rattle.series.proofs.Numbers.{sigma2-at}
 use Rattle.series.proofs.Values.{x-read, z-read, weights-read, theta-read, phi-read, beta-read, beta-h-read, contrast-read}
-use Rattle.kr_vcov_adj.specs.Work.{designOf, accepted as kept}
+use Rattle.adjustment_work.specs.Work.{designOf, accepted as kept}
 use Rattle.kenward_roger.specs.Call.{adjusted, adjustmentRefusal, scaled, run}
 use Rattle.kenward_roger.proofs.Blocks.{sound, columns-are, parameters-few}
 

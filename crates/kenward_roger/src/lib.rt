@@ -5,7 +5,7 @@ ghost use Rattle.records.specs.Kinds.{kenwardRoger};
 ghost use Rattle.records.specs.Sheet.{sheetAfter};
 ghost use Rattle.records.specs.Series.{refusal};
 ghost use Rattle.series.specs.Gathered.{sizesOf};
-ghost use Rattle.kr_vcov_adj.specs.Work.{accepted};
+ghost use Rattle.adjustment_work.specs.Work.{accepted};
 ghost use Rattle.kenward_roger.specs.Call.{adjusted, adjustmentRefusal, run};
 use adjustment::Cutoffs;
 use answers::Entry;

@@ -20,10 +20,11 @@ use Rattle.adjustment.specs.Information.{hRows, oRows, pRows, qRows, mirror}
 use Rattle.adjustment.specs.Adjusted.{Stack, Adjustment, stack, qStack, hStack, oStack, pStack, qStackOf, ieRows, eigen, fromPrecision, informationRefused, outputNotFinite, precisionOf, adjustment, adjustmentNumber}
 use Rattle.covariance.specs.Lent.{design}
 use Rattle.covariance.proofs.DesignLaws.{sigma-whole}
-use Rattle.kr_vcov_adj.specs.Work.{square, part, designOf, zeros, putStack, precisionIn, withHs, workOf, accepted}
-use Rattle.kr_vcov_adj.specs.Parts.{precisionNumber, psOf, qsOf, ieOf, afterPrecision, invertedOf, fromInformation, informationNumber}
-use Rattle.kr_vcov_adj.specs.Steps.{sAt, hAt, sxAt, oAt, ieAt}
-use Rattle.kr_vcov_adj.proofs.WorkLaws.{square-held, length-zeros}
+use Rattle.adjustment_work.specs.Work.{square, part, designOf, zeros, putStack, precisionIn, withHs, workOf, accepted}
+use Rattle.kr_vcov_adj.specs.Parts.{precisionNumber, psOf, qsOf, ieOf, afterPrecision}
+use Rattle.adjusted_covariance.specs.FromInformation.{invertedOf, fromInformation, informationNumber}
+use Rattle.adjustment_work.specs.Steps.{sAt, hAt, sxAt, oAt, ieAt}
+use Rattle.adjustment_work.proofs.WorkLaws.{square-held, length-zeros}
 use Rattle.kr_vcov_adj.proofs.PrecisionLaws.{shape-precision}
 use Rattle.kr_vcov_adj.proofs.ReadLaws.{ps-is, qs-is, ie-of-is}
 

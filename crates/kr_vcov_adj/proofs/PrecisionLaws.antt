@@ -21,9 +21,9 @@ use Rattle.large_factor.proofs.FactorLaws.{shape-cholesky}
 use Rattle.large_inverse.proofs.BackLaws.{shape-back}
 use Rattle.adjustment.specs.Covariance.{Rows, Design, sigmaCell, sigmaRows, cholesky, notDefinite, inverseFactor, inverseFactorRefused, precision}
 use Rattle.adjustment.specs.Adjusted.{precisionOf}
-use Rattle.kr_vcov_adj.specs.Work.{square, zeros, precisionIn}
+use Rattle.adjustment_work.specs.Work.{square, zeros, precisionIn}
 use Rattle.kr_vcov_adj.specs.Parts.{precisionNumber}
-use Rattle.kr_vcov_adj.proofs.WorkLaws.{square-held, wide-held, rows-in, length-zeros, zeros-at}
+use Rattle.adjustment_work.proofs.WorkLaws.{square-held, wide-held, rows-in, length-zeros, zeros-at}
 
 -- L, where Σ was copied, factored and cleared above its diagonal
 module _ (s n a b : ℕ) (ws xs ys zs : List Float) (z : Bool) (hn : n ≤ s) (h : 6 * (s * s) ≤ length ws) (ea : a ≡ square s 0) (eb : b ≡ square s 2)

@@ -19,11 +19,11 @@ use Rattle.large.proofs.SlabLaws.{Shape, shape-table, length-putRows, read-back
 use Rattle.adjustment.specs.Covariance.{Rows, Design, matrices, gRows}
 use Rattle.adjustment.specs.Information.{hRows, oRows, pRows, qRows, packed, kCell, ieCell, mirror}
 use Rattle.adjustment.specs.Adjusted.{Stack, matrixAt, stack, qStack, hStack, oStack, pStack, qStackOf, ieRows}
-use Rattle.kr_vcov_adj.specs.Work.{square, part, putStack, withHs}
+use Rattle.adjustment_work.specs.Work.{square, part, putStack, withHs}
 use Rattle.kr_vcov_adj.specs.Parts.{psOf, qsOf, ieOf}
-use Rattle.kr_vcov_adj.specs.Steps.{sAt, hAt, sxAt, oAt, ieAt}
-use Rattle.kr_vcov_adj.proofs.WorkLaws.{blocks-apart, rows-in, square-held, part-held}
-use Rattle.kr_vcov_adj.proofs.StackLaws.{stack-frame, stack-read}
+use Rattle.adjustment_work.specs.Steps.{sAt, hAt, sxAt, oAt, ieAt}
+use Rattle.adjustment_work.proofs.WorkLaws.{blocks-apart, rows-in, square-held, part-held}
+use Rattle.adjustment_work.proofs.StackLaws.{stack-frame, stack-read}
 
 shape-product : (r n c : ℕ) (a b : Rows) → Shape r c (product floats r c r n c a b)
 unfolding product

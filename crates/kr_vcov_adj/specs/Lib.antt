@@ -1,4 +1,2 @@
--- The covariance adjustment as one call: what a reader has to believe besides the definitions of crates/adjustment/specs and crates/covariance/specs.
-pub mod Work
+-- The covariance adjustment as one call: what a reader has to believe besides the definitions of crates/adjustment/specs, crates/covariance/specs and crates/adjustment_work/specs.
 pub mod Parts
-pub mod Steps

@@ -1,14 +1,10 @@
--- The adjustment in parts: up to S, from S on, and from IE on. Each is a part of `adjustment` and `adjustmentNumber` of crates/adjustment/specs/Adjusted.antt.
+-- The adjustment in parts: up to S, and from S on. Each is a part of `adjustment` and `adjustmentNumber` of crates/adjustment/specs/Adjusted.antt.
 use Prim.Native.Nat.{ℕ}
-use mathlib.Core.Bool.{Bool, cond}
-use mathlib.Core.List.{List}
+use mathlib.Core.Bool.{cond}
 use lib.Ieee.{Float}
-use Rattle.algebra.specs.Kind.{floats}
-use Rattle.algebra.specs.Jacobi.{State, jacobi}
 use Rattle.adjustment.specs.declared.Cutoffs.{Cutoffs}
 use Rattle.adjustment.specs.Covariance.{Rows, Design, matrices, sigmaRows, cholesky, notDefinite, inverseFactorRefused}
-use Rattle.adjustment.specs.Information.{inverted, wRows, wRefused}
-use Rattle.adjustment.specs.Adjusted.{Stack, Adjustment, uRows, phiARows, hStack, oStack, pStack, qStackOf, ieRows, fromPrecision, informationRefused, outputNotFinite}
+use Rattle.adjustment.specs.Adjusted.{Stack, hStack, oStack, pStack, qStackOf, ieRows, fromPrecision, informationRefused, outputNotFinite}
 
 -- document 01: 9 where a Cholesky diagonal of Σ is not > 0, 10 where a pivot of L is zero
 unfoldable pub precisionNumber : Design → ℕ
@@ -28,18 +24,3 @@ ieOf d phi s = ieRows d phi (hStack d s) (psOf d s) (qsOf d s)
 unfoldable pub afterPrecision : Cutoffs → Design → Rows → Float → Rows → ℕ
 afterPrecision c d phi sigma2 s =
     cond (informationRefused c d phi s) 10 (cond (outputNotFinite (d .p) (matrices d) phi sigma2 (fromPrecision c d phi s)) 4 0)
-
--- the matrix that is inverted for W
-unfoldable pub invertedOf : Cutoffs → ℕ → Rows → Rows
-invertedOf c N ie = inverted c N ie (jacobi floats (c .rotation) 6 6 N ie .a)
-
--- from IE on: W, U, Φ_A and the rotations
-unfoldable pub fromInformation : Cutoffs → ℕ → ℕ → Rows → Stack → Stack → Rows → Adjustment
-fromInformation c p N phi ps qs ie =
-    let w : Rows = wRows N (invertedOf c N ie) in
-    record { phiA = phiARows p phi (uRows p N phi ps qs w); ps = ps; w = w; rotations = jacobi floats (c .rotation) 6 6 N ie .count }
-
--- document 01: 10 where a pivot of IE is zero, then 4 where the output is not finite
-unfoldable pub informationNumber : Cutoffs → ℕ → ℕ → Rows → Float → Stack → Stack → Rows → ℕ
-informationNumber c p N phi sigma2 ps qs ie =
-    cond (wRefused N (invertedOf c N ie)) 10 (cond (outputNotFinite p N phi sigma2 (fromInformation c p N phi ps qs ie)) 4 0)

@@ -7,17 +7,14 @@ ghost use Rattle.large.specs.Slab.{Holds};
 ghost use Rattle.adjustment.specs.Blocks.{placesBefore};
 ghost use Rattle.adjustment.specs.Adjusted.{Adjustment, fromPrecision, adjustment, adjustmentNumber};
 ghost use Rattle.covariance.specs.Lent.{Lent};
-ghost use Rattle.kr_vcov_adj.specs.Work.{Sized, designOf, zeros, withHs, workOf, accepted};
+ghost use Rattle.adjustment_work.specs.Work.{Sized, designOf, zeros, withHs, workOf, accepted};
 ghost use Rattle.kr_vcov_adj.specs.Parts.{psOf, qsOf, ieOf, afterPrecision};
-ghost use Rattle.kr_vcov_adj.specs.Steps.{sAt};
+ghost use Rattle.adjustment_work.specs.Steps.{sAt};
 use adjustment::Block;
 use adjustment::Cutoffs;
-use squares::clear_all;
+use adjustment_work::squares::clear_all;
 
-pub mod adjusted;
 pub mod precision;
-pub mod squares;
-pub mod stacks;
 
 // IE, and on the way to it the Hs in the work slice, the Ps and the packed Qs; S stands in square 1. The narrow slice ends as zeros. The thetas are not looked at.
 pub fn information(
@@ -48,7 +45,7 @@ pub fn information(
     ensures { λ m. ⌜ now (qs .exit) ≡ qsOf (designOf n p (now (x .entry)) xs (now (z .entry)) zs columns weighted (now (weights .entry)) blocks count []) (sAt s n (now (work .entry))) ⌝ }
     ensures { λ m. ⌜ m ≡ ieOf (designOf n p (now (x .entry)) xs (now (z .entry)) zs columns weighted (now (weights .entry)) blocks count []) phi (sAt s n (now (work .entry))) ⌝ }
 {
-    stacks::fill_hs(
+    adjustment_work::stacks::fill_hs(
         work,
         s,
         z,
@@ -61,14 +58,14 @@ pub fn information(
         count,
         k,
     );
-    stacks::fill_sx(narrow, s, work, x, xs, n, p);
-    stacks::fill_os(narrow, s, work, x, xs, n, p, k);
-    let all_p = stacks::ps_of(narrow, s, n, p, k);
-    let all_q = stacks::qs_of(narrow, s, work, n, p, k);
+    adjustment_work::stacks::fill_sx(narrow, s, work, x, xs, n, p);
+    adjustment_work::stacks::fill_os(narrow, s, work, x, xs, n, p, k);
+    let all_p = adjustment_stacks::ps_of(narrow, s, n, p, k);
+    let all_q = adjustment_stacks::qs_of(narrow, s, work, n, p, k);
     clear_all(narrow);
     *ps = all_p;
     *qs = all_q;
-    stacks::ie_of(work, s, n, p, k, phi, all_p, all_q)
+    adjustment_stacks::ie_of(work, s, n, p, k, phi, all_p, all_q)
 }
 
 // From S on, which stands in square 1: a refusal, 10 or 4, leaves what is lent for answers as it is, and the work slice as zeros.
@@ -128,7 +125,7 @@ pub fn from_precision(
         &mut all_p,
         &mut all_q,
     );
-    let number = adjusted::from_information(
+    let number = adjusted_covariance::from_information(
         c,
         p,
         k,

@@ -9,12 +9,12 @@ ghost use Rattle.algebra.specs.Elimination.{eliminateTo, joined};
 ghost use Rattle.large.specs.Slab.{rowsAt, putRow, putRows};
 ghost use Rattle.adjustment.specs.Covariance.{cholesky, notDefinite, inverseFactor, inverseFactorRefused, precision, sigmaRows};
 ghost use Rattle.covariance.specs.Lent.{design, Lent};
-ghost use Rattle.kr_vcov_adj.specs.Work.{square, zeros, precisionIn, accepted};
+ghost use Rattle.adjustment_work.specs.Work.{square, zeros, precisionIn, accepted};
 ghost use Rattle.kr_vcov_adj.specs.Parts.{precisionNumber};
-use crate::squares::clear_all;
-use crate::squares::clear_rest;
-use crate::squares::square_at;
 use adjustment::Block;
+use adjustment_work::squares::clear_all;
+use adjustment_work::squares::clear_rest;
+use adjustment_work::squares::square_at;
 
 // Square 2 becomes L, the Cholesky factor of Σ in square 0; true where a diagonal is not above zero, and L is of no use.
 pub fn fill_factor(work: &mut [f64], s: usize, n: usize) -> bool

@@ -1,7 +1,7 @@
 -- `kr_vcov_adj::from_precision` meets its contract.
 use mathlib.Core.List.{[]}
 use Rattle.kr_vcov_adj.proofs.CallLaws.{accepted-yes, accepted-no, adjusted-is, number-is, answer-is}
-use Rattle.kr_vcov_adj.specs.Work.{designOf, zeros}
+use Rattle.adjustment_work.specs.Work.{designOf, zeros}
 use Rattle.adjustment.specs.Adjusted.{Adjustment}
 use Rattle.adjustment.specs.Covariance.{Design}
 use mathlib.Core.Path.{_≡_, sym, ap, _∙_}

@@ -1,6 +1,6 @@
 -- `kr_vcov_adj::information` meets its contract.
 use Rattle.kr_vcov_adj.proofs.CallLaws.{work-is, ps-call, qs-call, ie-call}
-use Rattle.kr_vcov_adj.specs.Work.{zeros}
+use Rattle.adjustment_work.specs.Work.{zeros}
 use mathlib.Core.Path.{_≡_, refl, ap, _∙_}
 use native.Mathlib.Omega.{arith}
 use borrow.Author.Needs.{needs}

@@ -1,6 +1,6 @@
 -- `kr_vcov_adj::precision::fill_inverse` meets its contract.
 use Rattle.kr_vcov_adj.proofs.PrecisionLaws.{inverse-is, refused-is}
-use Rattle.kr_vcov_adj.proofs.WorkLaws.{square-held, squares-apart, side-in, wide-held, wide-apart-at, wide-apart-from}
+use Rattle.adjustment_work.proofs.WorkLaws.{square-held, squares-apart, side-in, wide-held, wide-apart-at, wide-apart-from}
 use native.Mathlib.Omega.{arith}
 use borrow.Author.Needs.{needs}
 use Rattle.kr_vcov_adj.proofs.precision.fill_inverse.Statement.{statement}

@@ -1,6 +1,6 @@
 -- `kr_vcov_adj::precision::fill_precision` meets its contract.
 use Rattle.kr_vcov_adj.proofs.PrecisionLaws.{precision-is}
-use Rattle.kr_vcov_adj.proofs.WorkLaws.{square-held, squares-apart}
+use Rattle.adjustment_work.proofs.WorkLaws.{square-held, squares-apart}
 use native.Mathlib.Omega.{arith}
 use borrow.Author.Needs.{needs}
 use Rattle.kr_vcov_adj.proofs.precision.fill_precision.Statement.{statement}

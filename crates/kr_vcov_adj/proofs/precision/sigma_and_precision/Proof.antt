@@ -1,7 +1,7 @@
 -- `kr_vcov_adj::precision::sigma_and_precision` meets its contract.
 use Rattle.kr_vcov_adj.proofs.PrecisionLaws.{number-nine, number-ten, precision-in}
-use Rattle.kr_vcov_adj.proofs.WorkLaws.{square-held}
-use Rattle.kr_vcov_adj.specs.Work.{zeros, accepted}
+use Rattle.adjustment_work.proofs.WorkLaws.{square-held}
+use Rattle.adjustment_work.specs.Work.{zeros, accepted}
 use Rattle.covariance.specs.Lent.{design}
 use Rattle.adjustment.specs.Covariance.{Design}
 use Rattle.large.specs.Slab.{rowsAt}

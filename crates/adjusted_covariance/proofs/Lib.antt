@@ -1,0 +1,2 @@
+-- The laws of the adjustment from IE on.
+pub mod PartLaws
