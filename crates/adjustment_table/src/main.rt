@@ -45,7 +45,7 @@ fn print_adjustment(file: &[u8])
 // What `pulltest` prints, and whether that is a refusal: no other line begins with an r.
 fn print_tests(file: &[u8]) -> bool {
     let mut out = [0u8; 512];
-    let n = kr_call::text(file, &mut out);
+    let n = kenward_roger::text(file, &mut out);
     io::write_all(1, &out[..n]);
     out[0] == b'r'
 }

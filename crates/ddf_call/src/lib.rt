@@ -1,7 +1,6 @@
 // The whole Satterthwaite call: the bytes of a file in, a number and an entry out (ddf).
 ghost use mathlib.Core.Path.{_≡_};
 ghost use Rattle.adjustment.specs.Cutoffs.{documentCutoffs};
-ghost use Rattle.answers.specs.Answer.{noEntry};
 ghost use Rattle.ddf.specs.Satterthwaite.{satterthwaite};
 ghost use Rattle.satterthwaite.specs.Gathered.{Small, inputsFrom};
 ghost use Rattle.satterthwaite.specs.Call.{number as fileNumber, entry, returned, written};
@@ -9,8 +8,8 @@ use adjustment::Cutoffs;
 use adjustment::small_numbers::document_cutoffs;
 use answer_bytes::put_entry;
 use answers::Entry;
-use answers::Number;
 use ddf_test::satterthwaite::satterthwaite_contrast_f_test;
+use entries::no_entry;
 use satterthwaite::Sizes;
 use satterthwaite::refusal;
 use satterthwaite::sizes_of;
@@ -34,18 +33,6 @@ fn test(c: Cutoffs, sheet: &[f64; 835], z: Sizes, refused: &mut bool) -> Entry
     let js = stack_at(sheet, 84, n, p);
     let a = cells_at(sheet, 228, 4, n, n);
     satterthwaite_contrast_f_test(c, beta, v, l, js, a, beta_h, p, q, n, refused)
-}
-
-// An entry that is not in use.
-fn no_entry() -> Entry
-    ensures { λ r. ⌜ r ≡ noEntry ⌝ }
-{
-    Entry {
-        f: Number::None,
-        df: Number::None,
-        rank: 0,
-        inside: false,
-    }
 }
 
 // The number of a file, and its entry, which is not in use where the number is not 0.

@@ -3,6 +3,7 @@ use Prim.Native.Nat.{ℕ}
 use mathlib.Core.Path.{_≡_, refl, sym, ap, _∙_}
 use mathlib.Core.Bool.{Bool, true, false, not, _&&_, cond, true≢false}
 use mathlib.Core.List.{List, [], _∷_, _++_}
+use native.Mathlib.Omega.{arith}
 use lib.Dec.{eqb}
 use lib.ListN.{length, replicate}
 use borrow.Author.Tests.{eq-eqb, ne-eqb}
@@ -10,6 +11,7 @@ use Rattle.adjustment.specs.declared.Cutoffs.{Cutoffs}
 use Rattle.answers.specs.declared.Entry.{Entry}
 use Rattle.answers.specs.Answer.{noEntry}
 use Rattle.answer_bytes.specs.Layout.{answerBytes}
+use Rattle.entries.specs.Run.{runNumber, runEntries}
 use Rattle.records.specs.Scan.{first}
 use Rattle.records.specs.Series.{reasons, refusal}
 use Rattle.kenward_roger.specs.Call.{adjustmentRefusal, run, allReasons, number, entries, returned, written}
@@ -69,6 +71,13 @@ module _ (c : Cutoffs) (s : List ℕ) where
   pub run-entries : (es : List Entry) → es ≡ run c s .entries → 0 ≡ number c s → es ≡ entries c s
   unfolding entries
   run-entries es e z = e ∙ rw (eq-eqb (number c s) 0 (sym z))
+
+  -- a run whose tests were made
+  module _ (r : refusal s ≡ 0) (a : adjustmentRefusal c s ≡ 0) where
+    pub run-answer : (b : Bool) (es fs : List Entry) (k : ℕ) → b ≡ run c s .refused → es ≡ run c s .entries → fs ≡ runEntries b es → k ≡ runNumber b → (fs ≡ entries c s) × (k ≡ number c s)
+    unfolding runEntries runNumber
+    run-answer true es fs k e f p q = let n = pivot-number r a true e refl in (p ∙ no-entries noEntry refl 10 n (omega arith), q ∙ n)
+    run-answer false es fs k e f p q = let n = no-number r a false e refl in (p ∙ run-entries es f n, q ∙ n)
 
   -- ---- the lent bytes
   pub other-length : (answer : List ℕ) → (length answer ≡ 168 → ⊥) → (1 ≡ returned c s answer) × (answer ≡ written c s answer)

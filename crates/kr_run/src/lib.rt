@@ -1,29 +1,16 @@
 // The Kenward–Roger run: each coefficient alone, then the contrast if one is given (kenward_roger).
 ghost use mathlib.Core.Path.{_≡_};
 ghost use Prim.Native.Nat.{_≤_};
-ghost use Rattle.answers.specs.Answer.{noEntry};
 ghost use Rattle.tests.specs.KenwardRoger.{scaledOf, coefficientsTo, runOf};
 ghost use Rattle.kr_run.specs.Units.{responseUnits};
 use adjustment::Cutoffs;
 use answers::Entry;
-use answers::Number;
 use arithmetic::Marked;
+use entries::no_entry;
 use response_units::scaled_up;
 use tests::kenward_roger::scaled_ps;
 use tests::run::coefficient_test;
 use tests::run::contrast_test;
-
-// An entry that is not in use.
-pub fn no_entry() -> Entry
-    ensures { λ r. ⌜ r ≡ noEntry ⌝ }
-{
-    Entry {
-        f: Number::None,
-        df: Number::None,
-        rank: 0,
-        inside: false,
-    }
-}
 
 // The tests of the coefficients, each alone. A zero pivot in any of them refuses the run.
 pub fn coefficients(

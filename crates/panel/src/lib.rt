@@ -10,7 +10,7 @@ pub extern "C" fn pull_kenward_roger(records: &[u8], answer: &mut [u8]) -> u32
     ensures { λ r. ⌜ r ≡ series.returned documentCutoffs (now (records .entry)) (now (answer .entry)) ⌝ }
     ensures { λ r. ⌜ now (answer .exit) ≡ series.written documentCutoffs (now (records .entry)) (now (answer .entry)) ⌝ }
 {
-    kr_call::call(records, answer)
+    kenward_roger::call(records, answer)
 }
 
 // The Satterthwaite call: one entry in 24 bytes. The answer keeps its contents where the number is not 0.

@@ -20,7 +20,7 @@ fn bar(out: &mut [u8], n: usize)
 // What `pulltest` prints of a file, with bars, and one newline.
 fn print_answer(file: &[u8]) {
     let mut out = [0u8; 512];
-    let n = kr_call::text(file, &mut out);
+    let n = kenward_roger::text(file, &mut out);
     bar(&mut out, n);
     io::write_all(1, &out[..n]);
     io::write_all(1, b"\n");

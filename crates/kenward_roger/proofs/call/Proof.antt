@@ -1,17 +1,17 @@
--- `kr_call::call` meets its contract.
+-- `kenward_roger::call` meets its contract.
 use mathlib.Core.Path.{ap, _∙_}
 use Rattle.adjustment.specs.declared.Cutoffs.{Cutoffs}
 use Rattle.adjustment.specs.Cutoffs.{documentCutoffs}
 use Rattle.kenward_roger.specs.Call.{number, entries}
 use Rattle.kenward_roger.proofs.Numbers.{other-length, refused-call, accepted-call}
 use borrow.Author.Needs.{needs}
-use Rattle.kr_call.proofs.call.Statement.{statement}
-use Rattle.kr_call.proofs.call.Tie as tie
-use Rattle.kr_call.proofs.call.Reads as reads
-use Rattle.kr_call.proofs.call.Lts as lts
+use Rattle.kenward_roger.proofs.call.Statement.{statement}
+use Rattle.kenward_roger.proofs.call.Tie as tie
+use Rattle.kenward_roger.proofs.call.Reads as reads
+use Rattle.kenward_roger.proofs.call.Lts as lts
 use Rattle.adjustment.proofs.small_numbers.document_cutoffs.Reads as document-cutoffs-reads
 use Rattle.answer_bytes.proofs.put_answer.Reads as put-answer-reads
-use Rattle.kr_call.proofs.judge.Reads as judge-reads
+use Rattle.kenward_roger.proofs.judge.Reads as judge-reads
 
 returns : tie.Need-returns
 returns c = other-length documentCutoffs (c .before .before .before .args .records .now) (c .before .before .before .args .answer .now) (c .if1 .taken)

@@ -1,4 +1,4 @@
--- `kr_call::text` meets its contract.
+-- `kenward_roger::text` meets its contract.
 use Prim.Native.Nat.{ℕ}
 use mathlib.Core.Path.{ap, ap₂, _∙_}
 use mathlib.Core.List.{List}
@@ -6,15 +6,15 @@ use lib.ListN.{length}
 use lib.Seq.{sets}
 use Rattle.adjustment.specs.declared.Cutoffs.{Cutoffs}
 use Rattle.answer_text.specs.Text.{textOf}
 use Rattle.kenward_roger.specs.Call.{number, entries}
 use borrow.Author.Needs.{needs}
-use Rattle.kr_call.proofs.text.Statement.{statement}
-use Rattle.kr_call.proofs.text.Tie as tie
-use Rattle.kr_call.proofs.text.Reads as reads
-use Rattle.kr_call.proofs.text.Lts as lts
+use Rattle.kenward_roger.proofs.text.Statement.{statement}
+use Rattle.kenward_roger.proofs.text.Tie as tie
+use Rattle.kenward_roger.proofs.text.Reads as reads
+use Rattle.kenward_roger.proofs.text.Lts as lts
 use Rattle.adjustment.proofs.small_numbers.document_cutoffs.Reads as document-cutoffs-reads
 use Rattle.answer_text.proofs.text_of.Reads as text-of-reads
-use Rattle.kr_call.proofs.judge.Reads as judge-reads
+use Rattle.kenward_roger.proofs.judge.Reads as judge-reads
 
 document-cutoffs-requires : tie.Need-document-cutoffs-requires
 document-cutoffs-requires c κs = search needs

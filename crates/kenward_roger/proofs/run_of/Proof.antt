@@ -1,17 +1,16 @@
--- `kr_call::run_of` meets its contract.
+-- `kenward_roger::run_of` meets its contract.
 use mathlib.Core.Path.{sym, _∙_}
-use native.Mathlib.Omega.{arith}
 use Rattle.series.proofs.Accepted.{accepted}
 use Rattle.kr_vcov_adj.proofs.CallLaws.{accepted-yes}
-use Rattle.kenward_roger.proofs.Numbers.{late-number, pivot-number, no-number, no-entries, run-entries}
+use Rattle.kenward_roger.proofs.Numbers.{late-number, no-entries, run-answer}
 use borrow.Author.Needs.{needs}
-use Rattle.kr_call.proofs.run_of.Statement.{statement}
-use Rattle.kr_call.proofs.run_of.Tie as tie
-use Rattle.kr_call.proofs.run_of.Reads as reads
-use Rattle.kr_call.proofs.run_of.Lts as lts
+use Rattle.kenward_roger.proofs.run_of.Statement.{statement}
+use Rattle.kenward_roger.proofs.run_of.Tie as tie
+use Rattle.kenward_roger.proofs.run_of.Reads as reads
+use Rattle.kenward_roger.proofs.run_of.Lts as lts
 use Rattle.kenward_roger.proofs.adjust.Reads as adjust-reads
 use Rattle.kenward_roger.proofs.tests_of.Reads as tests-of-reads
-use Rattle.kr_run.proofs.no_entry.Reads as no-entry-reads
+use Rattle.entries.proofs.no_entry.Reads as no-entry-reads
 use Rattle.products.proofs.zeros.Reads as zeros-reads
 use Rattle.record_sheet.proofs.sheet_of.Reads as sheet-of-reads
 use Rattle.series.proofs.sizes_of.Reads as sizes-of-reads
@@ -43,22 +42,14 @@ tests-of-requires c κs =
     let h = c .before .before .if1 .left in
     ((c .before .before .before .before .before .before .before .before .before .before .before .before .before .pre, c .before .before .before .before .before .before .before .before .before .before .before .sizes-of .ensures, c .before .before .before .before .before .before .before .before .before .before .sheet-of .ensures), (r .1 .0 ∙ accepted-yes _ _ _ h, r .1 .1 .0 ∙ accepted-yes _ _ _ h, r .1 .1 .1 .0 ∙ accepted-yes _ _ _ h))
 
-no-entry-requires-2 : tie.Need-no-entry-requires-2
-no-entry-requires-2 c κs = search needs
+answer-of-requires : tie.Need-answer-of-requires
+answer-of-requires c κs = search needs
 
 returns-2 : tie.Need-returns-2
 returns-2 c =
     let a = c .before .before .before .before .before .before .before .before .before .before .before .before .before .before .before .before .args in
     let z = sym (c .before .before .before .before .before .before .adjust .ensures .0) ∙ c .before .before .before .before .before .if1 .left in
-    let e = pivot-number (a .c) (a .s .now) (c .before .before .before .before .before .before .before .before .before .before .before .before .before .before .before .before .pre) z _ (c .before .before .tests-of .ensures .1) (c .before .if2 .taken) in
-    (no-entries (a .c) (a .s .now) _ (c .no-entry2 .ensures) 10 e (omega arith), e)
-
-returns-3 : tie.Need-returns-3
-returns-3 c =
-    let a = c .before .before .before .before .before .before .before .before .before .before .before .before .before .before .before .args in
-    let z = sym (c .before .before .before .before .before .adjust .ensures .0) ∙ c .before .before .before .before .if1 .left in
-    let e = no-number (a .c) (a .s .now) (c .before .before .before .before .before .before .before .before .before .before .before .before .before .before .before .pre) z _ (c .before .tests-of .ensures .1) (c .if2 .left) in
-    (run-entries (a .c) (a .s .now) _ (c .before .tests-of .ensures .0) e, e)
+    run-answer (a .c) (a .s .now) (c .before .before .before .before .before .before .before .before .before .before .before .before .before .before .before .before .pre) z _ _ _ _ (c .before .before .tests-of .ensures .1) (c .before .before .tests-of .ensures .0) (c .answer-of .ensures .0) (c .answer-of .ensures .1)
 
 pub run-of-spec : {M : Type 1} → statement M
 run-of-spec =
@@ -71,6 +62,5 @@ run-of-spec =
     no-entry-requires
     returns
     tests-of-requires
-    no-entry-requires-2
-    returns-2
-    returns-3)
+    answer-of-requires
+    returns-2)

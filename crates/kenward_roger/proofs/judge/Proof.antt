@@ -1,12 +1,12 @@
--- `kr_call::judge` meets its contract.
+-- `kenward_roger::judge` meets its contract.
 use Rattle.kenward_roger.proofs.Numbers.{early-number, no-entries}
 use borrow.Author.Needs.{needs}
-use Rattle.kr_call.proofs.judge.Statement.{statement}
-use Rattle.kr_call.proofs.judge.Tie as tie
-use Rattle.kr_call.proofs.judge.Reads as reads
-use Rattle.kr_call.proofs.judge.Lts as lts
-use Rattle.kr_call.proofs.run_of.Reads as run-of-reads
-use Rattle.kr_run.proofs.no_entry.Reads as no-entry-reads
+use Rattle.kenward_roger.proofs.judge.Statement.{statement}
+use Rattle.kenward_roger.proofs.judge.Tie as tie
+use Rattle.kenward_roger.proofs.judge.Reads as reads
+use Rattle.kenward_roger.proofs.judge.Lts as lts
+use Rattle.kenward_roger.proofs.run_of.Reads as run-of-reads
+use Rattle.entries.proofs.no_entry.Reads as no-entry-reads
 use Rattle.refusals.proofs.refusal.Reads as refusal-reads
 
 refusal-requires : tie.Need-refusal-requires

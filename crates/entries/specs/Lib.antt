@@ -1,0 +1,2 @@
+-- The entries of a run and its number. Definitions alone.
+pub mod Run
