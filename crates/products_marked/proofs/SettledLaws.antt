@@ -7,7 +7,7 @@ use mathlib.Core.Bool.{Bool, true, false, not, _&&_, true≢false}
 use mathlib.Core.List.{List, []}
 use mathlib.Core.Logic.{_⊎_, ⊎-elim}
 use lib.Dec.{T}
-use lib.ListN.{getD, set}
+use lib.ListN.{getD, set, length, length-set}
 use lib.Seq.{set-getD}
 use borrow.Author.Count.{below-more}
 use lib.Ieee.{Float, nan, inf, fin, binary64, up, down, unlike, round, fits, add, mul, eq}
@@ -23,7 +23,7 @@ use Rattle.algebra.specs.Table.{table}
 use Rattle.algebra.specs.Kind.{marks, nil}
 use Rattle.algebra.specs.Product.{at, sum, cell, product}
 use Rattle.algebra.proofs.FoldLaws.{fold-keeps, fold-ext, fold-steps}
-use Rattle.algebra.proofs.TableLaws.{table-at, table-ext, row-at}
+use Rattle.algebra.proofs.TableLaws.{length-table, table-at, table-ext, row-at}
 use Rattle.products.specs.Small.{withTerms, allMarks}
 use Rattle.products.proofs.RowLaws.{rowAfter, withTerm, Summing, summing-own, summing-more}
 use Rattle.products_marked.proofs.ZeroTerms.{Plain, add-zero, add-plain}
@@ -89,9 +89,6 @@ rowAfter-settled C c a b i k sums h e =
     record {
       each = λ j l. rw (e, row-at (nil marks) C c (cell marks k a b i) j (marks .void) l h) (sum-settled k (λ k. markedMul (at marks a i k) (at marks b k j)));
     }
-
-pub row-of-cells : {r c : ℕ} {m : List (List Marked)} (i : ℕ) → i < r → SettledCells r c m → SettledRow c (getD m i [])
-row-of-cells i l h = record { each = λ j k. h .each i j l k }
 
 pub settledCells-are : (R C r c : ℕ) (m : List (List Marked)) → r ≤ R → c ≤ C → SettledCells r c (settledCells R C r c m)
 unfolding settledCells
@@ -213,9 +210,13 @@ rowAfter-plain C c a b i k sums h e j l =
 
 -- the two ways that a turn of the product goes: x is the left number, and `out` the matrix after the turn
 module _ {R C n c : ℕ} {a b : List (List Marked)} {i k : ℕ} {m₀ m : List (List Marked)} (hi : i < R) (hc : c ≤ C) (r : Summing marks R C n c a b i k m₀ m) where
-  pub turn-taken : {y : Marked} {v : List Marked} {out : List (List Marked)} → y ≡ settled (at marks a i k) → v ≡ withTerms marks c (getD m i []) y (getD b k [])
-      → out ≡ set m i v → Summing marks R C n c a b i (k + 1) m₀ out
-  turn-taken {y} {v} h e o = rw o (summing-more marks hi hc r (terms-left c (getD m i []) (at marks a i k) y (getD b k []) v h e))
+  -- row i is one of the matrix's rows
+  pub turn-inside : i < length m
+  turn-inside = omega (arith, hi, ap length (r .part), length-set m₀ i (rowAfter marks C c a b i k), ap length (r .rows), length-table (nil marks) R C i c (cell marks n a b))
+
+  pub turn-taken : {y : Marked} {out : List (List Marked)} → y ≡ settled (at marks a i k) → out ≡ set m i (withTerms marks c (getD m i []) y (getD b k []))
+      → Summing marks R C n c a b i (k + 1) m₀ out
+  turn-taken {y} h o = rw o (summing-more marks hi hc r (terms-left c (getD m i []) (at marks a i k) y (getD b k []) _ h refl))
 
   -- where x adds nothing, the row stays
   pub turn-idle : {w q : Bool} {out : List (List Marked)} → k < n → SettledCells n c b → Whole w n c b → q ≡ addsNothing (at marks a i k) w → not q ≡ false

@@ -5,8 +5,8 @@ ghost use Rattle.arithmetic.specs.Marks.{markedAdd, markedMul};
 ghost use Rattle.algebra.specs.Table.{blank};
 ghost use Rattle.algebra.specs.Kind.{marks, nil};
 ghost use Rattle.algebra.specs.Product.{cell, product, transpose, likeCells, trace, plusCells, minusCells, timesNumber, overNumber};
-ghost use Rattle.products.specs.Small.{withTerms, sandwich, givenCells, values, allMarks};
-ghost use Rattle.products_marked.specs.Settled.{Settled, SettledRow, SettledCells, Whole, settled, settledCells, addsNothing};
+ghost use Rattle.products.specs.Small.{sandwich, givenCells, values, allMarks};
+ghost use Rattle.products_marked.specs.Settled.{Settled, SettledCells, Whole, settled, settledCells, addsNothing};
 use arithmetic::Marked;
 use arithmetic::plain::is_zero;
 use steps::add;
@@ -83,18 +83,6 @@ fn with_term(sum: Marked, x: Marked, y: Marked) -> Marked
     }
 }
 
-// A row of sums, each with one term more: x times the like cell of `terms`.
-fn with_terms(sums: [Marked; 6], x: Marked, terms: [Marked; 6], cols: usize) -> [Marked; 6]
-    requires { ⌜ (cols ≤ 6) × SettledRow cols sums × Settled x × SettledRow cols terms ⌝ }
-    ensures { λ r. ⌜ r ≡ withTerms marks cols sums x terms ⌝ }
-{
-    let mut out = sums;
-    for j in 0..cols {
-        out[j] = with_term(out[j], x, terms[j]);
-    }
-    out
-}
-
 // Whether a turn with x on the left adds nothing: x is a zero, and so, where every number on the right is inside, is each product.
 fn adds_nothing(x: Marked, whole: bool) -> bool
     ensures { λ r. ⌜ r ≡ addsNothing x whole ⌝ }
@@ -120,7 +108,10 @@ fn settled_product(
         for k in 0..inner {
             let x = a[i][k];
             if !adds_nothing(x, whole) {
-                out[i] = with_terms(out[i], settled(x), b[k], cols);
+                let y = settled(x);
+                for j in 0..cols {
+                    out[i][j] = with_term(out[i][j], y, b[k][j]);
+                }
             }
         }
     }
