@@ -1,7 +1,7 @@
 -- A row of a matrix that gains its terms in place, cell by cell.
 use Prim.Native.Nat.{ℕ, _+_, _<_, _≤_}
 use native.Mathlib.Omega.{arith}
-use mathlib.Core.Path.{_≡_, refl, sym, ap, _∙_, subst}
+use mathlib.Core.Path.{_≡_, sym, ap, _∙_, subst}
 use mathlib.Core.List.{List, []}
 use lib.ListN.{getD, set, length, length-set}
 use lib.Seq.{getD-set-same, set-getD, set-set}

@@ -27,7 +27,7 @@ use Rattle.algebra.proofs.TableLaws.{length-table, table-at, table-ext, row-at}
 use Rattle.products.specs.Small.{withTerms, allMarks}
 use Rattle.products.proofs.RowLaws.{rowAfter, withTerm, Summing, summing-own, summing-more}
 use Rattle.products_marked.proofs.ZeroTerms.{Plain, add-zero, add-plain}
-use Rattle.products_marked.specs.Settled.{Settled, SettledRow, SettledCells, Whole, settled, settledCells, addsNothing}
+use Rattle.products_marked.specs.Settled.{Settled, SettledCells, Whole, settled, settledCells, addsNothing}
 
 -- ---- marks as Bools
 -- the mark of x * y, with the product's range and what is lost: s t the marks, u v the ranges of the factors
@@ -83,12 +83,11 @@ unfolding sum
 sum-settled n f = fold-keeps Settled 0 n (λ k s. markedAdd s (f k)) (nil marks) nil-settled (λ k lo hk s h. add-settled s (f k))
 
 -- the sums of row i after k turns
-pub rowAfter-settled : (C c : ℕ) (a b : List (List Marked)) (i k : ℕ) (sums : List Marked) → c ≤ C → sums ≡ rowAfter marks C c a b i k → SettledRow c sums
+pub rowAfter-settled : (C c : ℕ) (a b : List (List Marked)) (i k : ℕ) (sums : List Marked) → c ≤ C → sums ≡ rowAfter marks C c a b i k → (j : ℕ) → j < c
+    → Settled (getD sums j (marks .void))
 unfolding cell
-rowAfter-settled C c a b i k sums h e =
-    record {
-      each = λ j l. rw (e, row-at (nil marks) C c (cell marks k a b i) j (marks .void) l h) (sum-settled k (λ k. markedMul (at marks a i k) (at marks b k j)));
-    }
+rowAfter-settled C c a b i k sums h e j l =
+    rw (e, row-at (nil marks) C c (cell marks k a b i) j (marks .void) l h) (sum-settled k (λ k. markedMul (at marks a i k) (at marks b k j)))
 
 pub settledCells-are : (R C r c : ℕ) (m : List (List Marked)) → r ≤ R → c ≤ C → SettledCells r c (settledCells R C r c m)
 unfolding settledCells
@@ -233,7 +232,7 @@ module _ {R C n c : ℕ} {a b : List (List Marked)} {i k : ℕ} {m₀ m : List (
       (λ j lo hj ys q.
       rw q
       (ap (λ (z : Marked). set s j z)
-      (sym (term-idle (getD s j (marks .void)) x (at marks b k j) (rowAfter-settled C c a b i k s hc own .each j hj) (rowAfter-plain C c a b i k s hc own j hj)
+      (sym (term-idle (getD s j (marks .void)) x (at marks b k j) (rowAfter-settled C c a b i k s hc own j hj) (rowAfter-plain C c a b i k s hc own j hj)
       (and-r w (x .inside) u) (and-r (w && x .inside) (isZero (x .value)) t) (hw .each (and-l w (x .inside) u) k j hk hj) (hs .each k j hk hj)))
       ∙ set-getD s j (marks .void)))) in
       rw o (subst (λ (y : List (List Marked)). Summing marks R C n c a b i (k + 1) m₀ y) (set-getD m i []) (summing-more marks hi hc r turn))

@@ -1,20 +1,20 @@
 -- A term that is a zero changes no running sum: x + ±0 is x, for an x that is no -0; and a sum from +0 never is one.
 use Prim.Native.Nat.{ℕ, zero, suc, _+_, _-_, _*_, _/_, _%_, _^_, _<_, _≤_, compare}
 use native.Mathlib.Omega.{arith}
-use native.Mathlib.Nat.{le-trans, le-of-eq, lt-of-lt-of-le, mul-assoc, mul-comm, mul-one, one-mul, mul-pos, mul-sub, mul-lt-mul-of-pos-right, eq-of-mul-eq-mul-right, zero-mul, zero-lt-suc, lt-irrefl, div-div-eq-div-mul, le-div-iff-mul-le}
+use native.Mathlib.Nat.{le-trans, le-of-eq, mul-comm, mul-one, one-mul, mul-pos, mul-sub, mul-lt-mul-of-pos-right, eq-of-mul-eq-mul-right, zero-mul, zero-lt-suc, lt-irrefl, div-div-eq-div-mul, le-div-iff-mul-le}
 use mathlib.Core.Path.{_≡_, refl, sym, ap, _∙_, subst}
-use mathlib.Core.Bool.{Bool, true, false, not, _&&_, Bool·beq, cond}
+use mathlib.Core.Bool.{Bool, true, false, _&&_, Bool·beq, cond}
 use lib.IntN.{ℤ, pos, negsuc}
-use lib.Dec.{T, ltb, leb, eqb, ltb→lt, lt→ltb, nltb→le, leb→le}
+use lib.Dec.{T, ltb, leb, eqb, ltb→lt, lt→ltb, leb→le}
 use lib.Pow.{pow-add, pow-pos}
-use lib.Ieee.{Float, nan, inf, fin, Format, prec, emax, low, up, down, size, round, units, odd, fits, sum, add, mul}
+use lib.Ieee.{Float, nan, inf, fin, Format, prec, emax, low, up, down, size, round, units, odd, fits, sum, add}
 use lib.Ieee.Exact.{HasValue, round-exact, odd-sign}
 use lib.Ieee.Fits.{up-pos, down-pos, and-l, and-r, round-is, round-fits, two, two-le-pos}
 use lib.Ieee.Digits.{size-reaches}
 use lib.Ieee.Nearest.{nearest-ge}
 use lib.Ieee.Order.{drop, kept}
 use lib.Ieee.Scale.{grid, round-same}
-use Rattle.arithmetic.proofs.Rounding.{Written, fits-written, pow-le-back, unique}
+use Rattle.arithmetic.proofs.Rounding.{fits-written, pow-le-back, unique}
 use Rattle.arithmetic.proofs.Operations.{Zero, round-zero, size-pos, grain}
 
 -- ---- a number of the format rounds to itself
@@ -147,12 +147,6 @@ zero-val : (x : Float) (s : Bool) (a c : ℕ) → HasValue x s a c → Zero x �
 zero-val nan s a c v z = absurd v
 zero-val (inf t) s a c v z = absurd v
 zero-val (fin t m e) s a c v z = eq-of-mul-eq-mul-right (down e) (down-pos e) a 0 (sym (v .1) ∙ ap (λ (i : ℕ). i * up e * c) z ∙ omega arith)
-
-of-minus : (x : Float) → MinusZero x → Zero x
-of-minus nan h = h
-of-minus (inf s) h = h
-of-minus (fin false m e) h = absurd h
-of-minus (fin true m e) h = h
 
 units-signed : (f : Format) (s : Bool) (q k : ℕ) → (T s → 0 < q * 2 ^ k) → MinusZero (units f s q k) → ⊥
 unfolding units

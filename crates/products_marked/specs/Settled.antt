@@ -3,7 +3,6 @@ use Prim.Native.Nat.{ℕ, _<_}
 use mathlib.Core.Bool.{Bool, _&&_}
 use mathlib.Core.List.{List}
 use lib.Dec.{T}
-use lib.ListN.{getD}
 use Rattle.arithmetic.specs.declared.Marked.{Marked}
 use Rattle.arithmetic.specs.Numbers.{isZero}
 use Rattle.arithmetic.specs.Marks.{marked, inRange}
@@ -14,10 +13,6 @@ use Rattle.algebra.specs.Product.{at}
 -- a number that is inside is in range
 pub record Settled (a : Marked) : Type 0 where
   pub range : T (a .inside) → T (inRange (a .value))
-
--- the first c numbers of a row
-pub record SettledRow (c : ℕ) (row : List Marked) : Type 0 where
-  pub each : (j : ℕ) → j < c → Settled (getD row j (marks .void))
 
 -- the cells of r rows and c columns
 pub record SettledCells (r c : ℕ) (m : List (List Marked)) : Type 0 where

@@ -96,7 +96,7 @@ with-term-requires :
     tie.Need-with-term-requires Inv-loop3 μ-loop3 Inv-loop2 μ-loop2 Inv-loop μ-loop
 with-term-requires c κs = (
   rw (gaining-at-own (c .before .before .before .loop3 .inv .3))
-      (rowAfter-settled 6 _ _ _ _ _ _ (omega arith) (summing-own marks (omega arith) (c .before .before .before .before .before .before .before .before .before .loop2 .inv .2)) .each _ (omega arith)),
+      (rowAfter-settled 6 _ _ _ _ _ _ (omega arith) (summing-own marks (omega arith) (c .before .before .before .before .before .before .before .before .before .loop2 .inv .2)) _ (omega arith)),
   rw (c .before .before .before .before .settled .ensures) (settled-is _),
   c .before .before .before .before .before .before .before .before .before .before .before .before .before .pre .3 .each _ _ (omega arith) (omega arith),
 )
