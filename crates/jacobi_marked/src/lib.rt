@@ -6,9 +6,10 @@ ghost use mathlib.Core.List.{[], _∷_};
 ghost use Rattle.algebra.specs.Table.{table};
 ghost use Rattle.algebra.specs.Kind.{marks, nil};
 ghost use Rattle.algebra.specs.Product.{at, identity};
+ghost use Rattle.tested_rotation.specs.Parts.{chosenCell, mirroringCell};
 ghost use Rattle.jacobi.specs.States.{markedState};
 ghost use Rattle.jacobi.specs.Starts.{mirroredCell, identityCell};
-ghost use Rattle.algebra.specs.Jacobi.{State, ratio, tangent, cosine, sine, turnedFirst, turnedSecond, turnRow, turnColumns, rotatedCell, rotated, squared, bound, rotateTested, rotate, rowTo, sweepTo, sweepsTo, mirrored, jacobi};
+ghost use Rattle.algebra.specs.Jacobi.{State, ratio, tangent, cosine, sine, turnedFirst, turnedSecond, turnRow, turnColumns, rotated, squared, bound, rotateTested, rotate, rowTo, sweepTo, sweepsTo, mirrored, jacobi};
 use arithmetic::Marked;
 use arithmetic::plain::is_zero;
 use arithmetic::plain::sign;
@@ -93,50 +94,52 @@ pub fn turn_columns(
     out
 }
 
-// A cell of the rotated matrix, from m and from w, whose columns are turned. Rows p and q mirror the columns.
-pub fn rotated_cell(
-    m: [[Marked; 6]; 6],
-    w: [[Marked; 6]; 6],
-    p: usize,
-    q: usize,
-    t: Marked,
+// Cell (i, j) of the rotated matrix, from cells of w, whose columns are turned: `here` is w's own, and `by_p` and `by_q` are cells p and q of its row j, which rows p and q mirror.
+fn rotated_cell(
     i: usize,
     j: usize,
+    p: usize,
+    q: usize,
+    first: Marked,
+    second: Marked,
+    by_p: Marked,
+    by_q: Marked,
+    here: Marked,
 ) -> Marked
-    requires { ⌜ (p < 6) × (q < 6) × (i < 6) × (j < 6) ⌝ }
-    ensures { λ r. ⌜ r ≡ rotatedCell marks p q t m w i j ⌝ }
+    ensures { λ r. ⌜ r ≡ chosenCell marks p q first second i j «by_p» «by_q» here ⌝ }
 {
     if i == p {
         if j == p {
-            return sub(m[p][p], mul(t, m[p][q]));
+            return first;
         }
         if j == q {
             return given(0.0);
         }
-        return w[j][p];
+        return by_p;
     }
     if i == q {
         if j == q {
-            return add(m[q][q], mul(t, m[p][q]));
+            return second;
         }
         if j == p {
             return given(0.0);
         }
-        return w[j][q];
+        return by_q;
     }
-    w[i][j]
+    here
 }
 
+// The rotated matrix, from w, whose columns are turned, and from its two diagonal cells `first` and `second`.
 fn rotated_cells(
-    m: [[Marked; 6]; 6],
     w: [[Marked; 6]; 6],
     n: usize,
     p: usize,
     q: usize,
-    t: Marked,
+    first: Marked,
+    second: Marked,
 ) -> [[Marked; 6]; 6]
     requires { ⌜ (n ≤ 6) × (p < 6) × (q < 6) ⌝ }
-    ensures { λ r. ⌜ r ≡ table (nil marks) 6 6 n n (rotatedCell marks p q t m w) ⌝ }
+    ensures { λ r. ⌜ r ≡ table (nil marks) 6 6 n n (mirroringCell marks p q first second w) ⌝ }
 {
     let nil = Marked {
         value: 0.0,
@@ -145,7 +148,7 @@ fn rotated_cells(
     let mut out = [[nil; 6]; 6];
     for i in 0..n {
         for j in 0..n {
-            out[i][j] = rotated_cell(m, w, p, q, t, i, j);
+            out[i][j] = rotated_cell(i, j, p, q, first, second, w[j][p], w[j][q], w[i][j]);
         }
     }
     out
@@ -164,7 +167,10 @@ pub fn rotated(
     ensures { λ r. ⌜ r ≡ rotated marks 6 6 n p q t c s m ⌝ }
 {
     let w = turn_columns(m, n, p, q, c, s);
-    rotated_cells(m, w, n, p, q, t)
+    let moved = mul(t, m[p][q]);
+    let first = sub(m[p][p], moved);
+    let second = add(m[q][q], moved);
+    rotated_cells(w, n, p, q, first, second)
 }
 
 // The left side of the rotation test.

@@ -4,8 +4,8 @@ ghost use Prim.Native.Nat.{_+_, _<_, _≤_};
 ghost use Rattle.arithmetic.specs.Numbers.{plusZero};
 ghost use Rattle.algebra.specs.Table.{table};
 ghost use Rattle.algebra.specs.Kind.{floats, nil};
-ghost use Rattle.algebra.specs.Product.{at};
-ghost use Rattle.algebra.specs.Jacobi.{State, ratio, tangent, rotatedCell, rotated, squared, bound, rotateTested, rotate};
+ghost use Rattle.tested_rotation.specs.Parts.{chosenCell, mirroringCell};
+ghost use Rattle.algebra.specs.Jacobi.{State, rotated, rotateTested, rotate};
 use arithmetic::plain::is_zero;
 use rotation::cosine;
 use rotation::ratio;
@@ -13,55 +13,57 @@ use rotation::sine;
 use rotation::tangent;
 use rotation::turn_columns;
 
-// A cell of the rotated matrix, from m and from w, whose columns are turned. Rows p and q mirror the columns.
-pub fn rotated_cell(
-    m: [[f64; 6]; 6],
-    w: [[f64; 6]; 6],
-    p: usize,
-    q: usize,
-    t: f64,
+// Cell (i, j) of the rotated matrix, from cells of w, whose columns are turned: `here` is w's own, and `by_p` and `by_q` are cells p and q of its row j, which rows p and q mirror.
+fn rotated_cell(
     i: usize,
     j: usize,
+    p: usize,
+    q: usize,
+    first: f64,
+    second: f64,
+    by_p: f64,
+    by_q: f64,
+    here: f64,
 ) -> f64
-    requires { ⌜ (p < 6) × (q < 6) × (i < 6) × (j < 6) ⌝ }
-    ensures { λ r. ⌜ r ≡ rotatedCell floats p q t m w i j ⌝ }
+    ensures { λ r. ⌜ r ≡ chosenCell floats p q first second i j «by_p» «by_q» here ⌝ }
 {
     if i == p {
         if j == p {
-            return m[p][p] - t * m[p][q];
+            return first;
         }
         if j == q {
             return 0.0;
         }
-        return w[j][p];
+        return by_p;
     }
     if i == q {
         if j == q {
-            return m[q][q] + t * m[p][q];
+            return second;
         }
         if j == p {
             return 0.0;
         }
-        return w[j][q];
+        return by_q;
     }
-    w[i][j]
+    here
 }
 
+// The rotated matrix, from w, whose columns are turned, and from its two diagonal cells `first` and `second`.
 fn rotated_cells(
-    m: [[f64; 6]; 6],
     w: [[f64; 6]; 6],
     n: usize,
     p: usize,
     q: usize,
-    t: f64,
+    first: f64,
+    second: f64,
 ) -> [[f64; 6]; 6]
     requires { ⌜ (n ≤ 6) × (p < 6) × (q < 6) ⌝ }
-    ensures { λ r. ⌜ r ≡ table (nil floats) 6 6 n n (rotatedCell floats p q t m w) ⌝ }
+    ensures { λ r. ⌜ r ≡ table (nil floats) 6 6 n n (mirroringCell floats p q first second w) ⌝ }
 {
     let mut out = [[0.0; 6]; 6];
     for i in 0..n {
         for j in 0..n {
-            out[i][j] = rotated_cell(m, w, p, q, t, i, j);
+            out[i][j] = rotated_cell(i, j, p, q, first, second, w[j][p], w[j][q], w[i][j]);
         }
     }
     out
@@ -80,31 +82,8 @@ pub fn rotated(
     ensures { λ r. ⌜ r ≡ rotated floats 6 6 n p q t c s m ⌝ }
 {
     let w = turn_columns(m, n, p, q, c, s);
-    rotated_cells(m, w, n, p, q, t)
-}
-
-// The left side of the rotation test.
-pub fn squared(m: [[f64; 6]; 6], p: usize, q: usize) -> f64
-    requires { ⌜ (p < 6) × (q < 6) ⌝ }
-    ensures { λ r. ⌜ r ≡ squared floats p q m ⌝ }
-{
-    m[p][q] * m[p][q]
-}
-
-// The right side of the rotation test.
-pub fn bound(m: [[f64; 6]; 6], p: usize, q: usize, limit: f64) -> f64
-    requires { ⌜ (p < 6) × (q < 6) ⌝ }
-    ensures { λ r. ⌜ r ≡ bound floats limit p q m ⌝ }
-{
-    limit * (m[p][p] * m[q][q])
-}
-
-// The tangent of the rotation that clears cell (p, q).
-fn tangent_at(m: [[f64; 6]; 6], p: usize, q: usize) -> f64
-    requires { ⌜ (p < 6) × (q < 6) ⌝ }
-    ensures { λ r. ⌜ r ≡ tangent floats (ratio floats (at floats m p p) (at floats m q q) (at floats m p q)) ⌝ }
-{
-    tangent(ratio(m[p][p], m[q][q], m[p][q]))
+    let moved = t * m[p][q];
+    rotated_cells(w, n, p, q, m[p][p] - moved, m[q][q] + moved)
 }
 
 // The pair (p, q), whose cell is not zero: rotated if the test says so. Returns the rotations made so far.
@@ -120,10 +99,13 @@ pub fn rotate_tested(
     requires { ⌜ (n ≤ 6) × (p < 6) × (q < 6) × (count ≤ 3000) ⌝ }
     ensures { λ r. ⌜ record { a = now (a .exit); v = now (v .exit); count = r; seen = plusZero } ≡ rotateTested floats limit 6 6 n p q (record { a = now (a .entry); v = now (v .entry); count = count; seen = plusZero }) ⌝ }
 {
-    let m = *a;
     let more = count + 1;
-    if bound(m, p, q, limit) < squared(m, p, q) {
-        let t = tangent_at(m, p, q);
+    let pq = a[p][q];
+    let pp = a[p][p];
+    let qq = a[q][q];
+    if limit * (pp * qq) < pq * pq {
+        let m = *a;
+        let t = tangent(ratio(pp, qq, pq));
         let c = cosine(t);
         let s = sine(t, c);
         let b = rotated(m, n, p, q, t, c, s);
