@@ -82,7 +82,7 @@ pub fn gain_sigma(
             i,
         );
         let f = factor(blocks, count, theta, r);
-        large::narrow::gain_from(work, a, row, 0, m, f);
+        large_products::narrow::gain_from(work, a, row, 0, m, f);
     }
 }
 
