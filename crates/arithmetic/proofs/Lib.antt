@@ -2,6 +2,7 @@
 pub mod ScaleLaws
 pub mod Rounding
 pub mod Operations
+pub mod ZeroTerms
 pub mod Tied
 pub mod Ranges
 pub mod RangeTest

@@ -161,7 +161,7 @@ div-scale f u v (fin s m e) (fin t n d) k z = go (eqb n 0) (some n) k z
         k (λ q. ap (λ (i : ℕ). i * up e * down d) (z q) ∙ ap (λ (i : ℕ). i * down d) (zero-mul (up e)) ∙ zero-mul (down d))
 
 -- ---- a fraction of one unit at least does not round to zero
-zero-val : (x : Float) (s : Bool) (a c : ℕ) → HasValue x s a c → Zero x → a ≡ 0
+pub zero-val : (x : Float) (s : Bool) (a c : ℕ) → HasValue x s a c → Zero x → a ≡ 0
 zero-val nan s a c v z = absurd v
 zero-val (inf t) s a c v z = absurd v
 zero-val (fin t m e) s a c v z = eq-of-mul-eq-mul-right (down e) (down-pos e) a 0 (sym (v .1) ∙ ap (λ (i : ℕ). i * up e * c) z ∙ omega arith)
@@ -183,7 +183,7 @@ size-pos n h = native.Mathlib.Nat.lt-of-not-le (λ (g : size n ≤ 0). native.Ma
 fewer : (z p : ℕ) → 0 < p → 0 < z → z - p < z
 fewer z p P Z = omega arith
 
-grid-pos : (f : Format) (a c : ℕ) → 0 < c → c ≤ a * 2 ^ low f → 0 < grid f a c
+pub grid-pos : (f : Format) (a c : ℕ) → 0 < c → c ≤ a * 2 ^ low f → 0 < grid f a c
 grid-pos f a c C h =
     let p = prec f in
     let n = a * 2 ^ low f in
@@ -205,7 +205,7 @@ none-lost f s a c (suc q) C h z =
     more q c = omega arith
 
 -- ---- sums
-sub-cross : (a b a' b' g w : ℕ) → a' * g ≡ a * w → b' * g ≡ b * w → (a' - b') * g ≡ (a - b) * w
+pub sub-cross : (a b a' b' g w : ℕ) → a' * g ≡ a * w → b' * g ≡ b * w → (a' - b') * g ≡ (a - b) * w
 sub-cross a b a' b' g w h k = mul-comm (a' - b') g ∙ mul-sub g a' b' ∙ two (g * a') (g * b') (w * a) (w * b) (mul-comm g a' ∙ h ∙ mul-comm a w) (mul-comm g b' ∙ k ∙ mul-comm b w) ∙ sym (mul-comm (a - b) w ∙ mul-sub w a b)
   where
     two : (x y z v : ℕ) → x ≡ z → y ≡ v → x - y ≡ z - v

@@ -5,10 +5,10 @@ use native.Mathlib.Nat.{le-antisymm}
 use native.Mathlib.Decide.{decLt}
 use mathlib.Core.Path.{_≡_, refl, sym, ap, _∙_}
 use mathlib.Core.List.{List, []}
-use mathlib.Core.Logic.{_⊎_, inl, inr}
+use mathlib.Core.Logic.{inr}
 use lib.ListN.{getD, set, length, replicate, getD-replicate, length-replicate}
 use lib.Seq.{getD-set-same, set-getD, set-set, ext-getD}
-use Rattle.algebra.specs.Fold.{fold, span}
+use Rattle.algebra.specs.Fold.{span}
 use Rattle.algebra.specs.Table.{row, blank, table}
 use Rattle.algebra.specs.Kind.{Arith, nil}
 use Rattle.algebra.specs.Product.{at, sum, cell}

@@ -1,4 +1,3 @@
 -- The laws of the marked products' own steps.
 pub mod InPlace
 pub mod SettledLaws
-pub mod ZeroTerms

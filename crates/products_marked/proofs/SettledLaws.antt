@@ -26,7 +26,7 @@ use Rattle.algebra.proofs.FoldLaws.{fold-keeps, fold-ext, fold-steps}
 use Rattle.algebra.proofs.TableLaws.{length-table, table-at, table-ext, row-at}
 use Rattle.products.specs.Small.{withTerms, allMarks}
 use Rattle.products.proofs.RowLaws.{rowAfter, withTerm, Summing, summing-own, summing-more}
-use Rattle.products_marked.proofs.ZeroTerms.{Plain, add-zero, add-plain}
+use Rattle.arithmetic.proofs.ZeroTerms.{Plain, add-zero, add-plain}
 use Rattle.products_marked.specs.Settled.{Settled, SettledCells, Whole, settled, settledCells, addsNothing}
 
 -- ---- marks as Bools

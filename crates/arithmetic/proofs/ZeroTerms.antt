@@ -1,21 +1,19 @@
 -- A term that is a zero changes no running sum: x + ±0 is x, for an x that is no -0; and a sum from +0 never is one.
-use Prim.Native.Nat.{ℕ, zero, suc, _+_, _-_, _*_, _/_, _%_, _^_, _<_, _≤_, compare}
+use Prim.Native.Nat.{ℕ, zero, suc, _+_, _-_, _*_, _%_, _^_, _<_, _≤_}
 use native.Mathlib.Omega.{arith}
-use native.Mathlib.Nat.{le-trans, le-of-eq, mul-comm, mul-one, one-mul, mul-pos, mul-sub, mul-lt-mul-of-pos-right, eq-of-mul-eq-mul-right, zero-mul, zero-lt-suc, lt-irrefl, div-div-eq-div-mul, le-div-iff-mul-le}
+use native.Mathlib.Nat.{le-trans, le-of-eq, mul-one, mul-pos, mul-lt-mul-of-pos-right, zero-mul, zero-lt-suc, lt-irrefl}
 use mathlib.Core.Path.{_≡_, refl, sym, ap, _∙_, subst}
 use mathlib.Core.Bool.{Bool, true, false, _&&_, Bool·beq, cond}
 use lib.IntN.{ℤ, pos, negsuc}
 use lib.Dec.{T, ltb, leb, eqb, ltb→lt, lt→ltb, leb→le}
 use lib.Pow.{pow-add, pow-pos}
-use lib.Ieee.{Float, nan, inf, fin, Format, prec, emax, low, up, down, size, round, units, odd, fits, sum, add}
+use lib.Ieee.{Float, nan, inf, fin, Format, prec, emax, low, up, down, round, units, odd, fits, sum, add}
 use lib.Ieee.Exact.{HasValue, round-exact, odd-sign}
-use lib.Ieee.Fits.{up-pos, down-pos, and-l, and-r, round-is, round-fits, two, two-le-pos}
-use lib.Ieee.Digits.{size-reaches}
-use lib.Ieee.Nearest.{nearest-ge}
+use lib.Ieee.Fits.{up-pos, down-pos, and-l, and-r, round-is, round-fits}
 use lib.Ieee.Order.{drop, kept}
-use lib.Ieee.Scale.{grid, round-same}
+use lib.Ieee.Scale.{round-same}
 use Rattle.arithmetic.proofs.Rounding.{fits-written, pow-le-back, unique}
-use Rattle.arithmetic.proofs.Operations.{Zero, round-zero, size-pos, grain}
+use Rattle.arithmetic.proofs.Operations.{Zero, round-zero, grain, zero-val, grid-pos, sub-cross}
 
 -- ---- a number of the format rounds to itself
 abbrev Own : Format → Bool → ℕ → ℤ → Type 0
@@ -143,11 +141,6 @@ add-zero f (fin s m e) (fin t n d) p z =
     turned x u v = omega arith
 
 -- ---- a sum of whole units is no -0
-zero-val : (x : Float) (s : Bool) (a c : ℕ) → HasValue x s a c → Zero x → a ≡ 0
-zero-val nan s a c v z = absurd v
-zero-val (inf t) s a c v z = absurd v
-zero-val (fin t m e) s a c v z = eq-of-mul-eq-mul-right (down e) (down-pos e) a 0 (sym (v .1) ∙ ap (λ (i : ℕ). i * up e * c) z ∙ omega arith)
-
 units-signed : (f : Format) (s : Bool) (q k : ℕ) → (T s → 0 < q * 2 ^ k) → MinusZero (units f s q k) → ⊥
 unfolding units
 units-signed f s q k h = go (ltb (q * 2 ^ k) (2 ^ (low f + suc (emax f))))
@@ -162,25 +155,9 @@ units-signed f s q k h = go (ltb (q * 2 ^ k) (2 ^ (low f + suc (emax f))))
     go true z = minus (odd (suc (prec f)) s q k (low f)) (q * 2 ^ k) (2 ^ low f) (odd-sign (suc (prec f)) s q k (low f)) h z
     go false z = z
 
--- a fraction of one unit at least keeps a unit
-grid-some : (f : Format) (a c : ℕ) → 0 < c → c ≤ a * 2 ^ low f → 0 < grid f a c
-grid-some f a c C h =
-    let p = prec f in
-    let n = a * 2 ^ low f in
-    let w = n / c in
-    let k = drop p n c in
-    let u = c * 2 ^ k in
-    let W1 : 1 ≤ w = le-div-iff-mul-le C .1 (le-trans (le-of-eq (one-mul c)) h) in
-    let r : 2 ^ k ≤ w = size-reaches w k (fewer (size w) p (two-le-pos p (two f)) (size-pos w W1)) in
-    let q : 1 ≤ n / u = subst (λ (z : ℕ). 1 ≤ z) (div-div-eq-div-mul n c (2 ^ k)) (le-div-iff-mul-le (pow-pos k) .1 (le-trans (le-of-eq (one-mul (2 ^ k))) r)) in
-    mul-pos (le-trans q (nearest-ge (n / u) (compare (n % u * 2) u))) (pow-pos k)
-  where
-    fewer : (z p : ℕ) → 0 < p → 0 < z → z - p < z
-    fewer z p P Z = omega arith
-
 round-signed : (f : Format) (s : Bool) (a c q : ℕ) → 0 < c → a * 2 ^ low f ≡ q * c → (T s → 0 < a) → MinusZero (round f s a c) → ⊥
 round-signed f s a c q C h p z =
-    units-signed f s (kept (prec f) (a * 2 ^ low f) c) (drop (prec f) (a * 2 ^ low f) c) (λ t. grid-some f a c C (whole q (p t) h)) (subst MinusZero (round-is f s a c) z)
+    units-signed f s (kept (prec f) (a * 2 ^ low f) c) (drop (prec f) (a * 2 ^ low f) c) (λ t. grid-pos f a c C (whole q (p t) h)) (subst MinusZero (round-is f s a c) z)
   where
     whole : (q : ℕ) → 0 < a → a * 2 ^ low f ≡ q * c → c ≤ a * 2 ^ low f
     whole zero A e = absurd (lt-irrefl 0 (subst (λ (i : ℕ). 0 < i) (e ∙ zero-mul c) (mul-pos A (pow-pos (low f)))))
@@ -188,12 +165,6 @@ round-signed f s a c q C h p z =
       where
         more : (q c : ℕ) → c ≤ suc q * c
         more q c = omega arith
-
-sub-units : (a b i j l c : ℕ) → a * l ≡ i * c → b * l ≡ j * c → (a - b) * l ≡ (i - j) * c
-sub-units a b i j l c h k = mul-comm (a - b) l ∙ mul-sub l a b ∙ two-of (l * a) (l * b) (c * i) (c * j) (mul-comm l a ∙ h ∙ mul-comm i c) (mul-comm l b ∙ k ∙ mul-comm j c) ∙ sym (mul-comm (i - j) c ∙ mul-sub c i j)
-  where
-    two-of : (x y z v : ℕ) → x ≡ z → y ≡ v → x - y ≡ z - v
-    two-of x y z v h k = omega arith
 
 sum-signed : (f : Format) (s t : Bool) (a b c i j : ℕ) → 0 < c → a * 2 ^ low f ≡ i * c → b * 2 ^ low f ≡ j * c → (T s → 0 < a) → MinusZero (sum f s a t b c) → ⊥
 unfolding sum
@@ -203,13 +174,13 @@ sum-signed f s t a b c i j C h k p = go s t p
     units-sum = omega (arith, h, k)
 
     rest : (s : Bool) (w : Bool) → (T w → b < a) → MinusZero (round f (s && w) (a - b) c) → ⊥
-    rest s w l z = round-signed f (s && w) (a - b) c (i - j) C (sub-units a b i j (2 ^ low f) c h k) (λ t. above (l (and-r s w t))) z
+    rest s w l z = round-signed f (s && w) (a - b) c (i - j) C (sub-cross i j a b (2 ^ low f) c h k) (λ t. above (l (and-r s w t))) z
       where
         above : b < a → 0 < a - b
         above h = omega arith
 
     other : (t : Bool) (w : Bool) → (T w → a < b) → (s : Bool) → MinusZero (cond w (round f t (b - a) c) (round f (s && ltb b a) (a - b) c)) → ⊥
-    other t true l s z = round-signed f t (b - a) c (j - i) C (sub-units b a j i (2 ^ low f) c k h) (λ x. above (l tt)) z
+    other t true l s z = round-signed f t (b - a) c (j - i) C (sub-cross j i b a (2 ^ low f) c k h) (λ x. above (l tt)) z
       where
         above : a < b → 0 < b - a
         above h = omega arith
