@@ -60,7 +60,7 @@ fn marked_products(a: [[Marked; 6]; 6], b: [[Marked; 6]; 6], r: usize, n: usize,
     print::marked_matrix(products_marked::sandwich(a, b, r, n));
     print::marked_number(products_marked::like_cells(a, b, r, n));
     print::marked_number(products_marked::trace(a, r));
-    print::marked_number(products_marked::all_marks(a, r, n, a[0][0]));
+    print::marked_number(marked_cells::all_marks(a, r, n, a[0][0]));
 }
 
 fn marked_cellwise(a: [[Marked; 6]; 6], b: [[Marked; 6]; 6], r: usize, n: usize)
@@ -134,8 +134,8 @@ pub fn run(text: &[u8; 1241]) {
 fn choose(which: u64, a: [[f64; 6]; 6], b: [[f64; 6]; 6], r: usize, n: usize, c: usize)
     requires { ⌜ (r ≤ 6) × (n ≤ 6) × (c ≤ 6) ⌝ }
 {
-    let ma = products_marked::given_cells(a, 6, 6);
-    let mb = products_marked::given_cells(b, 6, 6);
+    let ma = marked_cells::given_cells(a, 6, 6);
+    let mb = marked_cells::given_cells(b, 6, 6);
     if which == 1 {
         products(a, b, r, n, c);
         cellwise(a, b, r, n, c);

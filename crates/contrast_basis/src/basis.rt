@@ -64,7 +64,7 @@ pub fn divided(rows: usize, p: usize, l: [[f64; 6]; 6]) -> [[Marked; 6]; 6]
     requires { ⌜ (rows ≤ 6) × (p ≤ 6) ⌝ }
     ensures { λ r. ⌜ r ≡ divided rows p l ⌝ }
 {
-    let mut out = products_marked::zeros();
+    let mut out = marked_cells::zeros();
     for i in 0..rows {
         for j in 0..p {
             out[i][j] = divided_cell(p, l, i, j);
@@ -300,9 +300,9 @@ pub fn contrast_basis(
     ensures { λ r. ⌜ (record { rows = r; rank = now (rank .exit); seen = marked plusZero (now (seen .exit)) } ≡ contrastBasis rows p l) × (now (rank .exit) ≤ 6) ⌝ }
 {
     let d = divided(rows, p, l);
-    let all = products_marked::all_marks(d, rows, p, given(0.0));
+    let all = marked_cells::all_marks(d, rows, p, given(0.0));
     *seen = all.inside;
-    let mut m = products_marked::values(d, rows, p);
+    let mut m = marked_cells::values(d, rows, p);
     if rows == 1 {
         *rank = 1;
         return m;

@@ -6,12 +6,12 @@ ghost use Rattle.algebra.specs.Product.{product};
 ghost use Rattle.ddf.specs.Satterthwaite.{column, contrastOf, transformed, transformedAll, stackSeen};
 ghost use Rattle.ddf_test.specs.Parts.{startSeenOf};
 use arithmetic::Marked;
-use products_marked::all_marks;
-use products_marked::given_cells;
+use marked_cells::all_marks;
+use marked_cells::given_cells;
+use marked_cells::zeros;
 use products_marked::minus_cells;
 use products_marked::product;
 use products_marked::sandwich;
-use products_marked::zeros;
 use steps::given;
 
 // b as a column.

@@ -2,33 +2,21 @@
 ghost use mathlib.Core.Path.{_≡_};
 ghost use Prim.Native.Nat.{_≤_, _<_};
 ghost use Rattle.arithmetic.specs.Marks.{markedAdd, markedMul};
-ghost use Rattle.algebra.specs.Table.{blank};
-ghost use Rattle.algebra.specs.Kind.{marks, nil};
+ghost use Rattle.algebra.specs.Kind.{marks};
 ghost use Rattle.algebra.specs.Product.{cell, product, transpose, likeCells, trace, plusCells, minusCells, timesNumber, overNumber};
-ghost use Rattle.products.specs.Small.{sandwich, givenCells, values, allMarks};
+ghost use Rattle.products.specs.Small.{sandwich};
 ghost use Rattle.products_marked.specs.Settled.{Settled, SettledCells, Whole, settled, settledCells, addsNothing};
 use arithmetic::Marked;
 use arithmetic::plain::is_zero;
+use marked_cells::all_marks;
+use marked_cells::zeros;
 use steps::add;
-use steps::also;
 use steps::div;
 use steps::given;
 use steps::in_range;
 use steps::lost_product;
 use steps::mul;
 use steps::sub;
-
-// Zeros alone.
-pub fn zeros() -> [[Marked; 6]; 6]
-    ensures { λ r. ⌜ r ≡ blank (nil marks) 6 6 ⌝ }
-{
-    let zero = Marked {
-        value: 0.0,
-        inside: true,
-    };
-    let row = [zero; 6];
-    [row; 6]
-}
 
 // Row i of a times column j of b: from +0, by rising index.
 pub fn cell(a: [[Marked; 6]; 6], b: [[Marked; 6]; 6], inner: usize, i: usize, j: usize) -> Marked
@@ -254,47 +242,4 @@ pub fn sandwich(l: [[Marked; 6]; 6], m: [[Marked; 6]; 6], q: usize, p: usize) ->
     let left = product(l, m, q, p, p);
     let turned = transpose(l, q, p);
     product(left, turned, q, p, q)
-}
-
-// Every cell an input: no step led to it.
-pub fn given_cells(a: [[f64; 6]; 6], rows: usize, cols: usize) -> [[Marked; 6]; 6]
-    requires { ⌜ (rows ≤ 6) × (cols ≤ 6) ⌝ }
-    ensures { λ r. ⌜ r ≡ givenCells 6 6 rows cols a ⌝ }
-{
-    let mut out = zeros();
-    for i in 0..rows {
-        for j in 0..cols {
-            out[i][j] = given(a[i][j]);
-        }
-    }
-    out
-}
-
-// The values without their marks.
-pub fn values(a: [[Marked; 6]; 6], rows: usize, cols: usize) -> [[f64; 6]; 6]
-    requires { ⌜ (rows ≤ 6) × (cols ≤ 6) ⌝ }
-    ensures { λ r. ⌜ r ≡ values 6 6 rows cols a ⌝ }
-{
-    let mut out = products::zeros();
-    for i in 0..rows {
-        for j in 0..cols {
-            let number = a[i][j];
-            out[i][j] = number.value;
-        }
-    }
-    out
-}
-
-// `seen`, with the mark of every cell counted.
-pub fn all_marks(a: [[Marked; 6]; 6], rows: usize, cols: usize, seen: Marked) -> Marked
-    requires { ⌜ (rows ≤ 6) × (cols ≤ 6) ⌝ }
-    ensures { λ r. ⌜ r ≡ allMarks rows cols a seen ⌝ }
-{
-    let mut all = seen;
-    for i in 0..rows {
-        for j in 0..cols {
-            all = also(all, a[i][j]);
-        }
-    }
-    all
 }

@@ -11,7 +11,7 @@ pub fn scaled_up(p: usize, m: [[f64; 6]; 6], sigma2: f64) -> [[Marked; 6]; 6]
     requires { ⌜ p ≤ 6 ⌝ }
     ensures { λ r. ⌜ r ≡ scaledUp p m sigma2 ⌝ }
 {
-    let cells = products_marked::given_cells(m, p, p);
+    let cells = marked_cells::given_cells(m, p, p);
     let x = given(sigma2);
     products_marked::times_number(cells, x, p, p)
 }
@@ -21,7 +21,7 @@ pub fn scaled_down(p: usize, m: [[f64; 6]; 6], sigma2: f64) -> [[Marked; 6]; 6]
     requires { ⌜ p ≤ 6 ⌝ }
     ensures { λ r. ⌜ r ≡ scaledDown p m sigma2 ⌝ }
 {
-    let cells = products_marked::given_cells(m, p, p);
+    let cells = marked_cells::given_cells(m, p, p);
     let x = given(sigma2);
     products_marked::over_number(cells, x, p, p)
 }

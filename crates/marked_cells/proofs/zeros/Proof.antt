@@ -1,9 +1,9 @@
--- `products_marked::zeros` meets its contract.
+-- `marked_cells::zeros` meets its contract.
 use mathlib.Core.Path.{refl}
 use lib.Ieee.{ofBits}
 use Rattle.algebra.specs.Table.{blank}
-use Rattle.products_marked.proofs.zeros.Statement.{statement}
-use Rattle.products_marked.proofs.zeros.Tie as tie
+use Rattle.marked_cells.proofs.zeros.Statement.{statement}
+use Rattle.marked_cells.proofs.zeros.Tie as tie
 
 returns : tie.Need-returns
 unfolding blank ofBits

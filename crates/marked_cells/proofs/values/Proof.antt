@@ -1,26 +1,25 @@
--- `products_marked::given_cells` meets its contract.
+-- `marked_cells::values` meets its contract.
 use Prim.Native.Nat.{_≤_, _<_, _-_}
-use mathlib.Core.Path.{_≡_}
+use mathlib.Core.Path.{_≡_, refl}
 use Rattle.algebra.specs.Table.{table}
 use Rattle.algebra.specs.Kind.{floats, marks, nil}
-use Rattle.arithmetic.specs.Marks.{given}
 use Rattle.algebra.specs.Product.{at}
-use Rattle.products.specs.Small.{givenCells}
+use Rattle.products.specs.Small.{values}
 use Rattle.algebra.proofs.TableLaws.{table-none, Filling, filling-none, filling-more, filling-row}
 use Rattle.products.proofs.LoopLaws.{table-end}
 use borrow.Author.Needs.{needs}
 use native.Mathlib.Omega.{arith}
-use Rattle.products_marked.proofs.given_cells.Statement.{statement}
-use Rattle.products_marked.proofs.given_cells.Tie as tie
+use Rattle.marked_cells.proofs.values.Statement.{statement}
+use Rattle.marked_cells.proofs.values.Tie as tie
 
 abbrev Inv-loop2 : tie.InvT-loop2
-Inv-loop2 rows cols a out₀ i j₀ out j = (i < rows) × (j ≤ cols) × Filling (nil marks) 6 6 (λ i j. given (at floats a i j)) cols i j out₀ out
+Inv-loop2 rows cols a out₀ i j₀ out j = (i < rows) × (j ≤ cols) × Filling (nil floats) 6 6 (λ i j. at marks a i j .value) cols i j out₀ out
 
 abbrev μ-loop2 : tie.MeasureT-loop2
 μ-loop2 rows cols a out₀ i j₀ out j = cols - j
 
 abbrev Inv-loop : tie.InvT-loop
-Inv-loop rows cols a out₀ i₀ out i = (i ≤ rows) × (out ≡ table (nil marks) 6 6 i cols (λ i j. given (at floats a i j)))
+Inv-loop rows cols a out₀ i₀ out i = (i ≤ rows) × (out ≡ table (nil floats) 6 6 i cols (λ i j. at marks a i j .value))
 
 abbrev μ-loop : tie.MeasureT-loop
 μ-loop rows cols a out₀ i₀ out i = rows - i
@@ -34,26 +33,23 @@ loop-holds c = (omega arith, table-none _ _ _ _ _ _ (c .zeros .ensures))
 loop2-holds : tie.Need-loop2-holds Inv-loop2 μ-loop2 Inv-loop μ-loop
 loop2-holds c = (omega arith, omega arith, filling-none (omega arith) (c .before .loop .inv .1))
 
-mul-given : tie.Need-mul-given Inv-loop2 μ-loop2 Inv-loop μ-loop
-mul-given c = omega arith
+mul-number : tie.Need-mul-number Inv-loop2 μ-loop2 Inv-loop μ-loop
+mul-number c = omega arith
 
-mul-given-2 : tie.Need-mul-given-2 Inv-loop2 μ-loop2 Inv-loop μ-loop
-mul-given-2 c = omega arith
+mul-number-2 : tie.Need-mul-number-2 Inv-loop2 μ-loop2 Inv-loop μ-loop
+mul-number-2 c = omega arith
 
-index-1-given : tie.Need-index-1-given Inv-loop2 μ-loop2 Inv-loop μ-loop
-index-1-given c = omega arith
+index-1-number : tie.Need-index-1-number Inv-loop2 μ-loop2 Inv-loop μ-loop
+index-1-number c = omega arith
 
-index-2-given : tie.Need-index-2-given Inv-loop2 μ-loop2 Inv-loop μ-loop
-index-2-given c = omega arith
+index-2-number : tie.Need-index-2-number Inv-loop2 μ-loop2 Inv-loop μ-loop
+index-2-number c = omega arith
 
-given-requires : tie.Need-given-requires Inv-loop2 μ-loop2 Inv-loop μ-loop
-given-requires c κs = search needs
+mul-out : tie.Need-mul-out Inv-loop2 μ-loop2 Inv-loop μ-loop
+mul-out c = omega arith
 
-mul-t19 : tie.Need-mul-t19 Inv-loop2 μ-loop2 Inv-loop μ-loop
-mul-t19 c = omega arith
-
-mul-t22 : tie.Need-mul-t22 Inv-loop2 μ-loop2 Inv-loop μ-loop
-mul-t22 c = omega arith
+mul-out-2 : tie.Need-mul-out-2 Inv-loop2 μ-loop2 Inv-loop μ-loop
+mul-out-2 c = omega arith
 
 index-1-out : tie.Need-index-1-out Inv-loop2 μ-loop2 Inv-loop μ-loop
 index-1-out c = omega arith
@@ -68,7 +64,7 @@ loop2-less : tie.Need-loop2-less Inv-loop2 μ-loop2 Inv-loop μ-loop
 loop2-less c = omega arith
 
 loop2-again : tie.Need-loop2-again Inv-loop2 μ-loop2 Inv-loop μ-loop
-loop2-again c = (omega arith, omega arith, filling-more (omega arith) (c .before .before .before .loop2 .inv .2) (c .given .ensures))
+loop2-again c = (omega arith, omega arith, filling-more (omega arith) (c .before .before .loop2 .inv .2) refl)
 
 add-i : tie.Need-add-i Inv-loop2 μ-loop2 Inv-loop μ-loop
 add-i c = omega arith
@@ -80,11 +76,11 @@ loop-again : tie.Need-loop-again Inv-loop2 μ-loop2 Inv-loop μ-loop
 loop-again c = (omega arith, filling-row (c .before .loop2 .inv .2) (c .before .loop2 .inv .1) (c .loop2-test .left))
 
 returns : tie.Need-returns Inv-loop2 μ-loop2 Inv-loop μ-loop
-unfolding givenCells
+unfolding values
 returns c = table-end _ _ _ _ _ _ _ _ (c .before .loop .inv .0) (c .loop-test .left) (c .before .loop .inv .1)
 
-pub given-cells-spec : {M : Type 1} → statement M
-given-cells-spec =
+pub values-spec : {M : Type 1} → statement M
+values-spec =
     tie.close
     (tie.spec
     Inv-loop2
@@ -94,13 +90,12 @@ given-cells-spec =
     zeros-requires
     loop-holds
     loop2-holds
-    mul-given
-    mul-given-2
-    index-1-given
-    index-2-given
-    given-requires
-    mul-t19
-    mul-t22
+    mul-number
+    mul-number-2
+    index-1-number
+    index-2-number
+    mul-out
+    mul-out-2
     index-1-out
     index-2-out
     add-j

@@ -1,4 +1,4 @@
--- `products_marked::all_marks` meets its contract.
+-- `marked_cells::all_marks` meets its contract.
 use Prim.Native.Nat.{_≤_, _<_, _-_}
 use mathlib.Core.Path.{_≡_}
 use Rattle.products.specs.Small.{allMarks}
@@ -7,8 +7,8 @@ use Rattle.algebra.proofs.FoldLaws.{fold-start, fold-next}
 use Rattle.products.proofs.LoopLaws.{markStep, rowsTo, rows-none, rows-more, rows-end}
 use borrow.Author.Needs.{needs}
 use native.Mathlib.Omega.{arith}
-use Rattle.products_marked.proofs.all_marks.Statement.{statement}
-use Rattle.products_marked.proofs.all_marks.Tie as tie
+use Rattle.marked_cells.proofs.all_marks.Statement.{statement}
+use Rattle.marked_cells.proofs.all_marks.Tie as tie
 
 abbrev Inv-loop2 : tie.InvT-loop2
 Inv-loop2 rows cols a all₀ i j₀ all j = (i < rows) × (j ≤ cols) × (all ≡ fold 0 j (markStep a i) all₀)
