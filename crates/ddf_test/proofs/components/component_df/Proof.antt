@@ -21,7 +21,7 @@ capped-requires c κs = search needs
 
 returns : tie.Need-returns
 unfolding componentDf
-returns c = cc
+returns c = rw (← (c .before .before .before .gradient-at .ensures), ← (c .before .variance-df .ensures)) (c .capped .ensures)
 
 pub component-df-spec : {M : Type 1} → statement M
 component-df-spec =

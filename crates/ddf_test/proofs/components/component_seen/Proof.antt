@@ -16,7 +16,7 @@ gradient-seen-requires : tie.Need-gradient-seen-requires
 gradient-seen-requires c κs = search needs
 
 returns : tie.Need-returns
-returns c = cc
+returns c = rw (← (c .before .before .gradient-at .ensures)) (c .gradient-seen .ensures)
 
 pub component-seen-spec : {M : Type 1} → statement M
 component-seen-spec =

@@ -12,7 +12,7 @@ product-requires c κs = search needs
 
 returns : tie.Need-returns
 unfolding projected
-returns c = cc
+returns c = rw (← (c .before .transpose .ensures)) (c .product .ensures)
 
 pub projected-spec : {M : Type 1} → statement M
 projected-spec = tie.close (tie.spec transpose-requires product-requires returns)

@@ -34,7 +34,7 @@ div-requires : tie.Need-div-requires
 div-requires c κs = search needs
 
 returns : tie.Need-returns
-returns c = cc
+returns c = rw (← (c .before .before .mul .ensures)) (c .div .ensures)
 
 pub square-over-spec : {M : Type 1} → statement M
 square-over-spec =

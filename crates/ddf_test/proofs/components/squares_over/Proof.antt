@@ -18,7 +18,7 @@ div-requires c κs = search needs
 
 returns : tie.Need-returns
 unfolding squaresOver
-returns c = cc
+returns c = rw (← (c .before .before .before .squares-sum .ensures), ← (c .before .before .of-count .ensures), ← (c .before .given .ensures)) (c .div .ensures)
 
 pub squares-over-spec : {M : Type 1} → statement M
 squares-over-spec =

@@ -44,7 +44,7 @@ loop-less : tie.Need-loop-less Inv-loop μ-loop
 loop-less c = omega arith
 
 loop-again : tie.Need-loop-again Inv-loop μ-loop
-loop-again c = (omega arith, sum-more marks _ _ _ _ (c .before .before .before .loop .inv .1) (cc))
+loop-again c = (omega arith, sum-more marks _ _ _ _ (c .before .before .before .loop .inv .1) (rw (← (c .before .square-over .ensures)) (c .add .ensures)))
 
 returns : tie.Need-returns Inv-loop μ-loop
 returns c = sum-end marks _ _ _ _ (c .before .loop .inv .0) (c .loop-test .left) (c .before .loop .inv .1)

@@ -24,7 +24,7 @@ cast-t13 c = search needs
 
 returns : tie.Need-returns
 unfolding oneEntryOf
-returns c = cc
+returns c = rw (← (c .before .before .before .before .square-one .ensures), ← (c .before .before .before .variance-df .ensures), ← (c .before .before .also .ensures), ← (c .before .gradient-seen .ensures), ← (c .number-of .ensures))
 
 pub one-row-spec : {M : Type 1} → statement M
 one-row-spec =

@@ -16,7 +16,7 @@ also-requires c κs = search needs
 
 returns : tie.Need-returns
 unfolding rotationsSeenOf ofBits
-returns c = cc
+returns c = rw (← (c .before .before .all-marks .ensures), ← (c .before .all-marks2 .ensures)) (c .also .ensures)
 
 pub rotations-seen-spec : {M : Type 1} → statement M
 rotations-seen-spec =

@@ -10,7 +10,7 @@ product-requires : tie.Need-product-requires
 product-requires c κs = search needs
 
 returns : tie.Need-returns
-returns c = cc
+returns c = rw (← (c .before .column .ensures)) (c .product .ensures)
 
 pub applied-spec : {M : Type 1} → statement M
 applied-spec = tie.close (tie.spec column-requires product-requires returns)

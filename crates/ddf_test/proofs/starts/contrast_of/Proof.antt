@@ -15,7 +15,7 @@ minus-cells-requires c κs = search needs
 
 returns : tie.Need-returns
 unfolding contrastOf
-returns c = cc
+returns c = rw (← (c .before .before .applied .ensures), ← (c .before .applied2 .ensures)) (c .minus-cells .ensures)
 
 pub contrast-of-spec : {M : Type 1} → statement M
 contrast-of-spec =

@@ -19,7 +19,7 @@ stack-seen-requires c κs = search needs
 
 returns : tie.Need-returns
 unfolding startSeenOf ofBits
-returns c = cc
+returns c = rw (← (c .before .before .before .given .ensures), ← (c .before .before .all-marks .ensures), ← (c .before .all-marks2 .ensures)) (c .stack-seen .ensures)
 
 pub start-seen-spec : {M : Type 1} → statement M
 start-seen-spec =

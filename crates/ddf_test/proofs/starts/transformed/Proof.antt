@@ -12,7 +12,7 @@ sandwich-requires c κs = search needs
 
 returns : tie.Need-returns
 unfolding transformed
-returns c = cc
+returns c = rw (← (c .before .given-cells .ensures)) (c .sandwich .ensures)
 
 pub transformed-spec : {M : Type 1} → statement M
 transformed-spec = tie.close (tie.spec given-cells-requires sandwich-requires returns)
