@@ -42,9 +42,16 @@ sets-three l i xs ys zs h k =
     rw (e, ← h, sets-append (sets l i xs) (i + length xs) ys zs, sets-append)
 
 -- the three stores of an entry
-pub sets-entry : (l : List ℕ) (i : ℕ) (e : Entry) → sets (sets (sets l i (bytesOf 8 (bitsOf (e .f)))) (i + 8) (bytesOf 8 (bitsOf (e .df)))) (i + 16) (tail e) ≡ sets l i (entryBytes e)
+sets-entry : (l : List ℕ) (i : ℕ) (e : Entry) → sets (sets (sets l i (bytesOf 8 (bitsOf (e .f)))) (i + 8) (bytesOf 8 (bitsOf (e .df)))) (i + 16) (tail e) ≡ sets l i (entryBytes e)
 unfolding entryBytes
 sets-entry l i e = sets-three l i (bytesOf 8 (bitsOf (e .f))) (bytesOf 8 (bitsOf (e .df))) (tail e) (length-bytes (bitsOf (e .f))) (length-bytes (bitsOf (e .df)))
+
+-- an entry stored: its two numbers' bits, then its tail, each made on the way
+pub entry-stored : (l a b r : List ℕ) (i : ℕ) (e : Entry) (f df givenF givenDf inside : ℕ)
+    → f ≡ bitsOf (e .f) → a ≡ sets l i (bytesOf 8 f) → df ≡ bitsOf (e .df) → b ≡ sets a (i + 8) (bytesOf 8 df)
+    → givenF ≡ flag (isGiven (e .f)) → givenDf ≡ flag (isGiven (e .df)) → inside ≡ flag (e .inside)
+    → r ≡ sets b (i + 16) (e .rank ∷ givenF ∷ givenDf ∷ inside ∷ 0 ∷ 0 ∷ 0 ∷ 0 ∷ []) → r ≡ sets l i (entryBytes e)
+entry-stored l a b r i e f df givenF givenDf inside e1 e2 e3 e4 e5 e6 e7 e8 = rw (← sets-entry l i e, ← e1, ← e2, ← e3, ← e4, ← e5, ← e6, ← e7) e8
 
 pub answer-append : (xs ys : List Entry) → answerBytes (xs ++ ys) ≡ answerBytes xs ++ answerBytes ys
 unfolding answerBytes

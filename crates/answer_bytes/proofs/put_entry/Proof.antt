@@ -1,7 +1,6 @@
 -- `answer_bytes::put_entry` meets its contract: three stores of eight bytes are the entry's 24.
 use borrow.Author.Needs.{needs}
-use denote.Ref.{now}
-use Rattle.answer_bytes.proofs.LayoutLaws.{sets-entry}
+use Rattle.answer_bytes.proofs.LayoutLaws.{entry-stored}
 use Rattle.answer_bytes.proofs.put_entry.Statement.{statement}
 use Rattle.answer_bytes.proofs.put_entry.Tie as tie
 
@@ -40,8 +39,15 @@ same-length c = search needs
 
 returns : tie.Need-returns
 returns c =
-    let g = c .before .before .before .before .before .before .before .before .before .before .before .before .before .before .before .before .before .before .args in
-    cc (sets-entry (now (g .a)) (g .at) (g .e))
+    let last = c .before .before in
+    let inside = last .before in
+    let given-df = inside .before in
+    let given-f = given-df .before in
+    let df = given-f .before .before .before .before in
+    let f = df .before .before .before .before .before in
+    let g = f .before .before .before .before .args in
+    entry-stored _ _ _ _ (g .at) (g .e) _ _ _ _ _ (f .before .bits-of .ensures) (f .put-long .ensures) (df .before .bits-of2 .ensures) (df .put-long2 .ensures)
+    (given-f .given-of .ensures) (given-df .given-of2 .ensures) (inside .flag-of .ensures) (last .put8 .ensures)
 
 pub put-entry-spec : {M : Type 1} → statement M
 put-entry-spec =
