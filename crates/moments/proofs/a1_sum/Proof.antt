@@ -46,7 +46,7 @@ loop2-less : tie.Need-loop2-less Inv-loop2 μ-loop2 Inv-loop μ-loop
 loop2-less c = omega arith
 
 loop2-again : tie.Need-loop2-again Inv-loop2 μ-loop2 Inv-loop μ-loop
-loop2-again c = (omega arith, omega arith, omega arith, fold-next _ _ _ _ _ _ (omega arith) (c .before .before .loop2 .inv .3) (cc))
+loop2-again c = (omega arith, omega arith, omega arith, fold-next _ _ _ _ _ _ (omega arith) (c .before .before .loop2 .inv .3) (rw (c .a1-term .ensures)))
 
 add-i : tie.Need-add-i Inv-loop2 μ-loop2 Inv-loop μ-loop
 add-i c = omega arith

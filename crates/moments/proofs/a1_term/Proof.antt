@@ -19,7 +19,7 @@ element-copy-out-result-2 : tie.Need-element-copy-out-result-2
 element-copy-out-result-2 c = search needs
 
 returns : tie.Need-returns
-returns c = cc
+returns c = rw (c .before .before .weight .ensures)
 
 pub a1-term-spec : {M : Type 1} → statement M
 a1-term-spec =

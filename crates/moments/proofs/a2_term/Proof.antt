@@ -22,7 +22,7 @@ sum-ui-t-uj-requires : tie.Need-sum-ui-t-uj-requires
 sum-ui-t-uj-requires c κs = search needs
 
 returns : tie.Need-returns
-returns c = cc
+returns c = rw (c .before .before .before .weight .ensures, c .sum-ui-t-uj .ensures)
 
 pub a2-term-spec : {M : Type 1} → statement M
 a2-term-spec =

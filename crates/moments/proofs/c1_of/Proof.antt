@@ -17,7 +17,7 @@ g-of-requires c κs = search needs
 returns : tie.Need-returns
 unfolding c1Of ofBits
 returns c =
-    rw (← (c .before .before .before .before .d-of .ensures), ← (c .before .before .before .magnitude .ensures), c .before .if1 .taken) (cc)
+    rw (← (c .before .before .before .before .d-of .ensures), ← (c .before .before .before .magnitude .ensures), c .before .if1 .taken, ← (c .g-of .ensures))
 
 returns-2 : tie.Need-returns-2
 unfolding c1Of ofBits

@@ -15,7 +15,7 @@ d-of-requires c κs = search needs
 
 returns : tie.Need-returns
 unfolding c2Of
-returns c = cc
+returns c = rw (← (c .before .before .of-count .ensures), ← (c .before .g-of .ensures), ← (c .d-of .ensures))
 
 pub c2-of-spec : {M : Type 1} → statement M
 c2-of-spec = tie.close (tie.spec of-count-requires g-of-requires d-of-requires returns)

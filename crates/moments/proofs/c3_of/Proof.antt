@@ -16,7 +16,7 @@ d-of-requires c κs = search needs
 
 returns : tie.Need-returns
 unfolding c3Of ofBits
-returns c = cc
+returns c = rw (← (c .before .before .of-count .ensures), ← (c .before .g-of .ensures), ← (c .d-of .ensures))
 
 pub c3-of-spec : {M : Type 1} → statement M
 c3-of-spec = tie.close (tie.spec of-count-requires g-of-requires d-of-requires returns)

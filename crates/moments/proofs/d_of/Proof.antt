@@ -13,7 +13,7 @@ g-of-requires c κs = search needs
 
 returns : tie.Need-returns
 unfolding dOf ofBits
-returns c = cc
+returns c = rw (← (c .before .of-count .ensures), ← (c .g-of .ensures))
 
 pub d-of-spec : {M : Type 1} → statement M
 d-of-spec = tie.close (tie.spec of-count-requires g-of-requires returns)

@@ -12,7 +12,7 @@ rho-of-requires c κs = search needs
 
 returns : tie.Need-returns
 unfolding ofBits
-returns c = cc
+returns c = rw (← (c .before .of-count .ensures), ← (c .rho-of .ensures))
 
 pub excess-of-spec : {M : Type 1} → statement M
 excess-of-spec = tie.close (tie.spec of-count-requires rho-of-requires returns)

@@ -12,7 +12,7 @@ number-of-requires c κs = search needs
 
 returns : tie.Need-returns
 unfolding fOf
-returns c = cc
+returns c = rw (← (c .before .of-count .ensures)) (c .number-of .ensures)
 
 pub f-of-numbers-spec : {M : Type 1} → statement M
 f-of-numbers-spec = tie.close (tie.spec of-count-requires number-of-requires returns)

@@ -28,7 +28,7 @@ of-count-requires-3 c κs = search needs
 
 returns : tie.Need-returns
 unfolding gOf ofBits
-returns c = rw (← (c .before .before .before .before .before .magnitude .ensures), c .before .before .before .if1 .taken) (cc)
+returns c = rw (← (c .before .before .before .before .before .magnitude .ensures), c .before .before .before .if1 .taken, ← (c .before .before .of-count .ensures), ← (c .before .of-count2 .ensures), ← (c .of-count3 .ensures))
 
 returns-2 : tie.Need-returns-2
 unfolding gOf ofBits

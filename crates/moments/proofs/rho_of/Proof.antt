@@ -15,7 +15,7 @@ rho-from-requires c κs = search needs
 
 returns : tie.Need-returns
 unfolding rhoOf
-returns c = cc
+returns c = rw (← (c .before .before .rho-root .ensures), ← (c .before .rho-factor .ensures)) (c .rho-from .ensures)
 
 pub rho-of-spec : {M : Type 1} → statement M
 rho-of-spec = tie.close (tie.spec rho-root-requires rho-factor-requires rho-from-requires returns)
