@@ -10,7 +10,7 @@ is-finite-requires c κs = search needs
 
 returns : tie.Need-returns
 unfolding rankOne ofBits
-returns c = λ k a1. cc
+returns c = λ k a1. rw (c .is-finite .ensures)
 
 pub rank-one-spec : {M : Type 1} → statement M
 rank-one-spec = tie.close (tie.spec is-finite-requires returns)

@@ -41,7 +41,7 @@ loop-again : tie.Need-loop-again Inv-loop μ-loop
 unfolding largest
 loop-again c =
     let v = c .before .before .before .loop .inv in
-    (omega arith, fold-next _ _ _ _ _ _ (omega arith) (v .1) (cc))
+    (omega arith, fold-next _ _ _ _ _ _ (omega arith) (v .1) (rw (← (c .before .magnitude .ensures)) (c .larger .ensures)))
 
 returns : tie.Need-returns Inv-loop μ-loop
 unfolding largest

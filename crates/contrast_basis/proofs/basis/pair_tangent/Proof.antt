@@ -16,7 +16,10 @@ tangent-requires : tie.Need-tangent-requires
 tangent-requires c κs = search needs
 
 returns : tie.Need-returns
-returns c = cc
+returns c =
+    let xx = c .before .before .before .row-dot .ensures in
+    let yy = c .before .before .row-dot2 .ensures in
+    rw (← xx, ← yy, ← (c .before .ratio .ensures)) (c .tangent .ensures)
 
 pub pair-tangent-spec : {M : Type 1} → statement M
 pair-tangent-spec =
