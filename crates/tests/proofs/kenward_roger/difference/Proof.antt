@@ -69,7 +69,7 @@ loop-less : tie.Need-loop-less Inv-loop μ-loop
 loop-less c = omega arith
 
 loop-again : tie.Need-loop-again Inv-loop μ-loop
-loop-again c = (omega arith, filling-row (filling-more (omega arith) (filling-none (omega arith) (c .before .before .before .before .loop .inv .1)) (cc)) (omega arith) (omega arith))
+loop-again c = (omega arith, filling-row (filling-more (omega arith) (filling-none (omega arith) (c .before .before .before .before .loop .inv .1)) (rw (← (c .before .before .given .ensures), ← (c .before .given2 .ensures)) (c .sub .ensures))) (omega arith) (omega arith))
 
 returns : tie.Need-returns Inv-loop μ-loop
 unfolding difference

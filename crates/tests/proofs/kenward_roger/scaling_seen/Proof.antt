@@ -15,7 +15,7 @@ u-seen-requires c κs = search needs
 
 returns : tie.Need-returns
 unfolding scalingSeen uSeen
-returns c = λ w. cc
+returns c = λ w. rw (← (c .before .before .all-marks .ensures), ← (c .before .all-marks2 .ensures)) (c .u-seen .ensures)
 
 pub scaling-seen-spec : {M : Type 1} → statement M
 scaling-seen-spec =

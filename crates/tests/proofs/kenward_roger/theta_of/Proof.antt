@@ -12,7 +12,7 @@ product-requires c κs = search needs
 
 returns : tie.Need-returns
 unfolding thetaOf
-returns c = cc
+returns c = rw (← (c .before .transpose .ensures)) (c .product .ensures)
 
 pub theta-of-spec : {M : Type 1} → statement M
 theta-of-spec = tie.close (tie.spec transpose-requires product-requires returns)

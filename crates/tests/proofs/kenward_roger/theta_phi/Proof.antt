@@ -10,7 +10,7 @@ product-requires : tie.Need-product-requires
 product-requires c κs = search needs
 
 returns : tie.Need-returns
-returns c = cc
+returns c = rw (← (c .before .theta-of .ensures)) (c .product .ensures)
 
 pub theta-phi-spec : {M : Type 1} → statement M
 theta-phi-spec = tie.close (tie.spec theta-of-requires product-requires returns)

@@ -16,7 +16,11 @@ all-marks-requires-4 : tie.Need-all-marks-requires-4
 all-marks-requires-4 c κs = search needs
 
 returns : tie.Need-returns
-returns c = cc
+returns c =
+    let s1 = c .before .before .before .all-marks .ensures in
+    let s2 = c .before .before .all-marks2 .ensures in
+    let s3 = c .before .all-marks3 .ensures in
+    rw (← s1, ← s2, ← s3) (c .all-marks4 .ensures)
 
 pub theta-seen-spec : {M : Type 1} → statement M
 theta-seen-spec =

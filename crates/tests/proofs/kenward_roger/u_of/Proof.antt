@@ -12,7 +12,7 @@ product-requires-2 c κs = search needs
 
 returns : tie.Need-returns
 unfolding uOf
-returns c = cc
+returns c = rw (← (c .before .product .ensures)) (c .product2 .ensures)
 
 pub u-of-spec : {M : Type 1} → statement M
 u-of-spec = tie.close (tie.spec product-requires product-requires-2 returns)

@@ -15,7 +15,7 @@ mul-requires c κs = search needs
 
 returns : tie.Need-returns
 unfolding waldOne
-returns c = cc
+returns c = rw (← (c .before .before .square-root .ensures), ← (c .before .div .ensures)) (c .mul .ensures)
 
 pub wald-one-spec : {M : Type 1} → statement M
 wald-one-spec = tie.close (tie.spec square-root-requires div-requires mul-requires returns)

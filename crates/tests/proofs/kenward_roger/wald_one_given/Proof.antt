@@ -10,7 +10,7 @@ is-finite-requires c κs = search needs
 
 returns : tie.Need-returns
 unfolding waldOneGiven ofBits
-returns c = cc
+returns c = rw (c .before .is-finite .ensures)
 
 pub wald-one-given-spec : {M : Type 1} → statement M
 wald-one-given-spec = tie.close (tie.spec is-finite-requires returns)

@@ -16,7 +16,10 @@ also-requires c κs = search needs
 
 returns : tie.Need-returns
 unfolding waldSeen
-returns c = rw (eq-eqb _ _ (c .before .if1 .taken)) (cc)
+returns c =
+    let s1 = c .before .before .before .all-marks .ensures in
+    let s2 = c .before .before .all-marks2 .ensures in
+    rw (eq-eqb _ _ (c .before .if1 .taken), ← s1, ← s2) (c .also .ensures)
 
 all-marks-requires-3 : tie.Need-all-marks-requires-3
 all-marks-requires-3 c κs = search needs
@@ -26,7 +29,10 @@ also-requires-2 c κs = search needs
 
 returns-2 : tie.Need-returns-2
 unfolding waldSeen
-returns-2 c = rw (ne-eqb _ _ (c .before .before .if1 .left)) (cc)
+returns-2 c =
+    let s1 = c .before .before .before .before .all-marks .ensures in
+    let s2 = c .before .before .before .all-marks2 .ensures in
+    rw (ne-eqb _ _ (c .before .before .if1 .left), ← s1, ← s2, ← (c .before .all-marks3 .ensures)) (c .also2 .ensures)
 
 pub wald-seen-spec : {M : Type 1} → statement M
 wald-seen-spec =
