@@ -9,7 +9,7 @@ step-mark-requires c κs = search needs
 
 returns : tie.Need-returns
 unfolding markedAdd
-returns c = cc
+returns c = rw (c .step-mark .ensures)
 
 pub add-spec : {M : Type 1} → statement M
 add-spec = tie.close (tie.spec step-mark-requires returns)

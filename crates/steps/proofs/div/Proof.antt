@@ -12,7 +12,7 @@ lost-quotient-requires c κs = search needs
 
 returns : tie.Need-returns
 unfolding markedDiv
-returns c = cc
+returns c = rw (c .lost-quotient .ensures, c .before .step-mark .ensures)
 
 pub div-spec : {M : Type 1} → statement M
 div-spec = tie.close (tie.spec step-mark-requires lost-quotient-requires returns)

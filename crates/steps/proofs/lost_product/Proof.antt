@@ -15,7 +15,7 @@ is-zero-requires-3 c κs = search needs
 
 returns : tie.Need-returns
 unfolding lostProduct
-returns c = cc
+returns c = rw (c .is-zero3 .ensures, c .before .is-zero2 .ensures, c .before .before .is-zero .ensures)
 
 pub lost-product-spec : {M : Type 1} → statement M
 lost-product-spec =

@@ -12,7 +12,7 @@ is-zero-requires-2 c κs = search needs
 
 returns : tie.Need-returns
 unfolding lostQuotient
-returns c = cc
+returns c = rw (c .is-zero2 .ensures, c .before .is-zero .ensures)
 
 pub lost-quotient-spec : {M : Type 1} → statement M
 lost-quotient-spec = tie.close (tie.spec is-zero-requires is-zero-requires-2 returns)

@@ -12,7 +12,7 @@ lost-product-requires c κs = search needs
 
 returns : tie.Need-returns
 unfolding markedMul
-returns c = cc
+returns c = rw (c .lost-product .ensures, c .before .step-mark .ensures)
 
 pub mul-spec : {M : Type 1} → statement M
 mul-spec = tie.close (tie.spec step-mark-requires lost-product-requires returns)

@@ -1,11 +1,12 @@
 -- `steps::negated` meets its contract.
+use mathlib.Core.Path.{refl}
 use Rattle.arithmetic.specs.Marks.{markedNeg}
 use Rattle.steps.proofs.negated.Statement.{statement}
 use Rattle.steps.proofs.negated.Tie as tie
 
 returns : tie.Need-returns
 unfolding markedNeg
-returns c = cc
+returns c = refl
 
 pub negated-spec : {M : Type 1} → statement M
 negated-spec = tie.close (tie.spec returns)

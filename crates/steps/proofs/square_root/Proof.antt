@@ -15,7 +15,7 @@ in-range-requires-2 c κs = search needs
 
 returns : tie.Need-returns
 unfolding markedRoot
-returns c = cc
+returns c = rw (c .in-range2 .ensures, c .before .before .in-range .ensures, c .before .before .before .sqrt .ensures)
 
 pub square-root-spec : {M : Type 1} → statement M
 square-root-spec = tie.close (tie.spec sqrt-requires in-range-requires in-range-requires-2 returns)

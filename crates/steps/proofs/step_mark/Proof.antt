@@ -15,7 +15,7 @@ in-range-requires-3 c κs = search needs
 
 returns : tie.Need-returns
 unfolding stepMark
-returns c = cc
+returns c = rw (c .in-range3 .ensures, c .before .in-range2 .ensures, c .before .before .in-range .ensures)
 
 pub step-mark-spec : {M : Type 1} → statement M
 step-mark-spec =

@@ -9,7 +9,7 @@ step-mark-requires c κs = search needs
 
 returns : tie.Need-returns
 unfolding markedSub
-returns c = cc
+returns c = rw (c .step-mark .ensures)
 
 pub sub-spec : {M : Type 1} → statement M
 sub-spec = tie.close (tie.spec step-mark-requires returns)

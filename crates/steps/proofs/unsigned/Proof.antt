@@ -9,7 +9,7 @@ magnitude-requires c κs = search needs
 
 returns : tie.Need-returns
 unfolding markedMagnitude
-returns c = cc
+returns c = rw (c .magnitude .ensures)
 
 pub unsigned-spec : {M : Type 1} → statement M
 unsigned-spec = tie.close (tie.spec magnitude-requires returns)
