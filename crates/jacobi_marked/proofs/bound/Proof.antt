@@ -39,7 +39,7 @@ mul-requires-2 c κs = search needs
 
 returns : tie.Need-returns
 unfolding bound
-returns c = cc
+returns c = rw (c .mul2 .ensures, c .before .mul .ensures, c .before .before .before .before .given .ensures)
 
 pub bound-spec : {M : Type 1} → statement M
 bound-spec =

@@ -25,7 +25,9 @@ div-requires c κs = search needs
 
 returns : tie.Need-returns
 unfolding cosine ofBits
-returns c = cc
+returns c =
+    let d = c .before .before .before in
+    rw (c .div .ensures, c .before .square-root .ensures, c .before .before .add .ensures, d .given2 .ensures, d .before .mul .ensures, d .before .before .given .ensures)
 
 pub cosine-spec : {M : Type 1} → statement M
 cosine-spec =

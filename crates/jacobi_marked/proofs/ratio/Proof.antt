@@ -19,7 +19,7 @@ div-requires c κs = search needs
 
 returns : tie.Need-returns
 unfolding ratio ofBits
-returns c = cc
+returns c = rw (c .div .ensures, c .before .mul .ensures, c .before .before .given .ensures, c .before .before .before .sub .ensures)
 
 pub ratio-spec : {M : Type 1} → statement M
 ratio-spec = tie.close (tie.spec sub-requires given-requires mul-requires div-requires returns)

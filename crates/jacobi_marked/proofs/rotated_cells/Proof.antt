@@ -102,7 +102,9 @@ loop-again c =
     (omega arith, filling-row (v .2) (v .1) (c .loop2-test .left))
 
 returns : tie.Need-returns Inv-loop2 μ-loop2 Inv-loop μ-loop
-returns c = cc (le-antisymm (c .before .loop .inv .0) (c .loop-test .left))
+returns c =
+    let v = c .before .loop .inv in
+    rw (le-antisymm (v .0) (c .loop-test .left)) at (v .1)
 
 pub rotated-cells-spec : {M : Type 1} → statement M
 rotated-cells-spec =

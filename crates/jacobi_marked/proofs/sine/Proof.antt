@@ -9,7 +9,7 @@ mul-requires c κs = search needs
 
 returns : tie.Need-returns
 unfolding sine
-returns c = cc
+returns c = c .mul .ensures
 
 pub sine-spec : {M : Type 1} → statement M
 sine-spec = tie.close (tie.spec mul-requires returns)

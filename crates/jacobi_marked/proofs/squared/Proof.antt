@@ -33,7 +33,7 @@ mul-requires c κs = search needs
 
 returns : tie.Need-returns
 unfolding squared
-returns c = cc
+returns c = c .mul .ensures
 
 pub squared-spec : {M : Type 1} → statement M
 squared-spec =

@@ -34,7 +34,9 @@ div-requires c κs = search needs
 
 returns : tie.Need-returns
 unfolding tangent ofBits
-returns c = cc
+returns c =
+    let d = c .before .before .before .before in
+    rw (c .div .ensures, c .before .add2 .ensures, c .before .before .unsigned .ensures, c .before .before .before .given2 .ensures, d .sign .ensures, d .before .square-root .ensures, d .before .before .add .ensures, d .before .before .before .given .ensures, d .before .before .before .before .mul .ensures)
 
 pub tangent-spec : {M : Type 1} → statement M
 tangent-spec =

@@ -46,7 +46,7 @@ tangent-requires : tie.Need-tangent-requires
 tangent-requires c κs = search needs
 
 returns : tie.Need-returns
-returns c = cc
+returns c = rw (c .tangent .ensures, c .before .ratio .ensures)
 
 pub tangent-at-spec : {M : Type 1} → statement M
 tangent-at-spec =

@@ -15,7 +15,7 @@ sub-requires c κs = search needs
 
 returns : tie.Need-returns
 unfolding turnedFirst
-returns c = cc
+returns c = rw (c .sub .ensures, c .before .mul2 .ensures, c .before .before .mul .ensures)
 
 pub turned-first-spec : {M : Type 1} → statement M
 turned-first-spec = tie.close (tie.spec mul-requires mul-requires-2 sub-requires returns)

@@ -15,7 +15,7 @@ add-requires c κs = search needs
 
 returns : tie.Need-returns
 unfolding turnedSecond
-returns c = cc
+returns c = rw (c .add .ensures, c .before .mul2 .ensures, c .before .before .mul .ensures)
 
 pub turned-second-spec : {M : Type 1} → statement M
 turned-second-spec = tie.close (tie.spec mul-requires mul-requires-2 add-requires returns)
