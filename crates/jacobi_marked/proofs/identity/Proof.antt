@@ -68,7 +68,9 @@ loop-again c =
 
 returns : tie.Need-returns Inv-loop2 μ-loop2 Inv-loop μ-loop
 unfolding identity
-returns c = cc (le-antisymm (c .before .loop .inv .0) (c .loop-test .left))
+returns c =
+    let v = c .before .loop .inv in
+    rw (le-antisymm (v .0) (c .loop-test .left)) at (v .1)
 
 pub identity-spec : {M : Type 1} → statement M
 identity-spec =

@@ -1,6 +1,14 @@
 -- `jacobi_marked::rotated` meets its contract.
-use Rattle.algebra.specs.Jacobi.{rotated, rotatedCell}
-use Rattle.tested_rotation.specs.Parts.{chosenCell}
+use Prim.Native.Nat.{ℕ}
+use mathlib.Core.Path.{_≡_}
+use mathlib.Core.List.{List}
+use Rattle.arithmetic.specs.declared.Marked.{Marked}
+use Rattle.arithmetic.specs.Marks.{markedAdd, markedSub, markedMul}
+use Rattle.algebra.specs.Kind.{marks, nil}
+use Rattle.algebra.specs.Table.{table}
+use Rattle.algebra.specs.Product.{at}
+use Rattle.algebra.specs.Jacobi.{turnColumns, rotated, rotatedCell}
+use Rattle.tested_rotation.specs.Parts.{chosenCell, mirroringCell}
 use borrow.Author.Needs.{needs}
 use Rattle.jacobi_marked.proofs.rotated.Statement.{statement}
 use Rattle.jacobi_marked.proofs.rotated.Tie as tie
@@ -56,9 +64,17 @@ add-requires c κs = search needs
 rotated-cells-requires : tie.Need-rotated-cells-requires
 rotated-cells-requires c κs = search needs
 
-returns : tie.Need-returns
+-- the parts of a rotation put together
+rotated-is : (n p q : ℕ) (t c s : Marked) (m w r : List (List Marked)) (moved first second : Marked) → w ≡ turnColumns marks n p q c s m
+    → moved ≡ markedMul t (at marks m p q) → first ≡ markedSub (at marks m p p) moved → second ≡ markedAdd (at marks m q q) moved
+    → r ≡ table (nil marks) 6 6 n n (mirroringCell marks p q first second w) → r ≡ rotated marks 6 6 n p q t c s m
 unfolding rotated rotatedCell chosenCell
-returns c = rw (c .rotated-cells .ensures, c .before .add .ensures, c .before .before .before .sub .ensures, c .before .before .before .before .before .mul .ensures, c .before .before .before .before .before .before .before .turn-columns .ensures)
+rotated-is n p q t c s m w r moved first second ew em ef es er = rw (er, ef, es, em, ew)
+
+returns : tie.Need-returns
+returns c =
+    let d = c .before .before .before in
+    rotated-is _ _ _ _ _ _ _ _ _ _ _ _ (d .before .before .before .before .turn-columns .ensures) (d .before .before .mul .ensures) (d .sub .ensures) (c .before .add .ensures) (c .rotated-cells .ensures)
 
 pub rotated-spec : {M : Type 1} → statement M
 rotated-spec =
