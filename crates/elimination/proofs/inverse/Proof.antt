@@ -10,7 +10,10 @@ solve-requires : tie.Need-solve-requires
 solve-requires c κs = search needs
 
 returns : tie.Need-returns
-returns c = (cc, cc)
+returns c =
+    let start = c .before .before .identity .ensures in
+    let solved = c .solve .ensures in
+    (rw start at (solved .0), rw start at (solved .1))
 
 pub inverse-spec : {M : Type 1} → statement M
 inverse-spec = tie.close (tie.spec identity-requires solve-requires returns)
