@@ -1,8 +1,9 @@
--- The laws that lead to the third demand, a file for each file of definitions.
-pub mod MovingScaling
-pub mod MovingBasis
-pub mod MovingTest
-pub mod MovingRun
-pub mod MovingSeries
-pub mod Example
-pub mod MovingInput
+-- The third demand: the two theorems, and the laws that lead to them from those of the converted file and of the two tests.
+pub mod SeriesCall
+pub mod Operands
+pub mod Parameters
+pub mod ParametersCall
+pub mod Theorems
+pub mod PullExample
+pub mod ParameterExample
+pub mod Lot

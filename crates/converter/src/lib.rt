@@ -1,1 +1,1 @@
-// The change of converter: exact scaling of the inputs by powers of two leaves rank, F and degrees of freedom the same. Definitions and theorems alone, no code.
+// Document 01's third demand, whole: the verdicts of a record file survive a change of converter. Definitions and theorems alone, no code.

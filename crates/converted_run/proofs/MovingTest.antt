@@ -31,10 +31,10 @@ use Rattle.answers.specs.declared.Number.the-variants.{None}
 use Rattle.answers.specs.Answer.{numberOf}
 use Rattle.contrast_basis.specs.Basis.{Rows, Basis}
 use Rattle.tests.specs.KenwardRoger.{MarkedRows, Scaled, Tested, scalingSeen, difference, thetaOf, uOf, uStack, uValues, uSeen, waldOne, waldOneGiven, waldMany, scaledOf, basisOf, aRows, xRows, thetaPhi, us, ldRows, vRows, yRows, waldMarked, waldNumber, testSeen, a1, a2, tested}
-use Rattle.converter.specs.Verdict.{verdict}
-use Rattle.converter.specs.Converted.{WrittenCells}
+use Rattle.converted_run.specs.Verdict.{verdict}
+use Rattle.converted_run.specs.Converted.{WrittenCells}
 use Rattle.products.proofs.MovingSmall.{tied-still, tied-nil, cells-by, allMarks-first, allMarks-cells, stack-first, stack-cells, given-cells, sandwich-moves, values-agree}
-use Rattle.converter.proofs.MovingScaling.{abs-neg, finite-agrees}
+use Rattle.converted_run.proofs.MovingScaling.{abs-neg, finite-agrees}
 
 -- ---- shifts
 back-by-one : (k : ℤ) → k -ℤ (k +ℤ k) ≡ negℤ k

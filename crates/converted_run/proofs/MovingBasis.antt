@@ -33,7 +33,7 @@ use Rattle.products.specs.Small.{values, allMarks}
 use Rattle.falling_order.specs.Order.{indexAt}
 use Rattle.contrast_basis.specs.Basis.{Rows, Basis, largest, dividedCell, divided, sweepsTo, norms, singular, rankOf, basisRows, contrastBasis}
 use Rattle.contrast_basis.proofs.Rank.{rank-most}
-use Rattle.converter.specs.Converted.{WrittenCells}
+use Rattle.converted_run.specs.Converted.{WrittenCells}
 use Rattle.products.proofs.MovingSmall.{tied-still, tied-nil, allMarks-cells, values-agree}
 
 -- ---- the largest magnitude

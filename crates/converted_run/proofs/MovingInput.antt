@@ -24,12 +24,12 @@ use Rattle.adjustment.specs.declared.Cutoffs.{Cutoffs}
 use Rattle.adjustment.specs.Adjusted.{Adjustment, scaledUp}
 use Rattle.contrast_basis.specs.Basis.{Rows, Basis, dividedCell, divided, contrastBasis}
 use Rattle.tests.specs.KenwardRoger.{Scaled, scaledBy, difference, unitRow, coefficientTest, contrastTest}
-use Rattle.converter.specs.Verdict.{Inside}
-use Rattle.converter.specs.Converted.{Input, runOn, Converted, Multiplied, Sizes, WrittenCells, Written}
+use Rattle.converted_run.specs.Verdict.{Inside}
+use Rattle.converted_run.specs.Converted.{Input, runOn, Converted, Multiplied, Sizes, WrittenCells, Written}
 use Rattle.products.proofs.MovingSmall.{allMarks-cells}
-use Rattle.converter.proofs.MovingBasis.{basis-seen, divided-fits}
-use Rattle.converter.proofs.MovingTest.{TestBears, test-bears}
-use Rattle.converter.proofs.MovingRun.{inside-seen, coefficient-inside, contrast-inside, double-small}
+use Rattle.converted_run.proofs.MovingBasis.{basis-seen, divided-fits}
+use Rattle.converted_run.proofs.MovingTest.{TestBears, test-bears}
+use Rattle.converted_run.proofs.MovingRun.{inside-seen, coefficient-inside, contrast-inside, double-small}
 
 zero-fits : T (fits binary64 plusZero)
 unfolding fits

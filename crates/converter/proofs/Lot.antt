@@ -7,7 +7,7 @@ use Rattle.tests.specs.KenwardRoger.{Run}
 use Rattle.tests.proofs.Bench as series
 use Rattle.ddf.proofs.Bench as parameters
 use Rattle.kenward_roger.specs.Call.{number, entries}
-use Rattle.demand.proofs.PullExample.{pullFile, pullRun, pull-accepted, pull-entries}
+use Rattle.converter.proofs.PullExample.{pullFile, pullRun, pull-accepted, pull-entries}
 
 pub record Lot : Type 0 where
   -- (a), (b), (h), (k), and the tests of the `pulltest` example

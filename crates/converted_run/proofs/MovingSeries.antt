@@ -19,9 +19,9 @@ use Rattle.adjustment.specs.Covariance.{Design, matrices, sigmaRows, cholesky, 
 use Rattle.adjustment.specs.Information.{oRows, pRows}
 use Rattle.adjustment.specs.Adjusted.{Stack, matrixAt, stack, phiARows, pStack, fromPrecision, precisionOf, informationRefused, adjustment, adjustmentNumber}
 use Rattle.contrast_basis.specs.Basis.{Rows}
-use Rattle.converter.specs.Verdict.{Inside}
-use Rattle.converter.specs.Converted.{Input, runOn, Converted, Sizes, WrittenCells, Written, WrittenUnits, SeriesSurvives}
-use Rattle.converter.proofs.MovingRun.{run-survives, finite-survives}
+use Rattle.converted_run.specs.Verdict.{Inside}
+use Rattle.converted_run.specs.Converted.{Input, runOn, Converted, Sizes, WrittenCells, Written, WrittenUnits, SeriesSurvives}
+use Rattle.converted_run.proofs.MovingRun.{run-survives, finite-survives}
 
 -- ---- what the adjustment gives are f64 numbers: sums and products
 phiA-written : (p : ℕ) (phi u : Rows) → p ≤ 6 → WrittenCells p p (phiARows p phi u)

@@ -31,12 +31,12 @@ use Rattle.contrast_basis.specs.Basis.{Rows, Basis, contrastBasis}
 use Rattle.contrast_basis.proofs.Rank.{rank-most}
 use Rattle.answers.specs.Answer.{noEntry}
 use Rattle.tests.specs.KenwardRoger.{Scaled, Tested, Run, scaledPs, scaledBy, basisOf, testSeen, tested, unitRow, coefficientTest, contrastTest, withTest, coefficientsTo, runOf}
-use Rattle.converter.specs.Verdict.{Verdict, verdict, verdicts, Inside, Survives}
-use Rattle.converter.specs.Converted.{Input, runOn, Converted, Sizes, WrittenCells, Written, WrittenUnits}
+use Rattle.converted_run.specs.Verdict.{Verdict, verdict, verdicts, Inside, Survives}
+use Rattle.converted_run.specs.Converted.{Input, runOn, Converted, Sizes, WrittenCells, Written, WrittenUnits}
 use Rattle.products.proofs.MovingSmall.{tied-still, tied-nil}
-use Rattle.converter.proofs.MovingScaling.{scaledUp-moves, scaledDown-moves, output-agrees}
-use Rattle.converter.proofs.MovingBasis.{SameBasis, basis-agrees, basis-written}
-use Rattle.converter.proofs.MovingTest.{ScalingBears, test-bears, SameVerdict, test-survives}
+use Rattle.converted_run.proofs.MovingScaling.{scaledUp-moves, scaledDown-moves, output-agrees}
+use Rattle.converted_run.proofs.MovingBasis.{SameBasis, basis-agrees, basis-written}
+use Rattle.converted_run.proofs.MovingTest.{ScalingBears, test-bears, SameVerdict, test-survives}
 
 -- ---- the Ps
 ps-at : (p N : ℕ) (ps : List Rows) (x : Float) → N ≤ 4 → (r : ℕ) → r < N → getD (scaledPs p N ps x) r [] ≡ scaledDown p (getD ps r []) x

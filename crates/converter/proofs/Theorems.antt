@@ -1,8 +1,8 @@
 -- THE THIRD DEMAND, whole: the verdict survives a change of converter, for every record file of either call.
-use Rattle.demand.specs.SeriesDemand.{KenwardRogerDemand}
-use Rattle.demand.specs.ParametersDemand.{SatterthwaiteDemand}
-use Rattle.demand.proofs.SeriesCall.{series-same}
-use Rattle.demand.proofs.ParametersCall.{parameters-same, document-rotation}
+use Rattle.converter.specs.SeriesDemand.{KenwardRogerDemand}
+use Rattle.converter.specs.ParametersDemand.{SatterthwaiteDemand}
+use Rattle.converter.proofs.SeriesCall.{series-same}
+use Rattle.converter.proofs.ParametersCall.{parameters-same, document-rotation}
 use Rattle.adjustment.specs.Cutoffs.{documentCutoffs}
 
 -- Every file that the Kenward–Roger call accepts with all entries inside: with sigma2 times 4 ^ k, β and β_H times 2 ^ k and each contrast row times its own 2 ^ (m r), the call accepts

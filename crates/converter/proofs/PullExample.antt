@@ -38,12 +38,12 @@ use Rattle.records.specs.File.{outOf, badRecord, isCell, again, has, cell as ce
 use Rattle.records.specs.Series.{coefficients, contrastRows, sizes, blockOf as blockAt, incomplete, badSize, badWeight, misfit, zeroContrast, reasons, design, phi, beta, betaH, contrast, sigma2}
 use Rattle.records.proofs.Examples.{recordOf}
 use Rattle.kenward_roger.specs.Call.{run, number, entries}
-use Rattle.converter.specs.Verdict.{Verdict, verdict}
-use Rattle.converter.specs.Converted.{Input}
+use Rattle.converted_run.specs.Verdict.{Verdict, verdict}
+use Rattle.converted_run.specs.Converted.{Input}
 use Rattle.converted.specs.Converted.{kenwardRogerShift, kenwardRogerChange, newBits, newByte, converted}
-use Rattle.demand.specs.SeriesDemand.{AllInside, SameVerdicts}
-use Rattle.demand.proofs.SeriesCall.{inputOf, whole, listed, run-is, number-is, entries-are}
-use Rattle.demand.proofs.Theorems.{converter-kenward-roger}
+use Rattle.converter.specs.SeriesDemand.{AllInside, SameVerdicts}
+use Rattle.converter.proofs.SeriesCall.{inputOf, whole, listed, run-is, number-is, entries-are}
+use Rattle.converter.proofs.Theorems.{converter-kenward-roger}
 
 -- X 1,1, Φ 0.5, and the bits of sigma2, β and the contrast
 abbrev pub pullBytes : ℕ → ℕ → ℕ → List ℕ

@@ -20,7 +20,7 @@ use Rattle.ddf.proofs.Survives.{Sizes}
 use Rattle.satterthwaite.specs.Parameters.{coefficients, contrastRows, parameters, sizes, incomplete, reasons, refusal, number, jacobians, inputs}
 use Rattle.converted.proofs.Cells.{cell-fits}
 use Rattle.converted.proofs.Limits.{passed, rows-bound, columns-bound}
-use Rattle.demand.proofs.Operands.{Written}
+use Rattle.converter.proofs.Operands.{Written}
 
 -- what a file that is not refused passes
 pub record Accepted (s : List ℕ) : Type 0 where

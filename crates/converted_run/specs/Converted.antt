@@ -15,7 +15,7 @@ use Rattle.adjustment.specs.Covariance.{Design, matrices}
 use Rattle.adjustment.specs.Adjusted.{Adjustment, matrixAt, adjustment, adjustmentNumber}
 use Rattle.contrast_basis.specs.Basis.{Rows}
 use Rattle.tests.specs.KenwardRoger.{Run, scaledBy, runOf}
-use Rattle.converter.specs.Verdict.{Survives}
+use Rattle.converted_run.specs.Verdict.{Survives}
 
 -- what a converter changes
 pub record Input : Type 0 where

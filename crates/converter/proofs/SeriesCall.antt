@@ -20,16 +20,16 @@ use Rattle.tests.specs.KenwardRoger.{Run}
 use Rattle.records.specs.Scan.{first}
 use Rattle.records.specs.Series.{coefficients, contrastRows, design, phi, sigma2, beta, betaH, contrast, reasons, refusal}
 use Rattle.kenward_roger.specs.Call.{adjusted, scaled, run, adjustmentRefusal, allReasons, number, entries}
-use Rattle.converter.specs.Verdict.{verdict, verdicts, Inside}
-use Rattle.converter.specs.Converted.{Input, runOn, Converted, Multiplied, Sizes, WrittenCells, Written, SeriesSurvives}
-use Rattle.converter.proofs.MovingInput.{multiplied-is-converted}
-use Rattle.converter.proofs.MovingSeries.{series-survives}
+use Rattle.converted_run.specs.Verdict.{verdict, verdicts, Inside}
+use Rattle.converted_run.specs.Converted.{Input, runOn, Converted, Multiplied, Sizes, WrittenCells, Written, SeriesSurvives}
+use Rattle.converted_run.proofs.MovingInput.{multiplied-is-converted}
+use Rattle.converted_run.proofs.MovingSeries.{series-survives}
 use Rattle.converted.specs.Converted.{kenwardRogerChange, converted}
 use Rattle.converted.proofs.Refusals.{Accepted, accepted}
 use Rattle.converted.proofs.Series.{design-same, phi-same}
 use Rattle.converted.proofs.Sizes.{sized, matrices-bound, beta-fits, betaH-fits, contrast-fits, phi-fits, sigma2-fits}
 use Rattle.converted.proofs.Input.{InputExact, r-same, sigma2-product, beta-product, betaH-product, contrast-product, reasons-converted}
-use Rattle.demand.specs.SeriesDemand.{AllInside, SameVerdicts}
+use Rattle.converter.specs.SeriesDemand.{AllInside, SameVerdicts}
 
 -- what refuses a file before anything is computed refuses it
 pub first-front : (xs ys : List (ℕ × Bool)) → first (xs ++ ys) ≡ 0 → first xs ≡ 0

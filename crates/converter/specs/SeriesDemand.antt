@@ -11,7 +11,7 @@ use Rattle.adjustment.specs.declared.Cutoffs.{Cutoffs}
 use Rattle.answers.specs.Answer.{noEntry}
 use Rattle.records.specs.Series.{coefficients, contrastRows}
 use Rattle.kenward_roger.specs.Call.{number, entries}
-use Rattle.converter.specs.Verdict.{verdict}
+use Rattle.converted_run.specs.Verdict.{verdict}
 use Rattle.converted.specs.Converted.{kenwardRogerChange, converted}
 
 -- "a run is inside when all its entries are": those in use, which are the coefficients' and, where the file has a contrast, entry 6

@@ -20,7 +20,7 @@ use Rattle.algebra.proofs.MovingProducts.{timesNumber-moves, overNumber-moves}
 use Rattle.products.specs.Small.{givenCells}
 use Rattle.adjustment.specs.Adjusted.{Adjustment, matrixAt, scaledUp, scaledDown, notAllFinite, notAllFiniteMarked, outputNotFinite}
 use Rattle.contrast_basis.specs.Basis.{Rows}
-use Rattle.converter.specs.Converted.{WrittenCells}
+use Rattle.converted_run.specs.Converted.{WrittenCells}
 use Rattle.products.proofs.MovingSmall.{tied-still, cells-by, given-cells}
 
 abbrev Matrix : Type 0

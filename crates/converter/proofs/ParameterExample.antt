@@ -30,11 +30,11 @@ use Rattle.records.specs.File.{outOf, badRecord, isCell, again, has, cell as ce
 use Rattle.records.proofs.Examples.{recordOf}
 use Rattle.satterthwaite.specs.Parameters.{sizes, incomplete, reasons, jacobians, inputs}
 use Rattle.satterthwaite.specs.Call.{number, entry}
-use Rattle.converter.specs.Verdict.{Verdict, verdict}
+use Rattle.converted_run.specs.Verdict.{Verdict, verdict}
 use Rattle.converted.specs.Converted.{satterthwaiteShift, satterthwaiteChange, newBits, newByte, converted}
-use Rattle.demand.specs.ParametersDemand.{SameVerdict}
-use Rattle.demand.proofs.ParametersCall.{number-is, entry-is}
-use Rattle.demand.proofs.Theorems.{converter-satterthwaite}
+use Rattle.converter.specs.ParametersDemand.{SameVerdict}
+use Rattle.converter.proofs.ParametersCall.{number-is, entry-is}
+use Rattle.converter.proofs.Theorems.{converter-satterthwaite}
 
 -- a diagonal of two numbers as the four cells of matrix number 0 of a kind
 abbrev diagonal : ℕ → ℕ → ℕ → List ℕ
@@ -114,11 +114,11 @@ pub record ParameterExample : Type 0 where
   -- the theorem's premises hold of the file
   pub accepted : number documentCutoffs parameterFile ≡ 0
   pub inside : entry documentCutoffs parameterFile .inside ≡ true
-  pub verdict : Rattle.converter.specs.Verdict.verdict (entry documentCutoffs parameterFile) ≡ twoAndAHalf
+  pub verdict : Rattle.converted_run.specs.Verdict.verdict (entry documentCutoffs parameterFile) ≡ twoAndAHalf
   -- the converted file is another file, accepted with the same verdict
   pub other : converted (satterthwaiteChange (negsuc 1)) parameterFile ≡ parameterShifted
   pub acceptedAgain : number documentCutoffs parameterShifted ≡ 0
-  pub sameVerdict : Rattle.converter.specs.Verdict.verdict (entry documentCutoffs parameterShifted) ≡ twoAndAHalf
+  pub sameVerdict : Rattle.converted_run.specs.Verdict.verdict (entry documentCutoffs parameterShifted) ≡ twoAndAHalf
 
 pub parameter-example : ParameterExample
 parameter-example =

@@ -11,7 +11,7 @@ use lib.Ieee.{binary64, fits}
 use Rattle.adjustment.specs.declared.Cutoffs.{Cutoffs}
 use Rattle.adjustment.specs.Cutoffs.{documentCutoffs}
 use Rattle.satterthwaite.specs.Call.{number, entry}
-use Rattle.converter.specs.Verdict.{verdict}
+use Rattle.converted_run.specs.Verdict.{verdict}
 use Rattle.converted.specs.Converted.{satterthwaiteChange, converted}
 
 -- s' is accepted, and its entry has the rank, F and df of the entry of s, none where that has none; the marks may differ

@@ -24,7 +24,7 @@ use Rattle.ddf.specs.Satterthwaite.{startSeen, satterthwaite as test}
 use Rattle.ddf.proofs.Survives.{Sizes, Converted, SameVerdict as SameOutcome, satterthwaite-survives}
 use Rattle.satterthwaite.specs.Parameters.{coefficients, contrastRows, parameters, sizes, incomplete, reasons, refusal, number as numberAt, inputs}
 use Rattle.satterthwaite.specs.Call.{outcome, allReasons, number, entry}
-use Rattle.converter.specs.Verdict.{verdict}
+use Rattle.converted_run.specs.Verdict.{verdict}
 use Rattle.converted.specs.Converted.{satterthwaiteShift, satterthwaiteChange, converted}
 use Rattle.converted.proofs.Fields.{Alike, converted-alike}
 use Rattle.converted.proofs.Scans.{any-same}
@@ -33,10 +33,10 @@ use Rattle.converted.proofs.Cells.{Exact, cell-other, cell-moves, anyNotFinite-
 use Rattle.converted.proofs.Limits.{Within, within-sizes, among}
 use Rattle.converted.proofs.Named.{value-is-cell}
 use Rattle.converted.proofs.Satterthwaite.{satterthwaite-bad-same}
-use Rattle.demand.specs.ParametersDemand.{SameVerdict}
-use Rattle.demand.proofs.SeriesCall.{first-front}
-use Rattle.demand.proofs.Operands.{start-inside, beta-again, betaH-again, v-again, js-again}
-use Rattle.demand.proofs.Parameters.{Accepted, accepted, inputs-sized, l-at, beta-at, betaH-at, v-at, js-at, a-at, inputs-written}
+use Rattle.converter.specs.ParametersDemand.{SameVerdict}
+use Rattle.converter.proofs.SeriesCall.{first-front}
+use Rattle.converter.proofs.Operands.{start-inside, beta-again, betaH-again, v-again, js-again}
+use Rattle.converter.proofs.Parameters.{Accepted, accepted, inputs-sized, l-at, beta-at, betaH-at, v-at, js-at, a-at, inputs-written}
 
 -- ---- two files whose records name the same cells
 module _ {s s' : List ℕ} (a : Alike s s') where

@@ -21,10 +21,10 @@ use Rattle.answers.specs.declared.Entry.{Entry}
 use Rattle.answers.specs.Answer.{noEntry}
 use Rattle.tests.specs.KenwardRoger.{Tested, Run, scaledBy}
 use Rattle.tests.proofs.Bench.{halfPhi, betaSix, eight, designPull, scaledPull, nineAndOne, bench}
-use Rattle.converter.specs.Verdict.{Verdict, verdict, verdicts, Inside, Survives}
-use Rattle.converter.specs.Converted.{Input, runOn, Converted, Sizes, Written, WrittenUnits}
-use Rattle.converter.proofs.MovingRun.{run-coefficient, run-contrast, run-survives}
-use Rattle.converter.proofs.MovingSeries.{adjustment-written}
+use Rattle.converted_run.specs.Verdict.{Verdict, verdict, verdicts, Inside, Survives}
+use Rattle.converted_run.specs.Converted.{Input, runOn, Converted, Sizes, Written, WrittenUnits}
+use Rattle.converted_run.proofs.MovingRun.{run-coefficient, run-contrast, run-survives}
+use Rattle.converted_run.proofs.MovingSeries.{adjustment-written}
 
 -- sigma2 8, β 6, contrast 1; and the same under another converter
 abbrev pub pullInput : Input
