@@ -9,7 +9,7 @@ use Rattle.arithmetic.specs.Numbers.{isFinite}
 use Rattle.algebra.specs.Kind.{floats, marks}
 use Rattle.algebra.specs.Product.{at, product, transpose, plusCells, timesNumber}
 use Rattle.algebra.specs.Jacobi.{two}
-use Rattle.adjustment.specs.Covariance.{Rows}
+use Rattle.algebra.specs.Small.{Rows}
 use Rattle.adjustment.specs.Information.{packed}
 use Rattle.adjustment.specs.Adjusted.{Stack, matrixAt, uTerm, uTermAt, uAbove, uDiagonalTo, uRows, phiARows, scaledUp, scaledDown, notAllFinite, notAllFiniteMarked, psNotFiniteTo, outputNotFinite}
 

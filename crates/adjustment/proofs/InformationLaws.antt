@@ -5,8 +5,8 @@ use mathlib.Core.Bool.{Bool, cond}
 use lib.Ieee.{Float, lt}
 use Rattle.algebra.specs.Kind.{floats}
 use Rattle.algebra.specs.Elimination.{inverse}
-use Rattle.adjustment.specs.declared.Cutoffs.{Cutoffs}
-use Rattle.adjustment.specs.Covariance.{Rows}
+use Rattle.arithmetic_cutoffs.specs.declared.Cutoffs.{Cutoffs}
+use Rattle.algebra.specs.Small.{Rows}
 use Rattle.adjustment.specs.Information.{smallest, ridged, inverted, doubled, wRows}
 
 -- the matrix that is inverted, by the test t of the smallest eigenvalue's magnitude

@@ -12,9 +12,9 @@ use Rattle.algebra.specs.Table.{table, blank}
 use Rattle.algebra.specs.Kind.{floats, marks}
 use Rattle.algebra.specs.Product.{at, product, transpose, plusCells, minusCells, timesNumber, overNumber}
 use Rattle.algebra.specs.Jacobi.{State, two, jacobi}
-use Rattle.products.specs.Small.{givenCells}
-use Rattle.adjustment.specs.declared.Cutoffs.{Cutoffs}
-use Rattle.adjustment.specs.Covariance.{Rows, Design, parameters, matrices, gRows, sigmaRows, cholesky, notDefinite, inverseFactor, inverseFactorRefused, precision}
+use Rattle.algebra.specs.Small.{Rows, givenCells}
+use Rattle.arithmetic_cutoffs.specs.declared.Cutoffs.{Cutoffs}
+use Rattle.adjustment.specs.Covariance.{Design, parameters, matrices, gRows, sigmaRows, cholesky, notDefinite, inverseFactor, inverseFactorRefused, precision}
 use Rattle.adjustment.specs.Information.{hRows, oRows, pRows, qRows, packed, kCell, ieCell, mirror, inverted, wRows, wRefused}
 
 -- several matrices, K of them stored
@@ -142,8 +142,8 @@ psNotFiniteTo p ps sigma2 k =
     fold 0 k (λ r z. z || notAllFinite p p (matrixAt ps r) || notAllFiniteMarked p p (scaledDown p (matrixAt ps r) sigma2)) false
 
 -- the refusal of the adjustment, 0 for none. Document 01: 9 (Cholesky), 10 (zero pivot, of L⁻¹ or of IE), then 4.
-unfoldable pub adjustmentNumber : Cutoffs → Design → Rows → Float → ℕ
-adjustmentNumber c d phi sigma2 =
+unfoldable pub adjustmentRefusal : Cutoffs → Design → Rows → Float → ℕ
+adjustmentRefusal c d phi sigma2 =
     cond (notDefinite (d .n) (sigmaRows d)) 9
     (cond (inverseFactorRefused (d .n) (cholesky (d .n) (sigmaRows d))) 10
     (cond (informationRefused c d phi (precisionOf d)) 10

@@ -11,12 +11,10 @@ use Rattle.algebra.specs.Kind.{floats}
 use Rattle.algebra.specs.Product.{at, sum, product, transpose}
 use Rattle.algebra.specs.Elimination.{inverse, inverseRefused}
 use Rattle.algebra.specs.Cholesky.{choleskyTo, choleskyRefused, lower}
+use Rattle.algebra.specs.Small.{Rows}
 use Rattle.adjustment.specs.declared.Block.{Block}
 use Rattle.adjustment.specs.declared.Place.{Place}
 use Rattle.adjustment.specs.Blocks.{placesBefore, placeOf, factorOf, direction}
-
-abbrev pub Rows : Type 0
-Rows = List (List Float)
 
 -- a series' design: n specimens, p coefficients, X and Z by rows, the weights, the blocks and their thetas
 pub record Design : Type 0 where
@@ -42,11 +40,11 @@ abbrev pub groupColumn : Place → ℕ → ℕ → ℕ
 groupColumn t g a = t .start + g * t .effects + a
 
 -- cell (i, b) of Z_g E; cell (i, j) of (Z_g E) Z_gᵀ; and its sum over groups
-unfoldable pub turnedCell : Rows → Place → ℕ → ℕ → ℕ → Float
-turnedCell z t g i b = sum floats (t .effects) (λ a. mul binary64 (at floats z i (groupColumn t g a)) (direction t a b))
+unfoldable pub directedCell : Rows → Place → ℕ → ℕ → ℕ → Float
+directedCell z t g i b = sum floats (t .effects) (λ a. mul binary64 (at floats z i (groupColumn t g a)) (direction t a b))
 
 unfoldable pub groupCell : Rows → Place → ℕ → ℕ → ℕ → Float
-groupCell z t g i j = sum floats (t .effects) (λ b. mul binary64 (turnedCell z t g i b) (at floats z j (groupColumn t g b)))
+groupCell z t g i j = sum floats (t .effects) (λ b. mul binary64 (directedCell z t g i b) (at floats z j (groupColumn t g b)))
 
 unfoldable pub blockCell : Rows → Place → ℕ → ℕ → Float
 blockCell z t i j = sum floats (t .groups) (λ g. groupCell z t g i j)

@@ -15,8 +15,8 @@ use Rattle.algebra.specs.Kind.{floats}
 use Rattle.algebra.specs.Product.{at, product, transpose, sumCells, likeCells}
 use Rattle.algebra.specs.Elimination.{inverse, inverseRefused}
 use Rattle.algebra.specs.Jacobi.{two, jacobi}
-use Rattle.adjustment.specs.declared.Cutoffs.{Cutoffs}
-use Rattle.adjustment.specs.Covariance.{Rows}
+use Rattle.arithmetic_cutoffs.specs.declared.Cutoffs.{Cutoffs}
+use Rattle.algebra.specs.Small.{Rows}
 
 -- H_r, from G_r and S; O_r, from H_r and X; S X
 unfoldable pub hRows : ℕ → Rows → Rows → Rows

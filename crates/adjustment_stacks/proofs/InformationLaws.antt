@@ -17,14 +17,14 @@ use Rattle.algebra.specs.Product.{at, product, transpose}
 use Rattle.algebra.specs.Jacobi.{mirrored}
 use Rattle.algebra.proofs.FoldLaws.{fold-start, fold-next, fold-end, fold-keeps, fold-ext}
 use Rattle.algebra.proofs.TableLaws.{table-at, table-ext}
-use Rattle.large.specs.Slab.{rowsAt, putRows, Holds, Apart}
-use Rattle.large.proofs.SlabLaws.{frame}
-use Rattle.adjustment.specs.Covariance.{Rows}
+use Rattle.algebra_large.specs.joints.Slab.{rowsAt, putRows, Holds, Apart}
+use Rattle.algebra_large.proofs.SlabLaws.{frame}
+use Rattle.algebra.specs.Small.{Rows}
 use Rattle.adjustment.specs.Information.{pRows, qRows, packed, kCell, ieCell, mirror}
 use Rattle.adjustment.specs.Adjusted.{Stack, matrixAt, stack, qStack}
-use Rattle.adjustment_work.specs.Work.{square, part}
-use Rattle.adjustment_work.specs.Steps.{sAt, hAt, sxAt, oAt, turned, turnedTo, qRowTo, ieAt, upperCell, upper}
-use Rattle.covariance.proofs.GainLaws.{q-is}
+use Rattle.adjustment_work.specs.joints.Work.{square, part}
+use Rattle.adjustment_work.specs.joints.Steps.{sAt, hAt, sxAt, oAt, oTransposedS, oTransposedSTo, qRowTo, ieAt, upperCell, upper}
+use Rattle.adjustment_covariance.proofs.GainLaws.{q-is}
 use Rattle.adjustment_work.proofs.WorkLaws.{turned-held, turned-apart}
 
 -- the Ps: none, one more, all
@@ -86,13 +86,13 @@ q-row-ext N r hi f g qs h =
 -- the Qs of r, where O_rᵀS was put into part 5
 module _ (s n p N r q e o : ℕ) (ws xs ys : List Float) (hn : n ≤ s) (hp : p ≤ 6) (h : 6 * (6 * s) ≤ length xs) (eq : q ≡ square s 1) (ee : e ≡ part s 5) (eo : o ≡ part s (1 + r))
     (ey : ys ≡ putRows n e p n (product floats p n p n n (transpose floats p n n p (rowsAt 6 o n p xs)) (rowsAt s q n n ws)) xs) where
-  pub turned-put : ys ≡ putRows n (part s 5) p n (turned n p (oAt s n p xs r) (sAt s n ws)) xs
-  unfolding turned
+  pub turned-put : ys ≡ putRows n (part s 5) p n (oTransposedS n p (oAt s n p xs r) (sAt s n ws)) xs
+  unfolding oTransposedS
   turned-put = rw (← eq, ← ee, ← eo) ey
 
   pub q-row-is : (m qs : Stack) → N ≤ 4 → m ≡ qRowTo N r N (λ t. product floats 6 6 p n p (rowsAt n (part s 5) p n ys) (oAt s n p ys t)) qs
       → m ≡ qRowTo N r N (λ t. qRows n p (oAt s n p xs r) (sAt s n ws) (oAt s n p xs t)) qs
-  unfolding turned
+  unfolding oTransposedS
   q-row-is m qs hN em =
       em
       ∙ q-row-ext N r N (λ t. product floats 6 6 p n p (rowsAt n (part s 5) p n ys) (oAt s n p ys t)) (λ t. qRows n p (oAt s n p xs r) (sAt s n ws) (oAt s n p xs t)) qs
@@ -101,12 +101,12 @@ module _ (s n p N r q e o : ℕ) (ws xs ys : List Float) (hn : n ≤ s) (hp : p 
       (turned-held s n p (part s 5) (length xs) hn hp h refl) (turned-apart s n p (1 + t) (part s 5) (part s (1 + t)) hn hp (omega arith) refl refl) hp refl turned-put refl)
 
 -- the Os stand as they were, whatever was put into part 5
-pub turned-frame : (s n p k i : ℕ) (o : ℕ → Rows) (sm : Rows) (xs : List Float) → n ≤ s → p ≤ 6 → i < 4 → oAt s n p (turnedTo s n p k o sm xs) i ≡ oAt s n p xs i
-unfolding turnedTo
+pub turned-frame : (s n p k i : ℕ) (o : ℕ → Rows) (sm : Rows) (xs : List Float) → n ≤ s → p ≤ 6 → i < 4 → oAt s n p (oTransposedSTo s n p k o sm xs) i ≡ oAt s n p xs i
+unfolding oTransposedSTo
 turned-frame s n p k i o sm xs hn hp hi =
-    fold-keeps (λ ys. oAt s n p ys i ≡ oAt s n p xs i) 0 k (λ r ys. putRows n (part s 5) p n (turned n p (o r) sm) ys) xs refl
+    fold-keeps (λ ys. oAt s n p ys i ≡ oAt s n p xs i) 0 k (λ r ys. putRows n (part s 5) p n (oTransposedS n p (o r) sm) ys) xs refl
     (λ r lo hr ys e.
-    frame n (part s 5) p n 6 (part s (1 + i)) n p (turned n p (o r) sm) ys (turned-apart s n p (1 + i) (part s 5) (part s (1 + i)) hn hp (omega arith) refl refl) (omega arith) hp ∙ e)
+    frame n (part s 5) p n 6 (part s (1 + i)) n p (oTransposedS n p (o r) sm) ys (turned-apart s n p (1 + i) (part s 5) (part s (1 + i)) hn hp (omega arith) refl refl) (omega arith) hp ∙ e)
 
 -- the Qs of each r < k
 unfoldable pub qsTo : ℕ → ℕ → (ℕ → ℕ → Rows) → Stack
@@ -121,15 +121,15 @@ unfolding qsTo qRowTo qStack
 qs-end N k f st h l e = fold-end 0 k N (λ r st. fold r N (λ s st. set st (packed N r s) (f r s)) st) (replicate 10 (blank plusZero 6 6)) st h l e
 
 -- one more r
-module _ (s n p N k : ℕ) (ws xs ys : List Float) (hn : n ≤ s) (hp : p ≤ 6) (hN : N ≤ 4) (hk : k < N) (ey : ys ≡ turnedTo s n p k (oAt s n p xs) (sAt s n ws) xs) where
+module _ (s n p N k : ℕ) (ws xs ys : List Float) (hn : n ≤ s) (hp : p ≤ 6) (hN : N ≤ 4) (hk : k < N) (ey : ys ≡ oTransposedSTo s n p k (oAt s n p xs) (sAt s n ws) xs) where
   os-stand : (i : ℕ) → i < 4 → oAt s n p ys i ≡ oAt s n p xs i
   os-stand i hi = ap (λ (l : List Float). oAt s n p l i) ey ∙ turned-frame s n p k i (oAt s n p xs) (sAt s n ws) xs hn hp hi
 
-  pub turned-more : (zs : List Float) → zs ≡ putRows n (part s 5) p n (turned n p (oAt s n p ys k) (sAt s n ws)) ys → zs ≡ turnedTo s n p (k + 1) (oAt s n p xs) (sAt s n ws) xs
-  unfolding turnedTo
+  pub turned-more : (zs : List Float) → zs ≡ putRows n (part s 5) p n (oTransposedS n p (oAt s n p ys k) (sAt s n ws)) ys → zs ≡ oTransposedSTo s n p (k + 1) (oAt s n p xs) (sAt s n ws) xs
+  unfolding oTransposedSTo
   turned-more zs ez =
-      fold-next 0 k (λ r ys. putRows n (part s 5) p n (turned n p (oAt s n p xs r) (sAt s n ws)) ys) xs ys zs (omega arith) ey
-      (ez ∙ ap (λ (m : Rows). putRows n (part s 5) p n (turned n p m (sAt s n ws)) ys) (os-stand k (omega arith)))
+      fold-next 0 k (λ r ys. putRows n (part s 5) p n (oTransposedS n p (oAt s n p xs r) (sAt s n ws)) ys) xs ys zs (omega arith) ey
+      (ez ∙ ap (λ (m : Rows). putRows n (part s 5) p n (oTransposedS n p m (sAt s n ws)) ys) (os-stand k (omega arith)))
 
   pub qs-more : (st next : Stack) → st ≡ qsTo N k (λ r t. qRows n p (oAt s n p xs r) (sAt s n ws) (oAt s n p xs t))
       → next ≡ qRowTo N k N (λ t. qRows n p (oAt s n p ys k) (sAt s n ws) (oAt s n p ys t)) st

@@ -4,11 +4,11 @@ ghost use Prim.Native.Nat.{_+_, _*_, _<_, _≤_};
 ghost use lib.ListN.{length};
 ghost use Rattle.algebra.specs.Kind.{floats};
 ghost use Rattle.algebra.specs.Product.{product};
-ghost use Rattle.large.specs.Slab.{rowsAt, putRows};
+ghost use Rattle.algebra_large.specs.joints.Slab.{rowsAt, putRows};
 ghost use Rattle.adjustment.specs.Information.{pRows, qRows, mirror};
 ghost use Rattle.adjustment.specs.Adjusted.{stack, qStack};
-ghost use Rattle.adjustment_work.specs.Work.{part, Sized};
-ghost use Rattle.adjustment_work.specs.Steps.{sAt, sxAt, oAt, turned, turnedTo, qRowTo, ieAt, upperCell, upper};
+ghost use Rattle.adjustment_work.specs.joints.Work.{part, Sized};
+ghost use Rattle.adjustment_work.specs.joints.Steps.{sAt, sxAt, oAt, oTransposedS, oTransposedSTo, qRowTo, ieAt, upperCell, upper};
 use adjustment::packing::index_symmat2vec;
 use adjustment_work::squares::part_at;
 use adjustment_work::squares::square_at;
@@ -18,12 +18,12 @@ pub fn ps_of(narrow: &[f64], s: usize, n: usize, p: usize, k: usize) -> [[[f64; 
     requires { ⌜ (n ≤ s) × (p ≤ 6) × (6 * (6 * s) ≤ length (now narrow)) × (k ≤ 4) ⌝ }
     ensures { λ m. ⌜ m ≡ stack 4 k (λ r. pRows n p (oAt s n p (now (narrow .entry)) r) (sxAt s n p (now (narrow .entry)))) ⌝ }
 {
-    let blank = products::zeros();
+    let blank = algebra_products::zeros();
     let mut out = [blank; 4];
     for r in 0..k {
         let t = part_at(s, 0, narrow.len());
         let o = part_at(s, 1 + r, narrow.len());
-        let m = covariance::information::p_of(narrow, o, t, n, p);
+        let m = adjustment_covariance::information::p_of(narrow, o, t, n, p);
         out[r] = m;
     }
     out
@@ -46,7 +46,7 @@ pub fn q_products(
     for t in r..k {
         let e = part_at(s, 5, narrow.len());
         let o = part_at(s, 1 + t, narrow.len());
-        let m = covariance::information::wide_product(narrow, e, o, n, p);
+        let m = adjustment_covariance::information::wide_product(narrow, e, o, n, p);
         let at = index_symmat2vec(r, t, k);
         out[at] = m;
     }
@@ -66,12 +66,12 @@ pub fn q_row(
 ) -> [[[f64; 6]; 6]; 10]
     requires { ⌜ Sized n p s (length (now work)) (length (now narrow)) × (k ≤ 4) × (r < k) ⌝ }
     ensures { λ m. ⌜ m ≡ qRowTo k r k (λ t. qRows n p (oAt s n p (now (narrow .entry)) r) (sAt s n (now (work .entry))) (oAt s n p (now (narrow .entry)) t)) qs ⌝ }
-    ensures { λ m. ⌜ now (narrow .exit) ≡ putRows n (part s 5) p n (turned n p (oAt s n p (now (narrow .entry)) r) (sAt s n (now (work .entry)))) (now (narrow .entry)) ⌝ }
+    ensures { λ m. ⌜ now (narrow .exit) ≡ putRows n (part s 5) p n (oTransposedS n p (oAt s n p (now (narrow .entry)) r) (sAt s n (now (work .entry)))) (now (narrow .entry)) ⌝ }
 {
     let q = square_at(s, 1, work.len());
     let e = part_at(s, 5, narrow.len());
     let o = part_at(s, 1 + r, narrow.len());
-    covariance::information::fill_turned(narrow, e, o, work, q, s, n, p);
+    adjustment_covariance::information::fill_turned(narrow, e, o, work, q, s, n, p);
     q_products(narrow, s, n, p, k, r, qs)
 }
 
@@ -86,9 +86,9 @@ pub fn qs_of(
 ) -> [[[f64; 6]; 6]; 10]
     requires { ⌜ Sized n p s (length (now work)) (length (now narrow)) × (k ≤ 4) ⌝ }
     ensures { λ m. ⌜ m ≡ qStack k (λ r t. qRows n p (oAt s n p (now (narrow .entry)) r) (sAt s n (now (work .entry))) (oAt s n p (now (narrow .entry)) t)) ⌝ }
-    ensures { λ m. ⌜ now (narrow .exit) ≡ turnedTo s n p k (oAt s n p (now (narrow .entry))) (sAt s n (now (work .entry))) (now (narrow .entry)) ⌝ }
+    ensures { λ m. ⌜ now (narrow .exit) ≡ oTransposedSTo s n p k (oAt s n p (now (narrow .entry))) (sAt s n (now (work .entry))) (now (narrow .entry)) ⌝ }
 {
-    let blank = products::zeros();
+    let blank = algebra_products::zeros();
     let mut out = [blank; 10];
     for r in 0..k {
         let next = q_row(narrow, s, work, n, p, k, r, out);
@@ -115,12 +115,12 @@ pub fn ie_at(
 {
     let a = square_at(s, 2 + r, work.len());
     let b = square_at(s, 2 + t, work.len());
-    let trace = covariance::information::k_of(work, a, b, s, n);
+    let trace = adjustment_covariance::information::k_of(work, a, b, s, n);
     let at = index_symmat2vec(r, t, k);
     let q = qs[at];
     let first = ps[r];
     let second = ps[t];
-    information::ie_cell(p, trace, phi, q, first, second)
+    adjustment_adjusted::information::ie_cell(p, trace, phi, q, first, second)
 }
 
 // A cell of IE's upper half, and zero below it: no cell is made twice.
@@ -159,7 +159,7 @@ pub fn upper_half(
     requires { ⌜ (n ≤ s) × (p ≤ 6) × (6 * (s * s) ≤ length (now work)) × (k ≤ 4) ⌝ }
     ensures { λ m. ⌜ m ≡ upper k (ieAt s n p k phi ps qs (now (work .entry))) ⌝ }
 {
-    let mut out = products::zeros();
+    let mut out = algebra_products::zeros();
     for r in 0..k {
         for t in 0..k {
             out[r][t] = upper_cell(work, s, n, p, k, phi, ps, qs, r, t);
@@ -183,5 +183,5 @@ pub fn ie_of(
     ensures { λ m. ⌜ m ≡ mirror k (ieAt s n p k phi ps qs (now (work .entry))) ⌝ }
 {
     let half = upper_half(work, s, n, p, k, phi, ps, qs);
-    jacobi::mirrored(half, k)
+    algebra_jacobi::mirrored(half, k)
 }

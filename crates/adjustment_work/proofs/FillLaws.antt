@@ -4,11 +4,11 @@ use native.Mathlib.Omega.{arith}
 use mathlib.Core.Path.{_≡_, ap, _∙_}
 use mathlib.Core.List.{List}
 use lib.Ieee.{Float}
-use Rattle.large.specs.Slab.{rowsAt, putRows}
-use Rattle.adjustment.specs.Covariance.{Rows}
+use Rattle.algebra_large.specs.joints.Slab.{rowsAt, putRows}
+use Rattle.algebra.specs.Small.{Rows}
 use Rattle.adjustment.specs.Information.{hRows, oRows}
-use Rattle.adjustment_work.specs.Work.{square, part, putStack}
-use Rattle.adjustment_work.specs.Steps.{sAt, hAt}
+use Rattle.adjustment_work.specs.joints.Work.{square, part, putStack}
+use Rattle.adjustment_work.specs.joints.Steps.{sAt, hAt}
 use Rattle.adjustment_work.proofs.WorkLaws.{blocks-apart, rows-in}
 use Rattle.adjustment_work.proofs.StackLaws.{stack-more, stack-frame}
 

@@ -8,10 +8,10 @@ use lib.ListN.{getD, length, set}
 use lib.Ieee.{Float, nan}
 use Rattle.algebra.specs.Fold.{fold}
 use Rattle.algebra.proofs.FoldLaws.{fold-start, fold-next, fold-end, fold-keeps, fold-steps}
-use Rattle.large.specs.Slab.{rowsAt, putRows, Holds, Apart}
-use Rattle.large.proofs.SlabLaws.{Shape, length-putRows, read-back, frame}
-use Rattle.adjustment.specs.Covariance.{Rows}
-use Rattle.adjustment_work.specs.Work.{putStack}
+use Rattle.algebra_large.specs.joints.Slab.{rowsAt, putRows, Holds, Apart}
+use Rattle.algebra_large.proofs.SlabLaws.{Shape, length-putRows, read-back, frame}
+use Rattle.algebra.specs.Small.{Rows}
+use Rattle.adjustment_work.specs.joints.Work.{putStack}
 use Rattle.adjustment_work.proofs.WorkLaws.{blocks-apart}
 
 module _ (s b o n c : ℕ) (f : ℕ → Rows) (xs : List Float) where

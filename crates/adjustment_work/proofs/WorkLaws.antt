@@ -10,9 +10,9 @@ use lib.ListN.{getD, length, replicate, length-replicate, getD-replicate}
 use lib.Seq.{ext-getD}
 use lib.Ieee.{Float, nan}
 use Rattle.arithmetic.specs.Numbers.{plusZero}
-use Rattle.large.specs.Slab.{rowsAt, putRow, putRows, Holds, Apart}
-use Rattle.large.proofs.SlabLaws.{putRow-at, putRow-other, length-putRow, putRows-other, length-putRows, InRow, within, beyond, in-row}
-use Rattle.adjustment_work.specs.Work.{square, part, zeros}
+use Rattle.algebra_large.specs.joints.Slab.{rowsAt, putRow, putRows, Holds, Apart}
+use Rattle.algebra_large.proofs.SlabLaws.{putRow-at, putRow-other, length-putRow, putRows-other, length-putRows, InRow, within, beyond, in-row}
+use Rattle.adjustment_work.specs.joints.Work.{square, part, zeros}
 
 -- block k of six blocks of b elements ends in the list
 pub block-in : (b k len : ℕ) → 6 * b ≤ len → k < 6 → k * b + b ≤ len

@@ -1,3 +1,2 @@
--- The lent slices of the covariance adjustment: what a reader has to believe besides the definitions of crates/adjustment/specs and crates/covariance/specs.
-pub mod Work
-pub mod Steps
+-- No definition that a reader needs stands here: the layer's own crate has those.
+pub mod joints

@@ -3,8 +3,8 @@ ghost use mathlib.Core.Path.{_≡_};
 ghost use Prim.Native.Nat.{_+_, _-_, _*_, _<_, _≤_};
 ghost use lib.ListN.{length};
 ghost use Rattle.arithmetic.specs.Numbers.{plusZero};
-ghost use Rattle.large.specs.Slab.{putRow};
-ghost use Rattle.adjustment_work.specs.Work.{square, part, zeros};
+ghost use Rattle.algebra_large.specs.joints.Slab.{putRow};
+ghost use Rattle.adjustment_work.specs.joints.Work.{square, part, zeros};
 
 // Square k of a work slice of len numbers.
 pub fn square_at(s: usize, k: usize, len: usize) -> usize
@@ -26,7 +26,7 @@ pub fn part_at(s: usize, k: usize, len: usize) -> usize
 pub fn clear_all(work: &mut [f64])
     ensures { λ e. ⌜ now (work .exit) ≡ zeros (length (now (work .entry))) ⌝ }
 {
-    large::rows::clear_row(work, 0, work.len());
+    algebra_large::rows::clear_row(work, 0, work.len());
 }
 
 // Zeros from square 2 on.
@@ -35,5 +35,5 @@ pub fn clear_rest(work: &mut [f64], s: usize)
     ensures { λ e. ⌜ now (work .exit) ≡ putRow (square s 2) (length (now (work .entry)) - square s 2) (λ j. plusZero) (now (work .entry)) ⌝ }
 {
     let a = square_at(s, 2, work.len());
-    large::rows::clear_row(work, a, work.len() - a);
+    algebra_large::rows::clear_row(work, a, work.len() - a);
 }

@@ -3,13 +3,13 @@ ghost use mathlib.Core.Path.{_≡_};
 ghost use mathlib.Core.List.{[]};
 ghost use Prim.Native.Nat.{_+_, _*_, _≤_};
 ghost use lib.ListN.{length};
-ghost use Rattle.large.specs.Slab.{rowsAt, putRows, Holds};
+ghost use Rattle.algebra_large.specs.joints.Slab.{rowsAt, putRows, Holds};
 ghost use Rattle.adjustment.specs.Blocks.{placesBefore};
 ghost use Rattle.adjustment.specs.Covariance.{gRows};
 ghost use Rattle.adjustment.specs.Information.{hRows, oRows};
-ghost use Rattle.covariance.specs.Lent.{design, Lent};
-ghost use Rattle.adjustment_work.specs.Work.{square, part, Sized, putStack};
-ghost use Rattle.adjustment_work.specs.Steps.{sAt, hAt};
+ghost use Rattle.adjustment_covariance.specs.joints.Lent.{design, Lent};
+ghost use Rattle.adjustment_work.specs.joints.Work.{square, part, Sized, putStack};
+ghost use Rattle.adjustment_work.specs.joints.Steps.{sAt, hAt};
 use crate::squares::part_at;
 use crate::squares::square_at;
 use adjustment::Block;
@@ -34,7 +34,7 @@ pub fn fill_hs(
     for r in 0..k {
         let q = square_at(s, 1, work.len());
         let d = square_at(s, 2 + r, work.len());
-        sigma::fill_h(
+        adjustment_sigma::fill_h(
             work,
             d,
             q,
@@ -59,7 +59,7 @@ pub fn fill_sx(narrow: &mut [f64], s: usize, work: &[f64], x: &[f64], xs: usize,
 {
     let a = square_at(s, 1, work.len());
     let d = part_at(s, 0, narrow.len());
-    covariance::information::fill_o(narrow, d, work, a, s, x, xs, n, p);
+    adjustment_covariance::information::fill_o(narrow, d, work, a, s, x, xs, n, p);
 }
 
 // Part 1 + r becomes O_r, for each r < k.
@@ -79,6 +79,6 @@ pub fn fill_os(
     for r in 0..k {
         let a = square_at(s, 2 + r, work.len());
         let d = part_at(s, 1 + r, narrow.len());
-        covariance::information::fill_o(narrow, d, work, a, s, x, xs, n, p);
+        adjustment_covariance::information::fill_o(narrow, d, work, a, s, x, xs, n, p);
     }
 }

@@ -8,7 +8,7 @@ use mathlib.Core.Bool.{Bool, true, false}
 use mathlib.Core.List.{List}
 use lib.Ieee.{Float, lt}
 use Rattle.arithmetic.specs.Numbers.{isZero}
-use Rattle.algebra.specs.Kind.{Arith, nil}
+use Rattle.algebra.specs.Kind.{Arith, zeroOf}
 use Rattle.algebra.specs.Product.{at, identity}
 use Rattle.algebra.specs.Jacobi.{State, squared, bound, rotateTested, rotate, rowTo, sweepTo, sweepsTo, mirrored, jacobi}
 use Rattle.algebra.proofs.FoldLaws.{fold-steps}
@@ -80,7 +80,7 @@ module _ {A : Type 0} (N : Arith A) (limit : Float) (R C n : ℕ) where
 
   pub jacobi-count : (m : List (List A)) → jacobi N limit R C n m .count ≤ 30 * (n * (n - 1) / 2)
   unfolding jacobi pairs
-  jacobi-count m = omega (arith, sweeps-count 30 (record { a = mirrored N R C n m; v = identity N R C n; count = 0; seen = nil N }))
+  jacobi-count m = omega (arith, sweeps-count 30 (record { a = mirrored N R C n m; v = identity N R C n; count = 0; seen = zeroOf N }))
 
   -- document 01: "the number of rotations made, at most 450"
   pub jacobi-at-most : (m : List (List A)) → n ≤ 6 → jacobi N limit R C n m .count ≤ 450

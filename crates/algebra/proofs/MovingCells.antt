@@ -20,7 +20,7 @@ use Rattle.arithmetic.proofs.PlainLaws.{zero-scale, larger-scale}
 use Rattle.arithmetic.proofs.MarkLaws.{Bears, Moves, mul-moves, div-moves}
 use Rattle.algebra.specs.Fold.{fold}
 use Rattle.algebra.specs.Table.{row, table}
-use Rattle.algebra.specs.Kind.{marks, nil}
+use Rattle.algebra.specs.Kind.{marks, zeroOf}
 use Rattle.algebra.specs.Product.{at}
 use Rattle.algebra.proofs.FoldLaws.{fold-more, fold-none, fold-keeps, length-span}
 use Rattle.algebra.proofs.TableLaws.{table-at, table-row, length-table}
@@ -69,7 +69,7 @@ module _ {t : ℕ} where
   moves-by a a' e p h = subst (λ (z : ℤ). Tied z (a .value) (a' .value)) e (p h)
 
   -- +0 moves by every shift, and every constant by none
-  pub nil-moves : (u : ℤ) → Moves t u (nil marks) (nil marks)
+  pub nil-moves : (u : ℤ) → Moves t u (zeroOf marks) (zeroOf marks)
   unfolding fits
   nil-moves u h = record { fine = tt; moved = refl }
 
@@ -155,11 +155,11 @@ pub record MovesCells (t : ℕ) (u : ℤ) (r c : ℕ) (a a' : List (List Marked)
 module _ {t : ℕ} where
   -- a table's cells
   pub table-moves : (u : ℤ) (R C r c : ℕ) (f f' : ℕ → ℕ → Marked) → r ≤ R → c ≤ C → ((i j : ℕ) → i < r → j < c → Moves t u (f i j) (f' i j))
-      → MovesCells t u r c (table (nil marks) R C r c f) (table (nil marks) R C r c f')
+      → MovesCells t u r c (table (zeroOf marks) R C r c f) (table (zeroOf marks) R C r c f')
   table-moves u R C r c f f' hr hc p = record {
-    cell = λ i j h l. rw (table-at (nil marks) R C r c f i j (marks .void) h l hr hc, table-at (nil marks) R C r c f' i j (marks .void) h l hr hc) (p i j h l);
+    cell = λ i j h l. rw (table-at (zeroOf marks) R C r c f i j (marks .void) h l hr hc, table-at (zeroOf marks) R C r c f' i j (marks .void) h l hr hc) (p i j h l);
   }
 
   pub table-bears : (R C r c : ℕ) (f : ℕ → ℕ → Marked) → r ≤ R → c ≤ C → (i j : ℕ) → i < r → j < c
-      → Bears t (at marks (table (nil marks) R C r c f) i j) → Bears t (f i j)
-  table-bears R C r c f hr hc i j h l b = rw (table-at (nil marks) R C r c f i j (marks .void) h l hr hc) at b
+      → Bears t (at marks (table (zeroOf marks) R C r c f) i j) → Bears t (f i j)
+  table-bears R C r c f hr hc i j h l b = rw (table-at (zeroOf marks) R C r c f i j (marks .void) h l hr hc) at b

@@ -10,7 +10,7 @@ use lib.ListN.{getD, set, length, length-set, replicate, length-replicate}
 use lib.Seq.{getD-set-same, getD-set-other}
 use Rattle.algebra.specs.Fold.{fold}
 use Rattle.algebra.specs.Table.{row, blank}
-use Rattle.algebra.specs.Kind.{Arith, nil}
+use Rattle.algebra.specs.Kind.{Arith, zeroOf}
 use Rattle.algebra.specs.Product.{at}
 use Rattle.algebra.specs.Elimination.{pivotRow, swapRows, factor, lessBy, lessRow, cleared, eliminateColumn, eliminateTo, backSum, backCell, backTo}
 use Rattle.algebra.proofs.FoldLaws.{fold-more, fold-keeps, fold-steps, fold-ext, span-at, span-other, length-span}
@@ -144,7 +144,7 @@ module _ {A : Type 0} (N : Arith A) where
     pub cells : (i k : ℕ) → n ≤ i + d → i < n → k < cols → at N x i k ≡ backCell N n m x i k
 
   last-more : (R C n cols : ℕ) (m : List (List A)) → n ≤ R → cols ≤ C → (d : ℕ) → d < n → (x : List (List A)) → Last R n cols m d x
-      → Last R n cols m (d + 1) (set x (n - 1 - d) (row (nil N) C cols (backCell N n m x (n - 1 - d))))
+      → Last R n cols m (d + 1) (set x (n - 1 - d) (row (zeroOf N) C cols (backCell N n m x (n - 1 - d))))
   last-more R C n cols m hr hc d h x g =
       record { rows = length-set x r y ∙ g .rows; cells = λ i k a b o. go i k a b o (ℕ-discrete i r) }
     where
@@ -152,7 +152,7 @@ module _ {A : Type 0} (N : Arith A) where
       r = n - 1 - d
 
       y : List A
-      y = row (nil N) C cols (backCell N n m x r)
+      y = row (zeroOf N) C cols (backCell N n m x r)
 
       same : (i k : ℕ) → r ≤ i → backCell N n m (set x r y) i k ≡ backCell N n m x i k
       same i k a =
@@ -162,7 +162,7 @@ module _ {A : Type 0} (N : Arith A) where
       go : (i k : ℕ) → n ≤ i + (d + 1) → i < n → k < cols → Dec (i ≡ r) → at N (set x r y) i k ≡ backCell N n m (set x r y) i k
       go i k a b o (yes e) =
           rw e (ap (λ (v : List A). getD v k (N .void)) (getD-set-same x r y [] (omega (arith, g .rows)))
-          ∙ row-at (nil N) C cols (backCell N n m x r) k (N .void) o hc ∙ sym (same r k (omega arith)))
+          ∙ row-at (zeroOf N) C cols (backCell N n m x r) k (N .void) o hc ∙ sym (same r k (omega arith)))
       go i k a b o (no e) =
           ap (λ (v : List A). getD v k (N .void)) (getD-set-other x r i y [] e) ∙ g .cells i k (omega arith) b o ∙ sym (same i k (omega arith))
 
@@ -170,6 +170,6 @@ module _ {A : Type 0} (N : Arith A) where
       → at N (backTo N n R C n cols m) i k ≡ backCell N n m (backTo N n R C n cols m) i k
   unfolding backTo blank
   back-at R C n cols m hr hc i k h o =
-      fold-steps (Last R n cols m) 0 n (λ d x. set x (n - 1 - d) (row (nil N) C cols (backCell N n m x (n - 1 - d)))) (blank (nil N) R C) (omega arith)
-      (record { rows = length-replicate R (replicate C (nil N)); cells = λ i k a b o. absurd (omega arith) })
+      fold-steps (Last R n cols m) 0 n (λ d x. set x (n - 1 - d) (row (zeroOf N) C cols (backCell N n m x (n - 1 - d)))) (blank (zeroOf N) R C) (omega arith)
+      (record { rows = length-replicate R (replicate C (zeroOf N)); cells = λ i k a b o. absurd (omega arith) })
       (λ d a b x g. last-more R C n cols m hr hc d b x g) .cells i k (omega arith) h o

@@ -16,7 +16,7 @@ use Rattle.arithmetic.specs.Marks.{markedSub, markedMul, markedDiv}
 use Rattle.arithmetic.proofs.Tied.{Tied}
 use Rattle.arithmetic.proofs.MarkLaws.{Bears, Moves, sub-bears, mul-bears, div-bears, sub-moves, mul-moves, div-moves}
 use Rattle.algebra.specs.Fold.{fold}
-use Rattle.algebra.specs.Kind.{marks, nil}
+use Rattle.algebra.specs.Kind.{marks, zeroOf}
 use Rattle.algebra.specs.Product.{at, identity}
 use Rattle.algebra.specs.Elimination.{larger, pivotRow, swapRows, cleared, eliminateColumn, eliminateTo, zeroPivot, backSum, backCell, backTo, joined, refused, solution, inverse}
 use Rattle.algebra.proofs.FoldLaws.{fold-both, fold-ext}
@@ -291,16 +291,16 @@ module _ (R W n cols : ℕ) (hr : n ≤ R) (hw : n + cols ≤ W) where
   joined-left : (a b : Matrix) (i j : ℕ) → i < n → j < n → at marks (joined marks R W n cols a b) i j ≡ at marks a i j
   unfolding joined
   joined-left a b i j h l =
-      table-at (nil marks) R W n (n + cols) (λ i j. cond (ltb j n) (at marks a i j) (at marks b i (j - n))) i j (marks .void) h (omega arith) hr hw ∙ rw (lt-ltb j n l)
+      table-at (zeroOf marks) R W n (n + cols) (λ i j. cond (ltb j n) (at marks a i j) (at marks b i (j - n))) i j (marks .void) h (omega arith) hr hw ∙ rw (lt-ltb j n l)
 
   joined-right : (a b : Matrix) (i j : ℕ) → i < n → n ≤ j → j < n + cols → at marks (joined marks R W n cols a b) i j ≡ at marks b i (j - n)
   unfolding joined
   joined-right a b i j h l k =
-      table-at (nil marks) R W n (n + cols) (λ i j. cond (ltb j n) (at marks a i j) (at marks b i (j - n))) i j (marks .void) h k hr hw ∙ rw (le-ltb j n l)
+      table-at (zeroOf marks) R W n (n + cols) (λ i j. cond (ltb j n) (at marks a i j) (at marks b i (j - n))) i j (marks .void) h k hr hw ∙ rw (le-ltb j n l)
 
   joined-sized : (a b : Matrix) → Sized n (n + cols) (joined marks R W n cols a b)
   unfolding joined
-  joined-sized a b = table-sized (nil marks) R W n (n + cols) (λ i j. cond (ltb j n) (at marks a i j) (at marks b i (j - n))) hr hw
+  joined-sized a b = table-sized (zeroOf marks) R W n (n + cols) (λ i j. cond (ltb j n) (at marks a i j) (at marks b i (j - n))) hr hw
 
   joined-moves : (t : ℕ) (u v : ℤ) (a b a' b' : Matrix) → MovesCells t u n n a a' → MovesCells t v n cols b b'
       → MovesFrom t (side n u v) n (n + cols) 0 (joined marks R W n cols a b) (joined marks R W n cols a' b')

@@ -11,7 +11,7 @@ use Rattle.arithmetic.specs.Numbers.{plusZero, one}
 use Rattle.arithmetic.specs.Marks.{given, markedAdd, markedSub, markedMul, markedDiv}
 use Rattle.arithmetic.proofs.MarkLaws.{Bears, Moves, add-bears, sub-bears, mul-bears, div-bears, add-moves, sub-moves, mul-moves, div-moves}
 use Rattle.algebra.specs.Fold.{fold}
-use Rattle.algebra.specs.Kind.{marks, nil}
+use Rattle.algebra.specs.Kind.{marks, zeroOf}
 use Rattle.algebra.specs.Product.{at, sum, cell, product, transpose, sumCells, likeCells, trace, plusCells, minusCells, timesNumber, overNumber, identity}
 use Rattle.algebra.proofs.FoldLaws.{fold-both}
 use Rattle.algebra.proofs.MovingCells.{BearsCells, MovesCells, first-bears, step-bears, nil-moves, constant-moves, table-moves, table-bears}
@@ -25,13 +25,13 @@ module _ {t : ℕ} where
   unfolding sum
   sum-bears n f h k l =
       let s : ℕ → Marked → Marked = λ k s. markedAdd s (f k) in
-      add-bears (fold 0 k s (nil marks)) (f k) (step-bears 0 n s (nil marks) (λ k b h. add-bears b (f k) h .0) h k (omega arith) l) .1
+      add-bears (fold 0 k s (zeroOf marks)) (f k) (step-bears 0 n s (zeroOf marks) (λ k b h. add-bears b (f k) h .0) h k (omega arith) l) .1
 
   pub sum-moves : (u : ℤ) → natAbs u ≤ t → (n : ℕ) (f f' : ℕ → Marked) → ((k : ℕ) → k < n → Moves t u (f k) (f' k))
       → Moves t u (sum marks n f) (sum marks n f')
   unfolding sum
   sum-moves u m n f f' p =
-      fold-both (λ x y. Moves t u x y) 0 n (λ k s. markedAdd s (f k)) (λ k s. markedAdd s (f' k)) (nil marks) (nil marks) (nil-moves u)
+      fold-both (λ x y. Moves t u x y) 0 n (λ k s. markedAdd s (f k)) (λ k s. markedAdd s (f' k)) (zeroOf marks) (zeroOf marks) (nil-moves u)
       (λ k h l x y q. add-moves u m x (f k) y (f' k) q (p k l))
 
   -- row after row, with one running sum
@@ -41,15 +41,15 @@ module _ {t : ℕ} where
       let s : ℕ → ℕ → Marked → Marked = λ i j s. markedAdd s (f i j) in
       let o : ℕ → Marked → Marked = λ i s₀. fold 0 c (s i) s₀ in
       let back : (i j : ℕ) (b : Marked) → Bears t (s i j b) → Bears t b = λ i j b h. add-bears b (f i j) h .0 in
-      let b : Marked = fold 0 i o (nil marks) in
-      let e : Bears t (fold 0 c (s i) b) = step-bears 0 r o (nil marks) (λ i b h. first-bears 0 c (s i) b (back i) h) h i (omega arith) k in
+      let b : Marked = fold 0 i o (zeroOf marks) in
+      let e : Bears t (fold 0 c (s i) b) = step-bears 0 r o (zeroOf marks) (λ i b h. first-bears 0 c (s i) b (back i) h) h i (omega arith) k in
       add-bears (fold 0 j (s i) b) (f i j) (step-bears 0 c (s i) b (back i) e j (omega arith) l) .1
 
   pub sumCells-moves : (u : ℤ) → natAbs u ≤ t → (r c : ℕ) (f f' : ℕ → ℕ → Marked) → ((i j : ℕ) → i < r → j < c → Moves t u (f i j) (f' i j))
       → Moves t u (sumCells marks r c f) (sumCells marks r c f')
   unfolding sumCells
   sumCells-moves u m r c f f' p =
-      fold-both (λ x y. Moves t u x y) 0 r (λ i s. fold 0 c (λ j s. markedAdd s (f i j)) s) (λ i s. fold 0 c (λ j s. markedAdd s (f' i j)) s) (nil marks) (nil marks) (nil-moves u)
+      fold-both (λ x y. Moves t u x y) 0 r (λ i s. fold 0 c (λ j s. markedAdd s (f i j)) s) (λ i s. fold 0 c (λ j s. markedAdd s (f' i j)) s) (zeroOf marks) (zeroOf marks) (nil-moves u)
       (λ i h k x y q. fold-both (λ x y. Moves t u x y) 0 c (λ j s. markedAdd s (f i j)) (λ j s. markedAdd s (f' i j)) x y q
       (λ j o l x y q. add-moves u m x (f i j) y (f' i j) q (p i j k l)))
 

@@ -10,7 +10,7 @@ use lib.Seq.{getD-set-same, getD-set-other}
 use lib.Ieee.{Float, lt}
 use borrow.Author.Tests.{eq-eqb, ne-eqb, ltb-true, ltb-false}
 use Rattle.arithmetic.specs.Numbers.{one, isZero}
-use Rattle.algebra.specs.Kind.{Arith, nil}
+use Rattle.algebra.specs.Kind.{Arith, zeroOf}
 use Rattle.algebra.specs.Product.{at, identity}
 use Rattle.algebra.specs.Jacobi.{State, ratio, tangent, cosine, sine, turnedFirst, turnedSecond, turnRow, turnColumns, rotatedCell, rotated, squared, bound, rotateTested, rotate, mirrored}
 use Rattle.algebra.proofs.FoldLaws.{span-at, length-span}
@@ -64,9 +64,9 @@ module _ {A : Type 0} (N : Arith A) where
   module _ (p q : ℕ) (t : A) (m w : List (List A)) where
     unfoldable pub value : {i j : ℕ} → Place p q i → Place p q j → A
     value {i} {j} (first _) (first _) = N .minus (at N m p p) (N .times t (at N m p q))
-    value {i} {j} (first _) (second _) = nil N
+    value {i} {j} (first _) (second _) = zeroOf N
     value {i} {j} (first _) (other _ _) = at N w j p
-    value {i} {j} (second _) (first _) = nil N
+    value {i} {j} (second _) (first _) = zeroOf N
     value {i} {j} (second _) (second _) = N .plus (at N m q q) (N .times t (at N m p q))
     value {i} {j} (second _) (other _ _) = at N w j q
     value {i} {j} (other _ _) (first _) = at N w i p
@@ -91,7 +91,7 @@ module _ {A : Type 0} (N : Arith A) where
     unfolding rotated
     rotated-at t c s m i j k o x y =
         let w : List (List A) = turnColumns N n p q c s m in
-        table-at (nil N) R C n n (rotatedCell N p q t m w) i j (N .void) k o hr hc ∙ rotated-value p q t m w h x y
+        table-at (zeroOf N) R C n n (rotatedCell N p q t m w) i j (N .void) k o hr hc ∙ rotated-value p q t m w h x y
 
   -- ---- the states of a run
   -- sizes, and the symmetry of the matrix
@@ -137,7 +137,7 @@ module _ {A : Type 0} (N : Arith A) where
         let s : A = sineAt p q m in
         let w : List (List A) = turnColumns N n p q c s m in
         record {
-          matrix = table-sized (nil N) R C n n (rotatedCell N p q t m w) hr hc;
+          matrix = table-sized (zeroOf N) R C n n (rotatedCell N p q t m w) hr hc;
           vectors = turn-sized n p q c s (x .v) (f .vectors) h l;
           mirror = λ i j k o.
               rotated-at R C n hr hc p q h l t c s m i j k o (place p q i) (place p q j)
@@ -168,7 +168,7 @@ module _ {A : Type 0} (N : Arith A) where
 
   -- ---- the first state
   abbrev pub start : ℕ → ℕ → ℕ → List (List A) → State A
-  start R C n m = record { a = mirrored N R C n m; v = identity N R C n; count = 0; seen = nil N }
+  start R C n m = record { a = mirrored N R C n m; v = identity N R C n; count = 0; seen = zeroOf N }
 
   unfoldable pub mirrorCell : List (List A) → ℕ → ℕ → A
   mirrorCell m i j = cond (ltb j i) (at N m j i) (at N m i j)
@@ -188,12 +188,12 @@ module _ {A : Type 0} (N : Arith A) where
   module _ (R C n : ℕ) (hr : n ≤ R) (hc : n ≤ C) (m : List (List A)) where
     pub mirrored-at : (i j : ℕ) → i < n → j < n → at N (mirrored N R C n m) i j ≡ mirrorCell m i j
     unfolding mirrored mirrorCell
-    mirrored-at i j k o = table-at (nil N) R C n n (mirrorCell m) i j (N .void) k o hr hc
+    mirrored-at i j k o = table-at (zeroOf N) R C n n (mirrorCell m) i j (N .void) k o hr hc
 
     pub start-fit : Fit n (start R C n m)
     unfolding mirrored identity mirrorCell
     start-fit = record {
-      matrix = table-sized (nil N) R C n n (mirrorCell m) hr hc;
-      vectors = table-sized (nil N) R C n n (λ i j. cond (eqb i j) (N .of one) (nil N)) hr hc;
+      matrix = table-sized (zeroOf N) R C n n (mirrorCell m) hr hc;
+      vectors = table-sized (zeroOf N) R C n n (λ i j. cond (eqb i j) (N .of one) (zeroOf N)) hr hc;
       mirror = λ i j k o. mirrored-at i j k o ∙ mirror-swap m i j ∙ sym (mirrored-at j i o k);
     }

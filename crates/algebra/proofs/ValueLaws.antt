@@ -14,7 +14,7 @@ use Rattle.arithmetic.specs.Numbers.{plusZero, one, isZero, sign}
 use Rattle.arithmetic.proofs.MarkLaws.{add-value, sub-value, mul-value, div-value, root-value, magnitude-value, also-value}
 use Rattle.algebra.specs.Fold.{span}
 use Rattle.algebra.specs.Table.{row, blank, table}
-use Rattle.algebra.specs.Kind.{Arith, floats, marks, nil}
+use Rattle.algebra.specs.Kind.{Arith, floats, marks, zeroOf}
 use Rattle.algebra.specs.Product.{sum, cell, product, transpose, sumCells, likeCells, trace, plusCells, minusCells, timesNumber, overNumber, identity}
 use Rattle.algebra.specs.Elimination.{Stopping, larger, pivotRow, swapRows, factor, lessBy, lessRow, cleared, eliminateColumn, eliminateTo, zeroPivot, columnOrStop, stopping, backSum, backCell, backTo, joined, refused, solution, inverse, inverseRefused}
 use Rattle.algebra.specs.Cholesky.{put, lessDot, belowDiagonal, choleskyColumn, choleskyTo, notPositive, choleskyRefused, lower}
@@ -118,12 +118,12 @@ module _ {A B : Type 0} {R : A → B → Type 0} {N : Arith A} {M : Arith B} (k 
   Like = Cells R (N .void) (M .void)
 
   table-alike : (K C r c : ℕ) (f : ℕ → ℕ → A) (g : ℕ → ℕ → B) → ((i j : ℕ) → i < r → j < c → R (f i j) (g i j))
-      → Like (table (nil N) K C r c f) (table (nil M) K C r c g)
-  table-alike K C r c f g s = table-both K C r c (nil N) (nil M) f g (k .void) (k .of plusZero) s
+      → Like (table (zeroOf N) K C r c f) (table (zeroOf M) K C r c g)
+  table-alike K C r c f g s = table-both K C r c (zeroOf N) (zeroOf M) f g (k .void) (k .of plusZero) s
 
   pub sum-alike : (n : ℕ) (f : ℕ → A) (g : ℕ → B) → ((i : ℕ) → i < n → R (f i) (g i)) → R (sum N n f) (sum M n g)
   unfolding sum
-  sum-alike n f g s = fold-both R 0 n _ _ (nil N) (nil M) (k .of plusZero) (λ i h l x y q. k .plus q (s i l))
+  sum-alike n f g s = fold-both R 0 n _ _ (zeroOf N) (zeroOf M) (k .of plusZero) (λ i h l x y q. k .plus q (s i l))
 
   pub cell-alike : (n : ℕ) {a b : List (List A)} {a′ b′ : List (List B)} (i j : ℕ) → Like a a′ → Like b b′ → R (cell N n a b i j) (cell M n a′ b′ i j)
   unfolding cell
@@ -141,7 +141,7 @@ module _ {A B : Type 0} {R : A → B → Type 0} {N : Arith A} {M : Arith B} (k 
   pub sumCells-alike : (r c : ℕ) (f : ℕ → ℕ → A) (g : ℕ → ℕ → B) → ((i j : ℕ) → i < r → j < c → R (f i j) (g i j)) → R (sumCells N r c f) (sumCells M r c g)
   unfolding sumCells
   sumCells-alike r c f g s =
-      fold-both R 0 r _ _ (nil N) (nil M) (k .of plusZero) (λ i h l x y q. fold-both R 0 c _ _ x y q (λ j v u x′ y′ q′. k .plus q′ (s i j l u)))
+      fold-both R 0 r _ _ (zeroOf N) (zeroOf M) (k .of plusZero) (λ i h l x y q. fold-both R 0 c _ _ x y q (λ j v u x′ y′ q′. k .plus q′ (s i j l u)))
 
   pub likeCells-alike : (r c : ℕ) {a b : List (List A)} {a′ b′ : List (List B)} → Like a a′ → Like b b′ → R (likeCells N r c a b) (likeCells M r c a′ b′)
   unfolding likeCells
@@ -241,9 +241,9 @@ module _ {A B : Type 0} {R : A → B → Type 0} {N : Arith A} {M : Arith B} (k 
   pub backTo-alike : {m : List (List A)} {m′ : List (List B)} (d K C n cols : ℕ) → Like m m′ → Like (backTo N d K C n cols m) (backTo M d K C n cols m′)
   unfolding backTo
   backTo-alike {m} {m′} d K C n cols p =
-      fold-both Like 0 d _ _ _ _ (blank-both K C (nil N) (nil M) (k .void) (k .of plusZero))
+      fold-both Like 0 d _ _ _ _ (blank-both K C (zeroOf N) (zeroOf M) (k .void) (k .of plusZero))
       (λ h v u x y q. each-set (n - 1 - h) q
-      (row-both C cols (nil N) (nil M) (backCell N n m x (n - 1 - h)) (backCell M n m′ y (n - 1 - h)) (k .void) (k .of plusZero)
+      (row-both C cols (zeroOf N) (zeroOf M) (backCell N n m x (n - 1 - h)) (backCell M n m′ y (n - 1 - h)) (k .void) (k .of plusZero)
       (λ j l. backCell-alike n (n - 1 - h) j p q)))
 
   pub joined-alike : {a b : List (List A)} {a′ b′ : List (List B)} (K W n cols : ℕ) → Like a a′ → Like b b′ → Like (joined N K W n cols a b) (joined M K W n cols a′ b′)

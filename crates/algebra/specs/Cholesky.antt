@@ -8,7 +8,7 @@ use lib.Ieee.{lt}
 use Rattle.arithmetic.specs.Numbers.{plusZero}
 use Rattle.algebra.specs.Fold.{fold}
 use Rattle.algebra.specs.Table.{table}
-use Rattle.algebra.specs.Kind.{Arith, nil}
+use Rattle.algebra.specs.Kind.{Arith, zeroOf}
 use Rattle.algebra.specs.Product.{at}
 
 module _ {A : Type 0} (N : Arith A) where
@@ -41,4 +41,4 @@ module _ {A : Type 0} (N : Arith A) where
 
   -- the lower half, with zeros above the diagonal
   unfoldable pub lower : ℕ → ℕ → ℕ → List (List A) → List (List A)
-  lower R C n m = table (nil N) R C n n (λ i j. cond (ltb i j) (nil N) (at N m i j))
+  lower R C n m = table (zeroOf N) R C n n (λ i j. cond (ltb i j) (zeroOf N) (at N m i j))

@@ -9,7 +9,7 @@ use lib.ListN.{getD, set}
 use Rattle.arithmetic.specs.Numbers.{isZero, isLarger}
 use Rattle.algebra.specs.Fold.{fold, span}
 use Rattle.algebra.specs.Table.{table, row, blank}
-use Rattle.algebra.specs.Kind.{Arith, nil}
+use Rattle.algebra.specs.Kind.{Arith, zeroOf}
 use Rattle.algebra.specs.Product.{at, identity}
 
 -- a run that stops: the matrix so far, and whether a zero pivot was met
@@ -75,11 +75,11 @@ module _ {A : Type 0} (N : Arith A) where
 
   -- the last d rows of X, from the last; X is stored in R rows of C
   unfoldable pub backTo : ℕ → ℕ → ℕ → ℕ → ℕ → List (List A) → List (List A)
-  backTo d R C n cols m = fold 0 d (λ d x. set x (n - 1 - d) (row (nil N) C cols (backCell n m x (n - 1 - d)))) (blank (nil N) R C)
+  backTo d R C n cols m = fold 0 d (λ d x. set x (n - 1 - d) (row (zeroOf N) C cols (backCell n m x (n - 1 - d)))) (blank (zeroOf N) R C)
 
   -- A and B side by side, in R rows of C: n columns of a, then cols of b
   unfoldable pub joined : ℕ → ℕ → ℕ → ℕ → List (List A) → List (List A) → List (List A)
-  joined R C n cols a b = table (nil N) R C n (n + cols) (λ i j. cond (ltb j n) (at N a i j) (at N b i (j - n)))
+  joined R C n cols a b = table (zeroOf N) R C n (n + cols) (λ i j. cond (ltb j n) (at N a i j) (at N b i (j - n)))
 
   -- whether A X = B is refused, and X where it is not. X is stored in R rows of C, and A beside B in R rows of W.
   unfoldable pub refused : ℕ → ℕ → ℕ → ℕ → List (List A) → List (List A) → Bool

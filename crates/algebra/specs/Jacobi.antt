@@ -12,7 +12,7 @@ use lib.Ieee.{Float, fin, lt}
 use Rattle.arithmetic.specs.Numbers.{one, isZero, sign}
 use Rattle.algebra.specs.Fold.{fold}
 use Rattle.algebra.specs.Table.{table}
-use Rattle.algebra.specs.Kind.{Arith, nil}
+use Rattle.algebra.specs.Kind.{Arith, zeroOf}
 use Rattle.algebra.specs.Product.{at, identity}
 
 -- the matrix, the vectors, the rotations made, and a number whose mark counts every product of the rotation test
@@ -58,12 +58,12 @@ module _ {A : Type 0} (N : Arith A) where
   -- cell (i, j) of the rotated matrix, from m and from w, which is m with its columns p and q turned; rows p and q mirror the columns
   unfoldable pub rotatedCell : ℕ → ℕ → A → List (List A) → List (List A) → ℕ → ℕ → A
   rotatedCell p q t m w i j =
-      cond (eqb i p) (cond (eqb j p) (N .minus (at N m p p) (N .times t (at N m p q))) (cond (eqb j q) (nil N) (at N w j p)))
-      (cond (eqb i q) (cond (eqb j q) (N .plus (at N m q q) (N .times t (at N m p q))) (cond (eqb j p) (nil N) (at N w j q)))
+      cond (eqb i p) (cond (eqb j p) (N .minus (at N m p p) (N .times t (at N m p q))) (cond (eqb j q) (zeroOf N) (at N w j p)))
+      (cond (eqb i q) (cond (eqb j q) (N .plus (at N m q q) (N .times t (at N m p q))) (cond (eqb j p) (zeroOf N) (at N w j q)))
       (at N w i j))
 
   unfoldable pub rotated : ℕ → ℕ → ℕ → ℕ → ℕ → A → A → A → List (List A) → List (List A)
-  rotated R C n p q t c s m = table (nil N) R C n n (rotatedCell p q t m (turnColumns n p q c s m))
+  rotated R C n p q t c s m = table (zeroOf N) R C n n (rotatedCell p q t m (turnColumns n p q c s m))
 
   -- the two sides of the rotation test
   unfoldable pub squared : ℕ → ℕ → List (List A) → A
@@ -100,8 +100,8 @@ module _ {A : Type 0} (N : Arith A) where
 
   -- the matrix with its lower half taken from the upper
   unfoldable pub mirrored : ℕ → ℕ → ℕ → List (List A) → List (List A)
-  mirrored R C n m = table (nil N) R C n n (λ i j. cond (ltb j i) (at N m j i) (at N m i j))
+  mirrored R C n m = table (zeroOf N) R C n n (λ i j. cond (ltb j i) (at N m j i) (at N m i j))
 
   -- 30 sweeps, with the vectors from the identity
   unfoldable pub jacobi : Float → ℕ → ℕ → ℕ → List (List A) → State A
-  jacobi limit R C n m = sweepsTo 30 limit R C n (record { a = mirrored R C n m; v = identity N R C n; count = 0; seen = nil N })
+  jacobi limit R C n m = sweepsTo 30 limit R C n (record { a = mirrored R C n m; v = identity N R C n; count = 0; seen = zeroOf N })

@@ -48,5 +48,5 @@ marks = record {
 }
 
 -- +0
-abbrev pub nil : {A : Type 0} → Arith A → A
-nil N = N .of plusZero
+abbrev pub zeroOf : {A : Type 0} → Arith A → A
+zeroOf N = N .of plusZero

@@ -6,3 +6,4 @@ pub mod Product
 pub mod Elimination
 pub mod Cholesky
 pub mod Jacobi
+pub mod Small

@@ -8,7 +8,7 @@ use lib.ListN.{getD}
 use Rattle.arithmetic.specs.Numbers.{one}
 use Rattle.algebra.specs.Fold.{fold}
 use Rattle.algebra.specs.Table.{table}
-use Rattle.algebra.specs.Kind.{Arith, nil}
+use Rattle.algebra.specs.Kind.{Arith, zeroOf}
 
 module _ {A : Type 0} (N : Arith A) where
   -- cell (i, j)
@@ -17,7 +17,7 @@ module _ {A : Type 0} (N : Arith A) where
 
   -- f 0 + .. + f (n - 1), from +0, left to right
   unfoldable pub sum : ℕ → (ℕ → A) → A
-  sum n f = fold 0 n (λ k s. N .plus s (f k)) (nil N)
+  sum n f = fold 0 n (λ k s. N .plus s (f k)) (zeroOf N)
 
   -- row i of a times column j of b, over n inner indices
   unfoldable pub cell : ℕ → List (List A) → List (List A) → ℕ → ℕ → A
@@ -25,15 +25,15 @@ module _ {A : Type 0} (N : Arith A) where
 
   -- a, r by n, times b, n by c
   unfoldable pub product : ℕ → ℕ → ℕ → ℕ → ℕ → List (List A) → List (List A) → List (List A)
-  product R C r n c a b = table (nil N) R C r c (cell n a b)
+  product R C r n c a b = table (zeroOf N) R C r c (cell n a b)
 
   -- aᵀ, for a of r rows and c columns
   unfoldable pub transpose : ℕ → ℕ → ℕ → ℕ → List (List A) → List (List A)
-  transpose R C r c a = table (nil N) R C c r (λ i j. at a j i)
+  transpose R C r c a = table (zeroOf N) R C c r (λ i j. at a j i)
 
   -- the sum of f i j over r rows and c columns, row after row, with one running sum
   unfoldable pub sumCells : ℕ → ℕ → (ℕ → ℕ → A) → A
-  sumCells r c f = fold 0 r (λ i s. fold 0 c (λ j s. N .plus s (f i j)) s) (nil N)
+  sumCells r c f = fold 0 r (λ i s. fold 0 c (λ j s. N .plus s (f i j)) s) (zeroOf N)
 
   -- document 01: "cells(A, B) sums the products of like cells"
   unfoldable pub likeCells : ℕ → ℕ → List (List A) → List (List A) → A
@@ -45,17 +45,17 @@ module _ {A : Type 0} (N : Arith A) where
 
   -- a + b, a - b, and a times the number x, cell by cell
   unfoldable pub plusCells : ℕ → ℕ → ℕ → ℕ → List (List A) → List (List A) → List (List A)
-  plusCells R C r c a b = table (nil N) R C r c (λ i j. N .plus (at a i j) (at b i j))
+  plusCells R C r c a b = table (zeroOf N) R C r c (λ i j. N .plus (at a i j) (at b i j))
 
   unfoldable pub minusCells : ℕ → ℕ → ℕ → ℕ → List (List A) → List (List A) → List (List A)
-  minusCells R C r c a b = table (nil N) R C r c (λ i j. N .minus (at a i j) (at b i j))
+  minusCells R C r c a b = table (zeroOf N) R C r c (λ i j. N .minus (at a i j) (at b i j))
 
   unfoldable pub timesNumber : ℕ → ℕ → ℕ → ℕ → List (List A) → A → List (List A)
-  timesNumber R C r c a x = table (nil N) R C r c (λ i j. N .times (at a i j) x)
+  timesNumber R C r c a x = table (zeroOf N) R C r c (λ i j. N .times (at a i j) x)
 
   unfoldable pub overNumber : ℕ → ℕ → ℕ → ℕ → List (List A) → A → List (List A)
-  overNumber R C r c a x = table (nil N) R C r c (λ i j. N .over (at a i j) x)
+  overNumber R C r c a x = table (zeroOf N) R C r c (λ i j. N .over (at a i j) x)
 
   -- the identity of n rows
   unfoldable pub identity : ℕ → ℕ → ℕ → List (List A)
-  identity R C n = table (nil N) R C n n (λ i j. cond (eqb i j) (N .of one) (nil N))
+  identity R C n = table (zeroOf N) R C n n (λ i j. cond (eqb i j) (N .of one) (zeroOf N))

@@ -20,7 +20,7 @@ use Rattle.arithmetic.proofs.RangeTest.{zero-of-test, test-of-zero}
 use Rattle.arithmetic.proofs.PlainLaws.{is-number, of-eq, clash, not-below}
 use Rattle.arithmetic.proofs.PowerOfTwo.{fits-parts}
 use Rattle.arithmetic.specs.SquareRoot.{squareRoot, Full}
-use Rattle.arithmetic.specs.RootPattern.{rootBits}
+use Rattle.arithmetic.specs.joints.RootPattern.{rootBits}
 use Rattle.arithmetic.proofs.RootPatterns.{root-bits}
 use Rattle.arithmetic.proofs.Rounding.{Within}
 

@@ -22,7 +22,7 @@ use Rattle.arithmetic.proofs.Operations.{size-pos, up-neg, down-neg}
 use Rattle.arithmetic.proofs.PowerOfTwo.{fits-parts}
 use Rattle.arithmetic.specs.SquareRoot.{wholeRoot, half, parity, missingDigits, radicand, rounded, rootAt, squareRoot}
 use Rattle.arithmetic.proofs.RootWhole.{Roots, root-roots, roots-unique, below, half-add}
-use Rattle.arithmetic.specs.RootPattern.{lead, expo, pattern, rootPattern, rootBits}
+use Rattle.arithmetic.specs.joints.RootPattern.{lead, expo, pattern, rootPattern, rootBits}
 use Rattle.arithmetic.specs.SquareRoot.{Full}
 
 no-shift : (M N a b : ℕ) → Full M → Full N → M * 2 ^ a ≡ N * 2 ^ b → a < b → ⊥

@@ -2,5 +2,5 @@
 pub mod Numbers
 pub mod Scale
 pub mod SquareRoot
-pub mod RootPattern
 pub mod Marks
+pub mod joints

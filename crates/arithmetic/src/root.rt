@@ -2,7 +2,7 @@
 ghost use mathlib.Core.Path.{_≡_};
 ghost use Prim.Native.Nat.{_+_, _*_, _^_, _<_, _≤_};
 ghost use Rattle.arithmetic.specs.SquareRoot.{wholeRoot, squareRoot, missingDigits};
-ghost use Rattle.arithmetic.specs.RootPattern.{rootBits, rootPattern};
+ghost use Rattle.arithmetic.specs.joints.RootPattern.{rootBits, rootPattern};
 use crate::plain::to_bits;
 
 // The whole part of the square root of a * 2^44, digit by digit: two binary digits of it are brought down a turn, and give one of the root.

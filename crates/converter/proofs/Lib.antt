@@ -1,9 +1,15 @@
--- The third demand: the two theorems, and the laws that lead to them from those of the converted file and of the two tests.
-pub mod SeriesCall
-pub mod Operands
-pub mod Parameters
-pub mod ParametersCall
-pub mod Theorems
-pub mod PullExample
-pub mod ParameterExample
-pub mod Lot
+-- The laws of the converted file.
+pub mod Bytes
+pub mod Fields
+pub mod Scans
+pub mod SameFile
+pub mod SameSeries
+pub mod Cells
+pub mod Limits
+pub mod Refusals
+pub mod Named
+pub mod Series
+pub mod SameSizes
+pub mod Input
+pub mod Satterthwaite
+pub mod Examples

@@ -1,3 +1,4 @@
--- Document 01's third demand, over record files: what it says of each of the two calls. Definitions alone.
+-- Document 01's third demand: the record file that a change of converter gives, and what is promised of each of the two calls on it. Definitions alone.
+pub mod Converted
 pub mod SeriesDemand
 pub mod ParametersDemand

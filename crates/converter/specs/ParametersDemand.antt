@@ -8,11 +8,11 @@ use mathlib.Core.List.{List}
 use lib.Dec.{T}
 use lib.IntN.{ℤ, natAbs}
 use lib.Ieee.{binary64, fits}
-use Rattle.adjustment.specs.declared.Cutoffs.{Cutoffs}
-use Rattle.adjustment.specs.Cutoffs.{documentCutoffs}
-use Rattle.satterthwaite.specs.Call.{number, entry}
-use Rattle.converted_run.specs.Verdict.{verdict}
-use Rattle.converted.specs.Converted.{satterthwaiteChange, converted}
+use Rattle.arithmetic_cutoffs.specs.declared.Cutoffs.{Cutoffs}
+use Rattle.arithmetic_cutoffs.specs.Cutoffs.{documentCutoffs}
+use Rattle.records.specs.SatterthwaiteCall.{number, entry}
+use Rattle.tests.specs.Verdict.{verdict}
+use Rattle.converter.specs.Converted.{satterthwaiteChange, converted}
 
 -- s' is accepted, and its entry has the rank, F and df of the entry of s, none where that has none; the marks may differ
 pub record SameVerdict (c : Cutoffs) (s s' : List ℕ) : Type 0 where
@@ -20,9 +20,9 @@ pub record SameVerdict (c : Cutoffs) (s s' : List ℕ) : Type 0 where
   pub same : verdict (entry c s') ≡ verdict (entry c s)
 
 -- every file that is accepted with its entry inside, k from -32 to 32
-abbrev pub Survives : Cutoffs → Type 0
-Survives c = (s : List ℕ) (k : ℤ) → natAbs k ≤ 32 → number c s ≡ 0 → entry c s .inside ≡ true → SameVerdict c s (converted (satterthwaiteChange k) s)
+abbrev pub CallSurvives : Cutoffs → Type 0
+CallSurvives c = (s : List ℕ) (k : ℤ) → natAbs k ≤ 32 → number c s ≡ 0 → entry c s .inside ≡ true → SameVerdict c s (converted (satterthwaiteChange k) s)
 
 -- THE THIRD DEMAND, for the Satterthwaite call: with document 01's cutoffs, and with any others of which the one that Jacobi's rotation test reads is an f64 number
 abbrev pub SatterthwaiteDemand : Type 0
-SatterthwaiteDemand = Survives documentCutoffs × ((c : Cutoffs) → T (fits binary64 (c .rotation)) → Survives c)
+SatterthwaiteDemand = CallSurvives documentCutoffs × ((c : Cutoffs) → T (fits binary64 (c .rotation)) → CallSurvives c)

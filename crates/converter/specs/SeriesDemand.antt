@@ -7,12 +7,12 @@ use mathlib.Core.Bool.{true}
 use mathlib.Core.List.{List, map}
 use lib.IntN.{ℤ, natAbs}
 use lib.ListN.{getD}
-use Rattle.adjustment.specs.declared.Cutoffs.{Cutoffs}
-use Rattle.answers.specs.Answer.{noEntry}
+use Rattle.arithmetic_cutoffs.specs.declared.Cutoffs.{Cutoffs}
+use Rattle.tests.specs.Answer.{noEntry}
 use Rattle.records.specs.Series.{coefficients, contrastRows}
-use Rattle.kenward_roger.specs.Call.{number, entries}
-use Rattle.converted_run.specs.Verdict.{verdict}
-use Rattle.converted.specs.Converted.{kenwardRogerChange, converted}
+use Rattle.records.specs.KenwardRogerCall.{number, entries}
+use Rattle.tests.specs.Verdict.{verdict}
+use Rattle.converter.specs.Converted.{kenwardRogerChange, converted}
 
 -- "a run is inside when all its entries are": those in use, which are the coefficients' and, where the file has a contrast, entry 6
 pub record AllInside (c : Cutoffs) (s : List ℕ) : Type 0 where

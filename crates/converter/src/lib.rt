@@ -1,1 +1,1 @@
-// Document 01's third demand, whole: the verdicts of a record file survive a change of converter. Definitions and theorems alone, no code.
+// What a change of converter does to a record file: the converted file, and what of it stays as it was. Definitions and theorems alone, no code.

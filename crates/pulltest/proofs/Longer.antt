@@ -5,10 +5,10 @@ use mathlib.Core.Path.{_≡_, sym, _∙_}
 use mathlib.Core.List.{List}
 use lib.ListN.{length, take}
 use lib.Seq.{length-take-le}
-use Rattle.adjustment.specs.declared.Cutoffs.{Cutoffs}
-use Rattle.series.proofs.Length.{too-long}
-use Rattle.kenward_roger.specs.Call.{number}
-use Rattle.kenward_roger.proofs.Numbers.{early-number}
+use Rattle.arithmetic_cutoffs.specs.declared.Cutoffs.{Cutoffs}
+use Rattle.records_series.proofs.Length.{too-long}
+use Rattle.records.specs.KenwardRogerCall.{number}
+use Rattle.records_kenward_roger.proofs.Numbers.{early-number}
 
 long : (c : Cutoffs) (s : List ℕ) → 13360 < length s → number c s ≡ 2
 long c s h = sym (early-number c s 2 (sym (too-long s h)) (omega arith))

@@ -5,6 +5,6 @@ fn main() {
     let mut file = [0u8; 13361];
     let mut out = [0u8; 512];
     let n = io::read_full(0, &mut file);
-    let m = kenward_roger::text(&file[..n], &mut out);
+    let m = records_kenward_roger::text(&file[..n], &mut out);
     io::write_all(1, &out[..m]);
 }

@@ -5,7 +5,7 @@ use mathlib.Core.Bool.{Bool, true, false}
 use mathlib.Core.List.{List, [], _∷_, _++_}
 use lib.Ieee.{ofBits, le, eq}
 use Rattle.arithmetic.specs.Numbers.{isFinite, isZero}
-use Rattle.little_endian.specs.Bytes.{word, long, bytesOf}
+use Rattle.records.specs.Bytes.{word, long, bytesOf}
 use Rattle.records.specs.Scan.{any, most, last, total, first}
 use Rattle.records.specs.Kinds.{kindAt, kenwardRoger}
 use Rattle.records.specs.File.{outOf, badRecord, isCell, again, has, cell, rows, columns, beyond, missing, notFinite}

@@ -1,6 +1,2 @@
--- The laws of the reader.
-pub mod Laws
-pub mod Slots
-pub mod Sheets
-pub mod Limits
+-- Examples, computed from the definitions.
 pub mod Examples

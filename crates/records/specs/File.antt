@@ -8,7 +8,7 @@ use lib.ListN.{length}
 use lib.Ieee.{Float, binary64, ofBits}
 use Rattle.arithmetic.specs.Numbers.{plusZero, isFinite}
 use Rattle.records.specs.declared.Kind.{Kind}
-use Rattle.little_endian.specs.Bytes.{byte, word, long}
+use Rattle.records.specs.Bytes.{byte, word, long}
 use Rattle.records.specs.Scan.{any, most, last}
 use Rattle.records.specs.Kinds.{Table, kindAt}
 

@@ -1,6 +1,11 @@
--- Document 01, "kenward_roger.rs and records" and "Refusals": the record files. Definitions alone.
+-- Document 01, "kenward_roger.rs and records" and "Refusals": the record files, the two calls whole, and what `pulltest` prints. Definitions alone, in the document's order.
 pub mod Scan
+pub mod Bytes
 pub mod Kinds
 pub mod File
 pub mod Series
-pub mod Sheet
+pub mod Parameters
+pub mod Layout
+pub mod KenwardRogerCall
+pub mod SatterthwaiteCall
+pub mod Text

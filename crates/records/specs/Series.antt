@@ -7,9 +7,10 @@ use lib.ListN.{length}
 use lib.Ieee.{Float, le}
 use Rattle.arithmetic.specs.Numbers.{plusZero, isZero}
 use Rattle.algebra.specs.Table.{row, table}
+use Rattle.algebra.specs.Small.{Rows}
 use Rattle.adjustment.specs.declared.Block.{Block}
-use Rattle.adjustment.specs.Blocks.{noBlock}
-use Rattle.adjustment.specs.Covariance.{Rows, Design}
+use Rattle.adjustment.specs.Blocks.{noBlock, places}
+use Rattle.adjustment.specs.Covariance.{Design}
 use Rattle.records.specs.Scan.{any, last, total, first}
 use Rattle.records.specs.Kinds.{Table, cells, blocks, unread, kenwardRoger}
 use Rattle.records.specs.File.{count, columnOf, countOf, isCell, cell, rows, columns, present, badRecord, again, beyond, missing, notFinite}
@@ -53,11 +54,11 @@ sizes s = record {
 }
 
 -- the number in a cell of a kind that is named by row and column
-abbrev pub number : List ℕ → ℕ → ℕ → ℕ → Float
-number s k r c = cell kenwardRoger s k 0 r c
+abbrev pub cellValue : List ℕ → ℕ → ℕ → ℕ → Float
+cellValue s k r c = cell kenwardRoger s k 0 r c
 
 abbrev pub sigma2 : List ℕ → Float
-sigma2 s = number s 7 0 0
+sigma2 s = cellValue s 7 0 0
 
 -- "3 block (row its number, column k, count m)"
 unfoldable pub blockOf : List ℕ → ℕ → Block
@@ -67,10 +68,6 @@ blockOf s b =
       groups = last (count s) (isCell kenwardRoger s 3 0 b 0) (countOf s) 0;
     }
 
--- k (k + 1) / 2
-abbrev pub parametersOf : Block → ℕ
-parametersOf b = b .effects * (b .effects + 1) / 2
-
 -- 2, "missing": every cell has to be there, but Z's, where "absent is 0"
 unfoldable pub incomplete : List ℕ → Bool
 incomplete s = any 11 (λ k. not (eqb k 2) && missing kenwardRoger (sizes s) s k)
@@ -79,21 +76,21 @@ incomplete s = any 11 (λ k. not (eqb k 2) && missing kenwardRoger (sizes s) s k
 unfoldable pub badSize : List ℕ → Bool
 badSize s =
     any (blockCount s) (λ b. not (eqb (blockOf s b .effects) 1 || eqb (blockOf s b .effects) 2) || eqb (blockOf s b .groups) 0)
-    || ltb 3 (total (blockCount s) (λ b. parametersOf (blockOf s b)))
+    || ltb 3 (total (blockCount s) (λ b. places (blockOf s b)))
 
 -- 6
 unfoldable pub badWeight : List ℕ → Bool
-badWeight s = present s 5 && any (specimens s) (λ i. le (number s 5 i 0) plusZero)
+badWeight s = present s 5 && any (specimens s) (λ i. le (cellValue s 5 i 0) plusZero)
 
 -- 7, "sum of m·k ≠ Z columns, or theta count ≠ sum of k(k+1)/2"
 unfoldable pub misfit : List ℕ → Bool
 misfit s =
     not (eqb (total (blockCount s) (λ b. blockOf s b .groups * blockOf s b .effects)) (zColumns s))
-    || not (eqb (thetas s) (total (blockCount s) (λ b. parametersOf (blockOf s b))))
+    || not (eqb (thetas s) (total (blockCount s) (λ b. places (blockOf s b))))
 
 -- 8, "Kenward–Roger contrast all zero"
 unfoldable pub zeroContrast : List ℕ → Bool
-zeroContrast s = present s 9 && not (any (contrastRows s) (λ r. any (coefficients s) (λ c. not (isZero (number s 9 r c)))))
+zeroContrast s = present s 9 && not (any (contrastRows s) (λ r. any (coefficients s) (λ c. not (isZero (cellValue s 9 r c)))))
 
 -- "Refusals, lowest number first": what refuses a file before anything is computed, in order
 unfoldable pub reasons : List ℕ → List (ℕ × Bool)
@@ -119,24 +116,24 @@ unfoldable pub design : List ℕ → Design
 design s = record {
   n = specimens s;
   p = coefficients s;
-  x = table plusZero (specimens s) (coefficients s) (specimens s) (coefficients s) (number s 1);
-  z = table plusZero (specimens s) (zColumns s) (specimens s) (zColumns s) (number s 2);
+  x = table plusZero (specimens s) (coefficients s) (specimens s) (coefficients s) (cellValue s 1);
+  z = table plusZero (specimens s) (zColumns s) (specimens s) (zColumns s) (cellValue s 2);
   weighted = present s 5;
-  weights = row plusZero 24 (specimens s) (λ i. number s 5 i 0);
+  weights = row plusZero 24 (specimens s) (λ i. cellValue s 5 i 0);
   blocks = row noBlock 3 (blockCount s) (blockOf s);
   count = blockCount s;
-  theta = row plusZero 3 (thetas s) (λ i. number s 4 i 0);
+  theta = row plusZero 3 (thetas s) (λ i. cellValue s 4 i 0);
 }
 
 unfoldable pub phi : List ℕ → Rows
-phi s = table plusZero 6 6 (coefficients s) (coefficients s) (number s 6)
+phi s = table plusZero 6 6 (coefficients s) (coefficients s) (cellValue s 6)
 
 unfoldable pub beta : List ℕ → List Float
-beta s = row plusZero 6 (coefficients s) (λ i. number s 8 i 0)
+beta s = row plusZero 6 (coefficients s) (λ i. cellValue s 8 i 0)
 
 -- "(β_H is then 0)"
 unfoldable pub betaH : List ℕ → List Float
-betaH s = row plusZero 6 (coefficients s) (λ i. number s 10 i 0)
+betaH s = row plusZero 6 (coefficients s) (λ i. cellValue s 10 i 0)
 
 unfoldable pub contrast : List ℕ → Rows
-contrast s = table plusZero 6 6 (contrastRows s) (coefficients s) (number s 9)
+contrast s = table plusZero 6 6 (contrastRows s) (coefficients s) (cellValue s 9)

@@ -1,4 +1,7 @@
--- The laws of the tests.
-pub mod Parts
-pub mod RunLaws
-pub mod Bench
+-- The laws of the tests: the Satterthwaite test under a change of converter, and the bench examples, computed.
+pub mod MovingOrder
+pub mod MovingVariance
+pub mod MovingComponents
+pub mod SatterthwaiteSurvives
+pub mod DdfBench
+pub mod KenwardRogerBench

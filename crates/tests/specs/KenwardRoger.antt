@@ -14,18 +14,15 @@ use Rattle.algebra.specs.Table.{table, row, blank}
 use Rattle.algebra.specs.Kind.{marks}
 use Rattle.algebra.specs.Product.{at, sum, product, transpose}
 use Rattle.algebra.specs.Elimination.{solution, refused}
-use Rattle.products.specs.Small.{sandwich, givenCells, values, allMarks}
-use Rattle.adjustment.specs.declared.Cutoffs.{Cutoffs}
+use Rattle.algebra.specs.Small.{MarkedRows, Rows, sandwich, givenCells, values, allMarks}
+use Rattle.arithmetic_cutoffs.specs.declared.Cutoffs.{Cutoffs}
 use Rattle.adjustment.specs.Adjusted.{Adjustment, matrixAt, scaledUp, scaledDown}
-use Rattle.answers.specs.declared.Number.{Number}
-use Rattle.answers.specs.declared.Number.the-variants.{Is, None}
-use Rattle.answers.specs.declared.Entry.{Entry}
-use Rattle.answers.specs.Answer.{numberOf, noEntry}
-use Rattle.contrast_basis.specs.Basis.{Rows, Basis, contrastBasis}
-use Rattle.moments.specs.Moments.{a1Of, a2Of, dfOf, scalingOf, fOf}
-
-abbrev pub MarkedRows : Type 0
-MarkedRows = List (List Marked)
+use Rattle.tests.specs.declared.Number.{Number}
+use Rattle.tests.specs.declared.Number.the-variants.{Is, None}
+use Rattle.tests.specs.declared.Entry.{Entry}
+use Rattle.tests.specs.Answer.{numberOf, noEntry}
+use Rattle.tests.specs.Basis.{Basis, contrastBasis}
+use Rattle.tests.specs.Moments.{a1Of, a2Of, dfOf, scalingOf, fOf}
 
 -- what a test starts from, in response units: Φ, Φ_A and the Ps scaled by sigma2, and W
 pub record Scaled : Type 0 where

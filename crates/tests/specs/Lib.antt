@@ -1,2 +1,12 @@
--- Document 01, "kr_modcomp.rs" and "kenward_roger.rs": the contrast tests. Definitions alone.
+-- Document 01, "kr_modcomp.rs", "ddf.rs" and the run of "kenward_roger.rs": the two tests and what they answer. Definitions alone, in the document's order.
+pub mod Answer
+pub mod Verdict
+pub mod Order
+pub mod Basis
+pub mod Moments
 pub mod KenwardRoger
+pub mod Used
+pub mod Entries
+pub mod VarianceDf
+pub mod PooledDf
+pub mod Satterthwaite

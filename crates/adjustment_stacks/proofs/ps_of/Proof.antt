@@ -1,7 +1,7 @@
 -- `adjustment_stacks::ps_of` meets its contract.
 use Rattle.adjustment_stacks.proofs.InformationLaws.{p-more}
 use Rattle.adjustment_work.proofs.WorkLaws.{part-held}
-use Rattle.adjustment_work.specs.Steps.{sxAt, oAt}
+use Rattle.adjustment_work.specs.joints.Steps.{sxAt, oAt}
 use Rattle.adjustment.specs.Adjusted.{stack}
 use Rattle.adjustment.specs.Information.{pRows}
 use Rattle.algebra.proofs.FoldLaws.{fold-start, fold-end}

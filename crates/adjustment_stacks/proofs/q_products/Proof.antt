@@ -1,9 +1,9 @@
 -- `adjustment_stacks::q_products` meets its contract.
 use Rattle.adjustment_stacks.proofs.InformationLaws.{q-more}
 use Rattle.adjustment_work.proofs.WorkLaws.{part-held, turned-held}
-use Rattle.adjustment_work.specs.Steps.{oAt, qRowTo}
-use Rattle.adjustment_work.specs.Work.{part}
-use Rattle.large.specs.Slab.{rowsAt}
+use Rattle.adjustment_work.specs.joints.Steps.{oAt, qRowTo}
+use Rattle.adjustment_work.specs.joints.Work.{part}
+use Rattle.algebra_large.specs.joints.Slab.{rowsAt}
 use Rattle.algebra.proofs.FoldLaws.{fold-start, fold-end}
 use Rattle.algebra.specs.Product.{product}
 use Rattle.algebra.specs.Kind.{floats}

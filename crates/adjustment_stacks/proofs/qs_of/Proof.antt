@@ -1,6 +1,6 @@
 -- `adjustment_stacks::qs_of` meets its contract.
 use Rattle.adjustment_stacks.proofs.InformationLaws.{qsTo, qs-none, qs-more, qs-end, turned-more}
-use Rattle.adjustment_work.specs.Steps.{sAt, oAt, turnedTo}
+use Rattle.adjustment_work.specs.joints.Steps.{sAt, oAt, oTransposedSTo}
 use Rattle.adjustment.specs.Information.{qRows}
 use Rattle.algebra.proofs.FoldLaws.{fold-start, fold-end}
 use borrow.Author.Needs.{needs}
@@ -12,7 +12,7 @@ use Rattle.adjustment_stacks.proofs.qs_of.Statement.{statement}
 use Rattle.adjustment_stacks.proofs.qs_of.Tie as tie
 
 abbrev Inv-loop : tie.InvT-loop
-Inv-loop narrow₀ s work n p k out₀ r₀ narrow out r = (r ≤ k) × (length narrow ≡ length narrow₀) × (narrow ≡ turnedTo s n p r (oAt s n p narrow₀) (sAt s n work) narrow₀) × (out ≡ qsTo k r (λ r t. qRows n p (oAt s n p narrow₀ r) (sAt s n work) (oAt s n p narrow₀ t)))
+Inv-loop narrow₀ s work n p k out₀ r₀ narrow out r = (r ≤ k) × (length narrow ≡ length narrow₀) × (narrow ≡ oTransposedSTo s n p r (oAt s n p narrow₀) (sAt s n work) narrow₀) × (out ≡ qsTo k r (λ r t. qRows n p (oAt s n p narrow₀ r) (sAt s n work) (oAt s n p narrow₀ t)))
 
 abbrev μ-loop : tie.MeasureT-loop
 μ-loop narrow₀ s work n p k out₀ r₀ narrow out r = k - r
@@ -21,7 +21,7 @@ zeros-requires : tie.Need-zeros-requires Inv-loop μ-loop
 zeros-requires c κs = search needs
 
 loop-holds : tie.Need-loop-holds Inv-loop μ-loop
-unfolding turnedTo
+unfolding oTransposedSTo
 loop-holds c = (omega arith, refl, fold-start _ _ _, qs-none _ _ _ (c .zeros .ensures))
 
 q-row-requires : tie.Need-q-row-requires Inv-loop μ-loop
@@ -49,7 +49,7 @@ same-length : tie.Need-same-length Inv-loop μ-loop
 same-length c = c .before .loop .inv .1
 
 returns : tie.Need-returns Inv-loop μ-loop
-unfolding turnedTo
+unfolding oTransposedSTo
 returns c = (qs-end _ _ _ _ (c .before .loop .inv .0) (c .loop-test .left) (c .before .loop .inv .3), fold-end _ _ _ _ _ _ (c .before .loop .inv .0) (c .loop-test .left) (c .before .loop .inv .2))
 
 pub qs-of-spec : {M : Type 1} → statement M

@@ -1,5 +1,5 @@
 -- `adjustment_stacks::upper_cell` meets its contract.
-use Rattle.adjustment_work.specs.Steps.{upperCell}
+use Rattle.adjustment_work.specs.joints.Steps.{upperCell}
 use borrow.Author.Tests.{le-leb, lt-leb}
 use lib.Ieee.{ofBits}
 use native.Mathlib.Omega.{arith}

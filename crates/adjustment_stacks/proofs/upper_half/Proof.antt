@@ -1,6 +1,6 @@
 -- `adjustment_stacks::upper_half` meets its contract.
-use Rattle.adjustment_work.specs.Steps.{ieAt, upperCell, upper}
-use Rattle.products.proofs.LoopLaws.{table-end}
+use Rattle.adjustment_work.specs.joints.Steps.{ieAt, upperCell, upper}
+use Rattle.algebra_products.proofs.LoopLaws.{table-end}
 use Rattle.algebra.specs.Table.{table}
 use Rattle.algebra.proofs.TableLaws.{table-none, Filling, filling-none, filling-more, filling-row}
 use Rattle.arithmetic.specs.Numbers.{plusZero}

@@ -2,12 +2,12 @@
 use Rattle.adjustment_work.proofs.FillLaws.{h-more}
 use Rattle.adjustment_work.proofs.StackLaws.{stack-none, stack-end}
 use Rattle.adjustment_work.proofs.WorkLaws.{square-held, squares-apart}
-use Rattle.adjustment_work.specs.Steps.{sAt}
-use Rattle.adjustment_work.specs.Work.{putStack}
-use Rattle.covariance.specs.Lent.{design}
+use Rattle.adjustment_work.specs.joints.Steps.{sAt}
+use Rattle.adjustment_work.specs.joints.Work.{putStack}
+use Rattle.adjustment_covariance.specs.joints.Lent.{design}
 use Rattle.adjustment.specs.Information.{hRows}
 use Rattle.adjustment.specs.Covariance.{gRows}
-use Rattle.large.specs.Slab.{rowsAt}
+use Rattle.algebra_large.specs.joints.Slab.{rowsAt}
 use native.Mathlib.Omega.{arith}
 use lib.ListN.{length}
 use mathlib.Core.List.{[]}

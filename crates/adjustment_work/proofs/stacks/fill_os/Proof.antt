@@ -2,10 +2,10 @@
 use Rattle.adjustment_work.proofs.FillLaws.{o-more}
 use Rattle.adjustment_work.proofs.StackLaws.{stack-none, stack-end}
 use Rattle.adjustment_work.proofs.WorkLaws.{square-held, part-held}
-use Rattle.adjustment_work.specs.Steps.{hAt}
-use Rattle.adjustment_work.specs.Work.{putStack}
+use Rattle.adjustment_work.specs.joints.Steps.{hAt}
+use Rattle.adjustment_work.specs.joints.Work.{putStack}
 use Rattle.adjustment.specs.Information.{oRows}
-use Rattle.large.specs.Slab.{rowsAt}
+use Rattle.algebra_large.specs.joints.Slab.{rowsAt}
 use native.Mathlib.Omega.{arith}
 use lib.ListN.{length}
 use mathlib.Core.Path.{_≡_, refl, _∙_}

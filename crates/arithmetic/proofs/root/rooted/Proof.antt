@@ -4,7 +4,7 @@ use native.Mathlib.Nat.{mod-lt, zero-lt-suc}
 use mathlib.Core.Path.{_≡_, ap, subst, sym, _∙_}
 use Prim.Native.Nat.{ℕ, _+_, _/_, _<_, _^_, _%_}
 use Rattle.arithmetic.specs.SquareRoot.{wholeRoot, radicand}
-use Rattle.arithmetic.specs.RootPattern.{pattern}
+use Rattle.arithmetic.specs.joints.RootPattern.{pattern}
 use Rattle.arithmetic.proofs.RootPatterns.{whole-is, root-small}
 use borrow.Author.Needs.{needs}
 use Rattle.arithmetic.proofs.root.rooted.Statement.{statement}

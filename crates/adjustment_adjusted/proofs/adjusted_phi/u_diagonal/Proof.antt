@@ -1,0 +1,53 @@
+-- `adjustment_adjusted::adjusted_phi::u_diagonal` meets its contract.
+use Prim.Native.Nat.{_≤_, _-_}
+use mathlib.Core.Path.{_≡_}
+use Rattle.algebra.proofs.FoldLaws.{fold-start, fold-next, fold-end}
+use Rattle.adjustment.specs.Adjusted.{uDiagonalTo}
+use Rattle.adjustment.proofs.AdjustedLaws.{plus-is}
+use native.Mathlib.Omega.{arith}
+use Rattle.adjustment_adjusted.proofs.adjusted_phi.u_diagonal.Statement.{statement}
+use Rattle.adjustment_adjusted.proofs.adjusted_phi.u_diagonal.Tie as tie
+
+abbrev Inv-loop : tie.InvT-loop
+Inv-loop p n phi ps qs w out₀ r₀ out r = (r ≤ n) × (out ≡ uDiagonalTo p n phi ps qs w r out₀)
+
+abbrev μ-loop : tie.MeasureT-loop
+μ-loop p n phi ps qs w out₀ r₀ out r = n - r
+
+loop-holds : tie.Need-loop-holds Inv-loop μ-loop
+unfolding uDiagonalTo
+loop-holds c = (omega arith, fold-start _ _ _)
+
+u-term-at-requires : tie.Need-u-term-at-requires Inv-loop μ-loop
+u-term-at-requires c κs = omega arith
+
+plus-cells-requires : tie.Need-plus-cells-requires Inv-loop μ-loop
+plus-cells-requires c κs = omega arith
+
+add-r : tie.Need-add-r Inv-loop μ-loop
+add-r c = omega arith
+
+loop-less : tie.Need-loop-less Inv-loop μ-loop
+loop-less c = omega arith
+
+loop-again : tie.Need-loop-again Inv-loop μ-loop
+unfolding uDiagonalTo
+loop-again c = (omega arith, fold-next _ _ _ _ _ _ (omega arith) (c .before .before .before .loop .inv .1) (plus-is _ _ _ _ _ (c .before .u-term-at .ensures) (c .plus-cells .ensures)))
+
+returns : tie.Need-returns Inv-loop μ-loop
+unfolding uDiagonalTo
+returns c = fold-end _ _ _ _ _ _ (c .before .loop .inv .0) (c .loop-test .left) (c .before .loop .inv .1)
+
+pub u-diagonal-spec : {M : Type 1} → statement M
+u-diagonal-spec =
+    tie.close
+    (tie.spec
+    Inv-loop
+    μ-loop
+    loop-holds
+    u-term-at-requires
+    plus-cells-requires
+    add-r
+    loop-less
+    loop-again
+    returns)

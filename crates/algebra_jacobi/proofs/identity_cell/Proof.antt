@@ -1,0 +1,16 @@
+-- `algebra_jacobi::identity_cell` meets its contract.
+use lib.Ieee.{ofBits}
+use borrow.Author.Tests.{eq-eqb, ne-eqb}
+use Rattle.algebra_jacobi.proofs.identity_cell.Statement.{statement}
+use Rattle.algebra_jacobi.proofs.identity_cell.Tie as tie
+
+returns : tie.Need-returns
+unfolding ofBits
+returns c = rw (eq-eqb _ _ (c .if1 .taken))
+
+returns-2 : tie.Need-returns-2
+unfolding ofBits
+returns-2 c = rw (ne-eqb _ _ (c .if1 .left))
+
+pub identity-cell-spec : {M : Type 1} → statement M
+identity-cell-spec = tie.close (tie.spec returns returns-2)

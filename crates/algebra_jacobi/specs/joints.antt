@@ -1,0 +1,4 @@
+-- Files that join code to its definitions. None is needed to check document 01.
+pub mod Starts
+pub mod States
+pub mod Rotated

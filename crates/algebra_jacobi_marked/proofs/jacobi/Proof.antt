@@ -1,0 +1,28 @@
+-- `algebra_jacobi_marked::jacobi` meets its contract.
+use Rattle.algebra.specs.Kind.{marks}
+use Rattle.algebra_jacobi.proofs.Counts.{jacobi-is}
+use borrow.Author.Needs.{needs}
+use Rattle.algebra_jacobi_marked.proofs.jacobi.Statement.{statement}
+use Rattle.algebra_jacobi_marked.proofs.jacobi.Tie as tie
+
+mirrored-requires : tie.Need-mirrored-requires
+mirrored-requires c κs = search needs
+
+identity-requires : tie.Need-identity-requires
+identity-requires c κs = search needs
+
+both-of-requires : tie.Need-both-of-requires
+both-of-requires c κs = search needs
+
+sweeps-requires : tie.Need-sweeps-requires
+sweeps-requires c κs = search needs
+
+returns : tie.Need-returns
+returns c =
+    let d = c .before .before .before in
+    jacobi-is marks _ _ _ _ _ _ _ _ (d .before .before .mirrored .ensures) (d .before .identity .ensures) (rw (d .both-of .ensures) at (c .sweeps .ensures)) (d .before .before .before .pre)
+
+pub jacobi-spec : {M : Type 1} → statement M
+jacobi-spec =
+    tie.close
+    (tie.spec mirrored-requires identity-requires both-of-requires sweeps-requires returns)

@@ -1,0 +1,49 @@
+-- `algebra_jacobi_marked::sweeps` meets its contract.
+use Prim.Native.Nat.{_≤_, _-_}
+use mathlib.Core.Path.{_≡_}
+use Rattle.algebra.specs.Kind.{marks}
+use Rattle.algebra.specs.Jacobi.{sweepsTo}
+use Rattle.algebra.proofs.FoldLaws.{fold-start, fold-next, fold-end}
+use Rattle.algebra_jacobi.specs.joints.States.{markedState}
+use Rattle.algebra_jacobi.proofs.Counts.{sweeps-limit}
+use native.Mathlib.Omega.{arith}
+use Rattle.algebra_jacobi_marked.proofs.sweeps.Statement.{statement}
+use Rattle.algebra_jacobi_marked.proofs.sweeps.Tie as tie
+
+abbrev Inv-loop : tie.InvT-loop
+Inv-loop n limit count₀ inside₀ out₀ i₀ count inside out i = (i ≤ 30) × (markedState out count inside ≡ sweepsTo marks i limit 6 6 n (markedState out₀ count₀ inside₀))
+
+abbrev μ-loop : tie.MeasureT-loop
+μ-loop n limit count₀ inside₀ out₀ i₀ count inside out i = 30 - i
+
+loop-holds : tie.Need-loop-holds Inv-loop μ-loop
+unfolding sweepsTo
+loop-holds c = (omega arith, fold-start _ _ _)
+
+sweep-requires : tie.Need-sweep-requires Inv-loop μ-loop
+sweep-requires c κs =
+    let v = c .before .before .before .loop .inv in
+    omega (arith, sweeps-limit marks _ _ _ _ _ _ _ (v .1) (omega arith))
+
+add-i : tie.Need-add-i Inv-loop μ-loop
+add-i c = omega arith
+
+loop-less : tie.Need-loop-less Inv-loop μ-loop
+loop-less c = omega arith
+
+loop-again : tie.Need-loop-again Inv-loop μ-loop
+unfolding sweepsTo
+loop-again c =
+    let v = c .before .before .before .before .loop .inv in
+    (omega arith, fold-next _ _ _ _ _ _ (omega arith) (v .1) (c .sweep .ensures))
+
+returns : tie.Need-returns Inv-loop μ-loop
+unfolding sweepsTo
+returns c =
+    let v = c .before .loop .inv in
+    fold-end _ _ _ _ _ _ (v .0) (c .loop-test .left) (v .1)
+
+pub sweeps-spec : {M : Type 1} → statement M
+sweeps-spec =
+    tie.close
+    (tie.spec Inv-loop μ-loop loop-holds sweep-requires add-i loop-less loop-again returns)

@@ -1,2 +1,0 @@
--- Document 01: the answer bytes.
-pub mod Layout

@@ -1,3 +1,0 @@
--- Document 01: what `pulltest` prints.
-pub mod Text
-pub mod Cursor

@@ -1,2 +1,0 @@
--- Document 01: what a test answers.
-pub mod Answer

@@ -1,2 +1,0 @@
--- Document 01, "kr_modcomp.rs": the contrast basis. Definitions alone.
-pub mod Basis

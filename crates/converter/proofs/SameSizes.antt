@@ -1,0 +1,108 @@
+-- What a file that is not refused gives to the run: sizes within document 01's limits, and f64 numbers in the cells that the run reads.
+use Prim.Native.Nat.{ℕ, zero, suc, _+_, _<_, _≤_, max}
+use native.Mathlib.Omega.{arith}
+use mathlib.Core.Path.{_≡_, refl, sym, ap, _∙_, subst}
+use mathlib.Core.Bool.{not, _||_}
+use mathlib.Core.List.{List}
+use lib.Dec.{T, eqb, ltb, leb·zero}
+use lib.ListN.{getD}
+use lib.Ieee.{Float, nan, binary64, fits}
+use borrow.Author.Tests.{ltb-false}
+use Rattle.arithmetic.specs.Numbers.{plusZero}
+use Rattle.algebra.specs.Fold.{fold}
+use Rattle.algebra.specs.Kind.{floats}
+use Rattle.algebra.specs.Product.{at}
+use Rattle.algebra.specs.Table.{row}
+use Rattle.algebra.proofs.TableLaws.{row-at, table-at}
+use Rattle.adjustment.specs.declared.Block.{Block}
+use Rattle.adjustment.specs.Blocks.{noBlock, blockAt, places, placesBefore}
+use Rattle.adjustment.specs.Covariance.{matrices}
+use Rattle.records.specs.Scan.{any, total}
+use Rattle.records.specs.Kinds.{kindAt, kenwardRoger}
+use Rattle.records.specs.File.{rows, columns}
+use Rattle.records.specs.Series.{specimens, coefficients, zColumns, blockCount, thetas, contrastRows, cellValue, blockOf, badSize, design, phi, beta, betaH, contrast, sigma2}
+use Rattle.converter.proofs.Scans.{total-same}
+use Rattle.converter.proofs.Cells.{cell-fits}
+use Rattle.converter.proofs.Limits.{or-none, rows-bound, columns-bound}
+use Rattle.converter.proofs.Refusals.{Accepted}
+
+at-least : (x b : ℕ) → 1 ≤ b → x ≤ b → max 1 x ≤ b
+at-least x b h k = omega arith
+
+pub record Sized (s : List ℕ) : Type 0 where
+  pub specimens : specimens s ≤ 24
+  pub coefficients : coefficients s ≤ 6
+  pub some : 1 ≤ Rattle.records.specs.Series.coefficients s
+  pub columns : zColumns s ≤ 24
+  pub blocks : blockCount s ≤ 3
+  pub thetas : thetas s ≤ 3
+  pub contrast : contrastRows s ≤ 6
+
+pub sized : (s : List ℕ) → Accepted s → Sized s
+unfolding kindAt kenwardRoger
+sized s c = record {
+  specimens = at-least (rows s 1) 24 (omega arith) (rows-bound kenwardRoger s 1 (c .good));
+  coefficients = at-least (columns s 1) 6 (omega arith) (columns-bound kenwardRoger s 1 refl (c .good));
+  some = first (columns s 1);
+  columns = columns-bound kenwardRoger s 2 refl (c .good);
+  blocks = rows-bound kenwardRoger s 3 (c .good);
+  thetas = rows-bound kenwardRoger s 4 (c .good);
+  contrast = rows-bound kenwardRoger s 9 (c .good);
+}
+  where
+    first : (x : ℕ) → 1 ≤ max 1 x
+    first x = omega arith
+
+-- ---- the blocks' parameters
+fold-total : (n : ℕ) (f : ℕ → ℕ) → fold 0 n (λ i s. s + f i) 0 ≡ total n f
+unfolding fold total
+fold-total zero f = refl
+fold-total (suc n) f = rw (leb·zero n) (ap (λ (z : ℕ). z + f n) (fold-total n f))
+
+-- "block parameters at most 3": the matrices are one more
+pub matrices-bound : (s : List ℕ) → Accepted s → matrices (design s) ≤ 4
+unfolding badSize placesBefore design
+matrices-bound s c =
+    let b : ℕ = blockCount s in
+    let n : ℕ = total b (λ i. places (blockOf s i)) in
+    let h : n ≤ 3 = ltb-false 3 n (or-none (any b (λ i. not (eqb (blockOf s i .effects) 1 || eqb (blockOf s i .effects) 2) || eqb (blockOf s i .groups) 0)) (ltb 3 n) (c .fitting) .1) in
+    let e : fold 0 b (λ i z. z + places (blockAt (row noBlock 3 b (blockOf s)) i)) 0 ≡ n =
+    fold-total b (λ i. places (blockAt (row noBlock 3 b (blockOf s)) i))
+    ∙ total-same b (λ i. places (blockAt (row noBlock 3 b (blockOf s)) i)) (λ i. places (blockOf s i)) (λ i l. ap (λ (x : Block). places x) (row-at noBlock 3 b (blockOf s) i noBlock l (sized s c .blocks))) in
+    less (fold 0 b (λ i z. z + places (blockAt (row noBlock 3 b (blockOf s)) i)) 0) n e h
+  where
+    less : (x n : ℕ) → x ≡ n → n ≤ 3 → x + 1 ≤ 4
+    less x n e h = omega arith
+
+-- ---- where the numbers stand, and that they are f64 numbers
+module _ (s : List ℕ) (hp : coefficients s ≤ 6) where
+  pub beta-at : (i : ℕ) → i < coefficients s → getD (beta s) i nan ≡ cellValue s 8 i 0
+  unfolding beta
+  beta-at i l = row-at plusZero 6 (coefficients s) (λ i. cellValue s 8 i 0) i nan l hp
+
+  pub betaH-at : (i : ℕ) → i < coefficients s → getD (betaH s) i nan ≡ cellValue s 10 i 0
+  unfolding betaH
+  betaH-at i l = row-at plusZero 6 (coefficients s) (λ i. cellValue s 10 i 0) i nan l hp
+
+  pub contrast-at : contrastRows s ≤ 6 → (i j : ℕ) → i < contrastRows s → j < coefficients s → at floats (contrast s) i j ≡ cellValue s 9 i j
+  unfolding contrast
+  contrast-at hr i j h l = table-at plusZero 6 6 (contrastRows s) (coefficients s) (cellValue s 9) i j nan h l hr hp
+
+  pub phi-at : (i j : ℕ) → i < coefficients s → j < coefficients s → at floats (phi s) i j ≡ cellValue s 6 i j
+  unfolding phi
+  phi-at i j h l = table-at plusZero 6 6 (coefficients s) (coefficients s) (cellValue s 6) i j nan h l hp hp
+
+  pub beta-fits : (i : ℕ) → i < coefficients s → T (fits binary64 (getD (beta s) i nan))
+  beta-fits i l = subst (λ (x : Float). T (fits binary64 x)) (sym (beta-at i l)) (cell-fits kenwardRoger s 8 0 i 0)
+
+  pub betaH-fits : (i : ℕ) → i < coefficients s → T (fits binary64 (getD (betaH s) i nan))
+  betaH-fits i l = subst (λ (x : Float). T (fits binary64 x)) (sym (betaH-at i l)) (cell-fits kenwardRoger s 10 0 i 0)
+
+  pub contrast-fits : contrastRows s ≤ 6 → (i j : ℕ) → i < contrastRows s → j < coefficients s → T (fits binary64 (at floats (contrast s) i j))
+  contrast-fits hr i j h l = subst (λ (x : Float). T (fits binary64 x)) (sym (contrast-at hr i j h l)) (cell-fits kenwardRoger s 9 0 i j)
+
+  pub phi-fits : (i j : ℕ) → i < coefficients s → j < coefficients s → T (fits binary64 (at floats (phi s) i j))
+  phi-fits i j h l = subst (λ (x : Float). T (fits binary64 x)) (sym (phi-at i j h l)) (cell-fits kenwardRoger s 6 0 i j)
+
+pub sigma2-fits : (s : List ℕ) → T (fits binary64 (sigma2 s))
+sigma2-fits s = cell-fits kenwardRoger s 7 0 0 0

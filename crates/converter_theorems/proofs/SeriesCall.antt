@@ -1,0 +1,170 @@
+-- The Kenward–Roger call on a file and on the converted file: the marks of a run that is inside say that each multiplied number scales exactly, so that no refusal comes and all verdicts stay.
+use Prim.Native.Nat.{ℕ, _<_, _≤_}
+use mathlib.Core.Path.{_≡_, refl, sym, ap, _∙_, subst}
+use mathlib.Core.Bool.{Bool, true, false, not, cond}
+use mathlib.Core.List.{List, [], _∷_, _++_, map}
+use lib.Dec.{T, eqb}
+use lib.IntN.{ℤ, natAbs}
+use lib.ListN.{getD}
+use lib.Ieee.{Float, nan, binary64, fits}
+use lib.Ieee.Fits.{mul-fits}
+use Rattle.arithmetic.specs.Scale.{powerOfTwo}
+use Rattle.algebra.specs.Kind.{floats}
+use Rattle.algebra.specs.Product.{at}
+use Rattle.arithmetic_cutoffs.specs.declared.Cutoffs.{Cutoffs}
+use Rattle.algebra.specs.Small.{Rows}
+use Rattle.adjustment.specs.Covariance.{Design, matrices}
+use Rattle.adjustment.specs.Adjusted.{adjustment, adjustmentRefusal}
+use Rattle.tests.specs.declared.Entry.{Entry}
+use Rattle.tests.specs.Answer.{noEntry}
+use Rattle.tests.specs.KenwardRoger.{Run}
+use Rattle.records.specs.Scan.{first}
+use Rattle.records.specs.Series.{coefficients, contrastRows, design, phi, sigma2, beta, betaH, contrast, reasons, refusal}
+use Rattle.records.specs.KenwardRogerCall.{adjusted, scaled, run, lateRefusal, allReasons, number, entries}
+use Rattle.tests.specs.Verdict.{verdict, verdicts, Inside}
+use Rattle.converter_run.specs.joints.ConvertedInput.{Input, runOn, ConvertedInput, Multiplied, RunSizes, WrittenCells, Written, SeriesSurvives}
+use Rattle.converter_run.proofs.MovingInput.{multiplied-is-converted}
+use Rattle.converter_run.proofs.MovingSeries.{series-survives}
+use Rattle.converter.specs.Converted.{kenwardRogerChange, converted}
+use Rattle.converter.proofs.Refusals.{Accepted, accepted}
+use Rattle.converter.proofs.Series.{design-same, phi-same}
+use Rattle.converter.proofs.SameSizes.{sized, matrices-bound, beta-fits, betaH-fits, contrast-fits, phi-fits, sigma2-fits}
+use Rattle.converter.proofs.Input.{InputExact, r-same, sigma2-product, beta-product, betaH-product, contrast-product, reasons-converted}
+use Rattle.converter.specs.SeriesDemand.{AllInside, SameVerdicts}
+
+-- what refuses a file before anything is computed refuses it
+pub first-front : (xs ys : List (ℕ × Bool)) → first (xs ++ ys) ≡ 0 → first xs ≡ 0
+unfolding first
+first-front [] ys h = refl
+first-front (x ∷ xs) ys h = go (x .1) (first-front xs ys) h
+  where
+    go : (b : Bool) → (first (xs ++ ys) ≡ 0 → first xs ≡ 0) → cond b (x .0) (first (xs ++ ys)) ≡ 0 → cond b (x .0) (first xs) ≡ 0
+    go true f e = e
+    go false f e = f e
+
+-- ---- the call's parts, as demand 3's law on series in memory has them
+abbrev pub inputOf : List ℕ → Input
+inputOf s = record { sigma2 = sigma2 s; beta = beta s; betaH = betaH s; contrast = contrast s }
+
+abbrev pub whole : Cutoffs → Design → Rows → ℕ → Input → Run
+whole c d f rows x = runOn c (d .p) (matrices d) rows f (adjustment c d f) x
+
+abbrev pub listed : List (ℕ × Bool) → ℕ → Bool → List (ℕ × Bool)
+listed rs n b = rs ++ ((n, not (eqb n 0)) ∷ (10, b) ∷ [])
+
+module _ (c : Cutoffs) (s : List ℕ) where
+  pub run-is : run c s ≡ whole c (design s) (phi s) (contrastRows s) (inputOf s)
+  unfolding run scaled adjusted design
+  run-is = refl
+
+  pub number-is : number c s ≡ first (listed (reasons s) (adjustmentRefusal c (design s) (phi s) (sigma2 s)) (run c s .refused))
+  unfolding number allReasons lateRefusal
+  number-is = refl
+
+  -- an accepted file's entries are the run's
+  pub entries-are : number c s ≡ 0 → entries c s ≡ run c s .entries
+  unfolding entries
+  entries-are e = rw e
+
+  not-refused : number c s ≡ 0 → refusal s ≡ 0
+  unfolding refusal
+  not-refused e =
+      let n : ℕ = adjustmentRefusal c (design s) (phi s) (sigma2 s) in
+      first-front (reasons s) ((n, not (eqb n 0)) ∷ (10, run c s .refused) ∷ []) (sym number-is ∙ e)
+
+-- ---- a file that is accepted with all entries inside, k and each row's m from -32 to 32
+module _ (c : Cutoffs) (s : List ℕ) (k : ℤ) (m : ℕ → ℤ) (near : natAbs k ≤ 32) (nears : (r : ℕ) → r < contrastRows s → natAbs (m r) ≤ 32) (e : number c s ≡ 0)
+    (inside : AllInside c s) where
+  abbrev s' : List ℕ
+  s' = converted (kenwardRogerChange k m) s
+
+  taken : Accepted s
+  taken = accepted s (not-refused c s e)
+
+  hp : coefficients s ≤ 6
+  hp = sized s taken .coefficients
+
+  hr : contrastRows s ≤ 6
+  hr = sized s taken .contrast
+
+  sizes : RunSizes (coefficients s) (matrices (design s)) (contrastRows s)
+  sizes = record { some = sized s taken .some; coefficients = hp; matrices = matrices-bound s taken; contrast = hr }
+
+  cells-written : WrittenCells (coefficients s) (coefficients s) (phi s)
+  cells-written = phi-fits s hp
+
+  written : Written (coefficients s) (contrastRows s) (inputOf s)
+  written = record { sigma2 = sigma2-fits s; beta = beta-fits s hp; betaH = λ r. betaH-fits s hp; contrast = contrast-fits s hp hr }
+
+  run-inside : Inside (coefficients s) (contrastRows s) (whole c (design s) (phi s) (contrastRows s) (inputOf s))
+  run-inside =
+      let same : whole c (design s) (phi s) (contrastRows s) (inputOf s) .entries ≡ entries c s = sym (entries-are c s e ∙ ap (λ (r : Run). r .entries) (run-is c s)) in
+      record {
+        coefficient = λ i h. ap (λ (es : List Entry). getD es i noEntry .inside) same ∙ inside .coefficient i h;
+        contrast = λ h. ap (λ (es : List Entry). getD es 6 noEntry .inside) same ∙ inside .contrast h;
+      }
+
+  -- the converted file's input is the file's, multiplied, and so scaled exactly
+  multiplied : Multiplied k m (coefficients s) (contrastRows s) (inputOf s) (inputOf s')
+  multiplied = record {
+    sigma2 = sigma2-product k m s hp hr;
+    beta = beta-product k m s hp hr;
+    betaH = λ r. betaH-product k m s hp hr;
+    contrast = contrast-product k m s hp hr;
+  }
+
+  scaled-input : ConvertedInput k m (coefficients s) (contrastRows s) (inputOf s) (inputOf s')
+  unfolding design
+  scaled-input =
+      multiplied-is-converted c (coefficients s) (matrices (design s)) (contrastRows s) k m (phi s) (adjustment c (design s) (phi s)) (inputOf s) sizes near nears cells-written written
+      run-inside (inputOf s') multiplied
+
+  exact : InputExact k m s
+  exact = record {
+    variance = subst (λ (x : Float). T (fits binary64 x)) (scaled-input .sigma2) (sigma2-fits s');
+    estimates = λ i l. subst (λ (x : Float). T (fits binary64 x)) (sym (beta-product k m s hp hr i l) ∙ scaled-input .beta i l) (mul-fits binary64 (getD (beta s) i nan) (powerOfTwo k));
+    hypotheses = λ i l r. subst (λ (x : Float). T (fits binary64 x)) (sym (betaH-product k m s hp hr i l) ∙ scaled-input .betaH r i l) (mul-fits binary64 (getD (betaH s) i nan) (powerOfTwo k));
+    lines = λ i j h l. subst (λ (x : Float). T (fits binary64 x)) (sym (contrast-product k m s hp hr i j h l) ∙ scaled-input .contrast i j h l)
+        (mul-fits binary64 (at floats (contrast s) i j) (powerOfTwo (m i)));
+  }
+
+  survives : SeriesSurvives c (design s) (phi s) (contrastRows s) (inputOf s) (inputOf s')
+  unfolding design
+  survives = series-survives c (design s) (phi s) (contrastRows s) k m (inputOf s) (inputOf s') sizes near cells-written written scaled-input run-inside
+
+  -- the converted file's design, Φ and sizes are the file's
+  run-after : run c s' ≡ whole c (design s) (phi s) (contrastRows s) (inputOf s')
+  run-after =
+      run-is c s'
+      ∙ ap (λ (d : Design). whole c d (phi s') (contrastRows s') (inputOf s')) (design-same k m s)
+      ∙ ap (λ (f : Rows). whole c (design s) f (contrastRows s') (inputOf s')) (phi-same k m s)
+      ∙ ap (λ (n : ℕ). whole c (design s) (phi s) n (inputOf s')) (r-same k m s hp hr)
+
+  adjustment-after : adjustmentRefusal c (design s') (phi s') (sigma2 s') ≡ adjustmentRefusal c (design s) (phi s) (sigma2 s)
+  adjustment-after =
+      ap (λ (d : Design). adjustmentRefusal c d (phi s') (sigma2 s')) (design-same k m s)
+      ∙ ap (λ (f : Rows). adjustmentRefusal c (design s) f (sigma2 s')) (phi-same k m s)
+      ∙ survives .number
+
+  refused-after : run c s' .refused ≡ run c s .refused
+  refused-after =
+      ap (λ (r : Run). r .refused) run-after ∙ survives .run .refusal ∙ sym (ap (λ (r : Run). r .refused) (run-is c s))
+
+  number-after : number c s' ≡ 0
+  number-after =
+      number-is c s'
+      ∙ ap (λ (rs : List (ℕ × Bool)). first (listed rs (adjustmentRefusal c (design s') (phi s') (sigma2 s')) (run c s' .refused))) (reasons-converted k m s taken exact)
+      ∙ ap (λ (n : ℕ). first (listed (reasons s) n (run c s' .refused))) adjustment-after
+      ∙ ap (λ (b : Bool). first (listed (reasons s) (adjustmentRefusal c (design s) (phi s) (sigma2 s)) b)) refused-after
+      ∙ sym (number-is c s) ∙ e
+
+  verdicts-after : map verdict (run c s' .entries) ≡ map verdict (run c s .entries)
+  unfolding verdicts
+  verdicts-after =
+      ap (λ (r : Run). map verdict (r .entries)) run-after ∙ survives .run .same ∙ sym (ap (λ (r : Run). map verdict (r .entries)) (run-is c s))
+
+  pub series-same : SameVerdicts c s (converted (kenwardRogerChange k m) s)
+  series-same = record {
+    accepted = number-after;
+    verdicts = ap (map verdict) (entries-are c s' number-after) ∙ verdicts-after ∙ sym (ap (map verdict) (entries-are c s e));
+  }

@@ -1,2 +1,0 @@
--- What the functions of a Satterthwaite test answer, from the matrices at hand. Definitions alone.
-pub mod Parts

@@ -1,2 +1,0 @@
--- The entries of a run and its number. Definitions alone.
-pub mod Run

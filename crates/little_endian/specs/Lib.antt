@@ -1,2 +1,0 @@
--- Numbers in bytes, the lowest first.
-pub mod Bytes

@@ -1,0 +1,35 @@
+-- Document 01: the whole Satterthwaite call, from the bytes of a file and the cutoffs to its number, its entry and the lent bytes.
+use Prim.Native.Nat.{ℕ}
+use mathlib.Core.Bool.{Bool, cond}
+use mathlib.Core.List.{List, [], _∷_, _++_}
+use lib.Dec.{eqb}
+use lib.ListN.{length}
+use Rattle.arithmetic_cutoffs.specs.declared.Cutoffs.{Cutoffs}
+use Rattle.tests.specs.declared.Entry.{Entry}
+use Rattle.tests.specs.Answer.{noEntry}
+use Rattle.records.specs.Layout.{entryBytes}
+use Rattle.records.specs.Scan.{first}
+use Rattle.tests.specs.Satterthwaite.{Outcome, satterthwaite as test}
+use Rattle.records.specs.Parameters.{reasons, inputs}
+
+module _ (c : Cutoffs) (s : List ℕ) where
+  unfoldable pub outcome : Outcome
+  outcome = test c (inputs s)
+
+  -- "refusals 1, 2, 4, 11": 11 is "several-row V has an eigenvalue not finite or ≤ 0"
+  unfoldable pub allReasons : List (ℕ × Bool)
+  allReasons = reasons s ++ ((11, outcome .refused) ∷ [])
+
+  unfoldable pub number : ℕ
+  number = first allReasons
+
+  unfoldable pub entry : Entry
+  entry = cond (eqb number 0) (outcome .entry) noEntry
+
+  -- what the call returns for the lent bytes, and what they hold then: "1: lent length is not the stated one"; "The Satterthwaite call fills one such entry, 24 bytes"; "lent
+  -- answer bytes keep their contents" where it refuses
+  unfoldable pub returned : List ℕ → ℕ
+  returned answer = cond (eqb (length answer) 24) number 1
+
+  unfoldable pub written : List ℕ → List ℕ
+  written answer = cond (eqb (returned answer) 0) (entryBytes entry) answer

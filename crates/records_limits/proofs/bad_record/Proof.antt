@@ -1,0 +1,58 @@
+-- `records_limits::bad_record` meets its contract.
+use borrow.Author.Tests.{eq-eqb, ne-eqb}
+use Rattle.records.specs.File.{badRecord}
+use borrow.Author.Needs.{needs}
+use Rattle.records_limits.proofs.bad_record.Statement.{statement}
+use Rattle.records_limits.proofs.bad_record.Tie as tie
+use Rattle.records_limits.proofs.bad_record.Reads as reads
+use Rattle.records_limits.proofs.bad_record.Lts as lts
+use Rattle.records_file.proofs.bits_at.Reads as bits-at-reads
+use Rattle.records_file.proofs.kind_at.Reads as kind-at-reads
+use Rattle.records_file.proofs.kind_of.Reads as kind-of-reads
+use Rattle.records_limits.proofs.out_of.Reads as out-of-reads
+use Rattle.records_file.proofs.padding_at.Reads as padding-at-reads
+
+kind-at-requires : tie.Need-kind-at-requires
+kind-at-requires c κs = search needs
+
+kind-of-requires : tie.Need-kind-of-requires
+kind-of-requires c κs = search needs
+
+out-of-requires : tie.Need-out-of-requires
+out-of-requires c κs = search needs
+
+returns : tie.Need-returns
+unfolding badRecord
+returns c = rw (← c .before .before .before .kind-at .ensures, ← c .before .before .kind-of .ensures, ← c .before .out-of .ensures, c .if1 .taken)
+
+padding-at-requires : tie.Need-padding-at-requires
+padding-at-requires c κs = search needs
+
+returns-2 : tie.Need-returns-2
+unfolding badRecord
+returns-2 c = rw (← c .before .before .before .before .before .kind-at .ensures, ← c .before .before .before .before .kind-of .ensures, ← c .before .before .before .out-of .ensures, c .before .before .if1 .left, ← c .before .padding-at .ensures .0, ne-eqb _ _ (c .if2 .taken))
+
+bits-at-requires : tie.Need-bits-at-requires
+bits-at-requires c κs = search needs
+
+returns-3 : tie.Need-returns-3
+unfolding badRecord
+returns-3 c = rw (← c .before .before .before .before .before .before .before .kind-at .ensures, ← c .before .before .before .before .before .before .kind-of .ensures, ← c .before .before .before .before .before .out-of .ensures, c .before .before .before .before .if1 .left, ← c .before .before .before .padding-at .ensures .0, eq-eqb _ _ (c .before .before .if2 .left), c .before .if3 .taken, ← c .bits-at .ensures)
+
+returns-4 : tie.Need-returns-4
+unfolding badRecord
+returns-4 c = rw (← c .before .before .before .before .before .before .kind-at .ensures, ← c .before .before .before .before .before .kind-of .ensures, ← c .before .before .before .before .out-of .ensures, c .before .before .before .if1 .left, ← c .before .before .padding-at .ensures .0, eq-eqb _ _ (c .before .if2 .left), c .if3 .left)
+
+pub bad-record-spec : {M : Type 1} → statement M
+bad-record-spec =
+    tie.close
+    (tie.spec
+    kind-at-requires
+    kind-of-requires
+    out-of-requires
+    returns
+    padding-at-requires
+    returns-2
+    bits-at-requires
+    returns-3
+    returns-4)

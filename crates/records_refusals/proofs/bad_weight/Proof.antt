@@ -1,0 +1,23 @@
+-- `records_refusals::bad_weight` meets its contract.
+use Rattle.records_series.specs.joints.Checks.{badWeightIn}
+use native.Mathlib.Omega.{arith}
+use borrow.Author.Needs.{needs}
+use Rattle.records_refusals.proofs.bad_weight.Statement.{statement}
+use Rattle.records_refusals.proofs.bad_weight.Tie as tie
+use Rattle.records_refusals.proofs.bad_weight.Reads as reads
+use Rattle.records_refusals.proofs.bad_weight.Lts as lts
+use Rattle.records_refusals.proofs.any_not_positive.Reads as any-not-positive-reads
+
+any-not-positive-requires : tie.Need-any-not-positive-requires
+any-not-positive-requires c κs = omega (arith, c .before .pre .specimens)
+
+returns : tie.Need-returns
+unfolding badWeightIn
+returns c = rw (c .before .if1 .taken) (c .any-not-positive .ensures)
+
+returns-2 : tie.Need-returns-2
+unfolding badWeightIn
+returns-2 c = rw (c .if1 .left)
+
+pub bad-weight-spec : {M : Type 1} → statement M
+bad-weight-spec = tie.close (tie.spec any-not-positive-requires returns returns-2)

@@ -1,0 +1,54 @@
+-- `records_satterthwaite::any_beyond` meets its contract.
+use Prim.Native.Nat.{_≤_, _-_}
+use mathlib.Core.Path.{_≡_, refl, sym, _∙_}
+use mathlib.Core.Bool.{false}
+use denote.Ref.{now}
+use Rattle.records.specs.Scan.{any}
+use Rattle.records.specs.File.{count, beyond}
+use Rattle.records_file.proofs.Laws.{any-miss, any-hit}
+use Rattle.records_satterthwaite.specs.joints.Gathered.{tableFor}
+use native.Mathlib.Omega.{arith}
+use Rattle.records_satterthwaite.proofs.any_beyond.Statement.{statement}
+use Rattle.records_satterthwaite.proofs.any_beyond.Tie as tie
+
+abbrev Inv-loop : tie.InvT-loop
+Inv-loop z s n i₀ i = (n ≡ count s) × (i ≤ n) × (any i (beyond (tableFor z) s) ≡ false)
+
+abbrev μ-loop : tie.MeasureT-loop
+μ-loop z s n i₀ i = n - i
+
+loop-holds : tie.Need-loop-holds Inv-loop μ-loop
+unfolding any
+loop-holds c = (refl, omega arith, refl)
+
+beyond-at-requires : tie.Need-beyond-at-requires Inv-loop μ-loop
+beyond-at-requires c κs = omega arith
+
+returns : tie.Need-returns Inv-loop μ-loop
+returns c = sym (any-hit _ _ (c .before .before .before .loop .i) (omega arith) (sym (c .before .beyond-at .ensures) ∙ c .if1 .taken))
+
+add-i : tie.Need-add-i Inv-loop μ-loop
+add-i c = omega arith
+
+loop-less : tie.Need-loop-less Inv-loop μ-loop
+loop-less c = omega arith
+
+loop-again : tie.Need-loop-again Inv-loop μ-loop
+loop-again c = (refl, omega arith, any-miss _ _ (c .before .before .before .loop .inv .2) (sym (c .before .beyond-at .ensures) ∙ c .if1 .left))
+
+returns-2 : tie.Need-returns-2 Inv-loop μ-loop
+returns-2 c = let e : c .before .loop .i ≡ count (now (c .before .before .before .args .s)) = omega arith in sym (rw e at (c .before .loop .inv .2))
+
+pub any-beyond-spec : {M : Type 1} → statement M
+any-beyond-spec =
+    tie.close
+    (tie.spec
+    Inv-loop
+    μ-loop
+    loop-holds
+    beyond-at-requires
+    returns
+    add-i
+    loop-less
+    loop-again
+    returns-2)

@@ -1,3 +1,0 @@
--- A Kenward–Roger series as the code gathers it. Definitions alone.
-pub mod Gathered
-pub mod Checks

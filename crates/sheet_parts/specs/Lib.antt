@@ -1,2 +1,0 @@
--- Parts of a sheet of numbers. Definitions alone.
-pub mod Parts

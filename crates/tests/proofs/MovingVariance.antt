@@ -1,0 +1,94 @@
+-- `variance_df` and its mark, on a variance and a gradient that a second run has both scaled by 2 ^ w: g does not move, so df is the same.
+use Prim.Native.Nat.{ℕ, _≤_, _<_}
+use native.Mathlib.Omega.{arith}
+use mathlib.Core.Path.{_≡_, refl, sym, ap, _∙_}
+use mathlib.Core.Bool.{Bool, true, false, cond, _&&_}
+use mathlib.Core.List.{List}
+use lib.IntN.{ℤ, pos}
+use lib.Ieee.{Float, binary64, add, mul, lt}
+use Rattle.arithmetic.specs.declared.Marked.{Marked}
+use Rattle.arithmetic.specs.Numbers.{plusZero, isFinite}
+use Rattle.arithmetic.specs.Scale.{scale}
+use Rattle.arithmetic.specs.Marks.{given, markedDiv, also}
+use Rattle.arithmetic.proofs.Tied.{Tied}
+use Rattle.arithmetic.proofs.ScaleLaws.{lt-scale}
+use Rattle.arithmetic.proofs.PlainLaws.{finite-scale}
+use Rattle.arithmetic.proofs.MarkLaws.{Bears, Moves, also-bears}
+use Rattle.algebra.specs.Fold.{fold}
+use Rattle.algebra.specs.Table.{row}
+use Rattle.algebra.specs.Kind.{floats, marks}
+use Rattle.algebra.specs.Product.{at, sumCells}
+use Rattle.algebra.proofs.FoldLaws.{fold-ext}
+use Rattle.algebra.proofs.TableLaws.{row-at}
+use Rattle.algebra.proofs.MovingCells.{first-bears, step-bears, alike-over, still-value, cond-both}
+use Rattle.tests.specs.declared.Number.{Number}
+use Rattle.tests.specs.declared.Number.the-variants.{Is, None}
+use Rattle.tests.specs.VarianceDf.{entryAt, isPositive, relativeGradient, relativeVariance, dfOfRelative, varianceDf, gradientSeen}
+
+-- "finite and > 0" holds of a number and of its multiple by a power of two alike
+pub positive-agrees : (u : ℤ) (x x' : Float) → Tied u x x' → isPositive x' ≡ isPositive x
+unfolding isPositive
+positive-agrees u x x' p = rw (p .moved, finite-scale u x, lt-scale u plusZero x)
+
+-- ---- rows of marked numbers
+module _ {t : ℕ} (C c : ℕ) (h : c ≤ C) where
+  pub row-moves : (u : ℤ) (f f' : ℕ → Marked) → ((i : ℕ) → i < c → Moves t u (f i) (f' i)) → (i : ℕ) → i < c
+      → Moves t u (entryAt (row (given plusZero) C c f) i) (entryAt (row (given plusZero) C c f') i)
+  row-moves u f f' p i l = rw (row-at (given plusZero) C c f i (marks .void) l h, row-at (given plusZero) C c f' i (marks .void) l h) (p i l)
+
+  pub row-bears : (f : ℕ → Marked) (i : ℕ) → i < c → Bears t (entryAt (row (given plusZero) C c f) i) → Bears t (f i)
+  row-bears f i l b = rw (row-at (given plusZero) C c f i (marks .void) l h) at b
+
+-- ---- r depends on the values of g alone
+pub relativeVariance-agrees : (n : ℕ) (g g' : List Marked) (a a' : List (List Float)) → ((i : ℕ) → i < n → entryAt g' i .value ≡ entryAt g i .value)
+    → ((j k : ℕ) → j < n → k < n → at floats a' j k ≡ at floats a j k) → relativeVariance n g' a' ≡ relativeVariance n g a
+unfolding relativeVariance sumCells
+relativeVariance-agrees n g g' a a' e d =
+    fold-ext 0 n (λ j s. fold 0 n (λ k s. add binary64 s (term g' a' j k)) s) (λ j s. fold 0 n (λ k s. add binary64 s (term g a j k)) s) plusZero
+    (λ j h l b. fold-ext 0 n (λ k s. add binary64 s (term g' a' j k)) (λ k s. add binary64 s (term g a j k)) b
+    (λ k i m s. ap (add binary64 s) (same j k l m)))
+  where
+    term : List Marked → List (List Float) → ℕ → ℕ → Float
+    term g a j k = mul binary64 (mul binary64 (entryAt g j .value) (at floats a j k)) (entryAt g k .value)
+
+    same : (j k : ℕ) → j < n → k < n → term g' a' j k ≡ term g a j k
+    same j k l m = rw (e j l, e k m, d j k l m)
+
+module _ {t : ℕ} (n : ℕ) (h : n ≤ 6) where
+  -- ---- the mark
+  pub gradient-first : (v : Marked) (g : List Marked) (seen : Marked) → Bears t (gradientSeen n v g seen) → Bears t seen
+  unfolding gradientSeen
+  gradient-first v g seen =
+      cond-both (λ x. Bears t x → Bears t seen) (isPositive (v .value)) (fold 0 n (λ i s. also s (entryAt (relativeGradient n v g) i)) seen) seen
+      (first-bears 0 n (λ i s. also s (entryAt (relativeGradient n v g) i)) seen (λ i b y. also-bears b (entryAt (relativeGradient n v g) i) y .0)) (λ b. b)
+
+  pub gradient-each : (v : Marked) (g : List Marked) (seen : Marked) → isPositive (v .value) ≡ true → Bears t (gradientSeen n v g seen)
+      → (i : ℕ) → i < n → Bears t (entryAt (relativeGradient n v g) i)
+  unfolding gradientSeen
+  gradient-each v g seen e b i l =
+      let s : ℕ → Marked → Marked = λ i s. also s (entryAt (relativeGradient n v g) i) in
+      let d : Bears t (fold 0 n s seen) = rw e at b in
+      also-bears (fold 0 i s seen) (entryAt (relativeGradient n v g) i)
+      (step-bears 0 n s seen (λ i b y. also-bears b (entryAt (relativeGradient n v g) i) y .0) d i (omega arith) l) .1
+
+  -- ---- the second run
+  module _ (w : ℤ) (v v' : Marked) (g g' : List Marked) (pv : Moves t w v v') (pg : (i : ℕ) → i < n → Moves t w (entryAt g i) (entryAt g' i)) where
+    pub relative-moves : (i : ℕ) → i < n → Moves t (pos 0) (entryAt (relativeGradient n v g) i) (entryAt (relativeGradient n v' g') i)
+    unfolding relativeGradient
+    relative-moves =
+        row-moves 6 n h (pos 0) (λ i. markedDiv (entryAt g i) v) (λ i. markedDiv (entryAt g' i) v')
+        (λ i l. alike-over w (entryAt g i) v (entryAt g' i) v' (pg i l) pv)
+
+    pub varianceDf-agrees : (a a' : List (List Float)) (seen : Marked) → ((j k : ℕ) → j < n → k < n → at floats a' j k ≡ at floats a j k)
+        → Bears t v → Bears t (gradientSeen n v g seen) → varianceDf n a' v' g' ≡ varianceDf n a v g
+    unfolding varianceDf
+    varianceDf-agrees a a' seen d bv b =
+        rw (positive-agrees w (v .value) (v' .value) (pv bv)) (go (isPositive (v .value)) refl)
+      where
+        go : (x : Bool) → isPositive (v .value) ≡ x
+            → cond x (dfOfRelative (relativeVariance n (relativeGradient n v' g') a')) None ≡ cond x (dfOfRelative (relativeVariance n (relativeGradient n v g) a)) None
+        go false e = refl
+        go true e =
+            ap dfOfRelative
+            (relativeVariance-agrees n (relativeGradient n v g) (relativeGradient n v' g') a a'
+            (λ i l. still-value (entryAt (relativeGradient n v g) i) (entryAt (relativeGradient n v' g') i) (relative-moves i l) (gradient-each v g seen e b i l)) d)

@@ -1,0 +1,242 @@
+-- Document 01's third demand, for the Satterthwaite test: v and every Jacobian times 4 ^ k, β and β_H times 2 ^ k, all else the same. Where the first test is marked inside, the
+-- second is refused or accepted as the first, with the same rank, F and degrees of freedom, bit for bit.
+use Prim.Native.Nat.{ℕ, _+_, _≤_, _<_}
+use native.Mathlib.Omega.{arith}
+use mathlib.Core.Path.{_≡_, refl, sym, ap, _∙_, subst}
+use mathlib.Core.Bool.{Bool, true, false, cond}
+use mathlib.Core.List.{List, []}
+use lib.Dec.{T, eqb}
+use lib.IntN.{ℤ, pos, negsuc, natAbs, _+ℤ_}
+use lib.ListN.{getD}
+use lib.Ieee.{Float, nan, binary64, fits}
+use Rattle.arithmetic.specs.declared.Marked.{Marked}
+use Rattle.arithmetic.specs.Numbers.{plusZero}
+use Rattle.arithmetic.specs.Marks.{given, also}
+use Rattle.arithmetic.proofs.Tied.{Tied}
+use Rattle.arithmetic.proofs.MarkLaws.{Bears, Moves, inside-bears, also-bears}
+use Rattle.algebra.specs.Kind.{floats, marks}
+use Rattle.algebra.specs.Product.{at}
+use Rattle.algebra.specs.Jacobi.{State, jacobi}
+use Rattle.algebra.proofs.MovingCells.{BearsCells, MovesCells, still-value}
+use Rattle.algebra.proofs.MovingJacobi.{StateBears, StateMoves, jacobi-moves}
+use Rattle.algebra.specs.Small.{MarkedRows, givenCells, allMarks}
+use Rattle.arithmetic_cutoffs.specs.declared.Cutoffs.{Cutoffs}
+use Rattle.arithmetic_cutoffs.specs.Cutoffs.{documentCutoffs}
+use Rattle.tests.specs.Answer.{numberOf}
+use Rattle.tests.specs.VarianceDf.{entryAt, varianceDf, gradientSeen}
+use Rattle.tests.specs.Satterthwaite.{gradientOne, projected, gradientAt, severalDf, componentsSeen, Inputs, Outcome, lRows, ldRows, vRows, jStack, rotatedV, variances, directions, jxStack, fOne, fSeveral, dfOne, dfSeveral, startSeen, seenOne, seenSeveral, oneRow, severalRows, satterthwaite}
+use Rattle.algebra_products.proofs.MovingSmall.{given-cells, allMarks-first, allMarks-cells}
+use Rattle.tests.proofs.MovingVariance.{gradient-first, varianceDf-agrees}
+use Rattle.tests.proofs.MovingComponents.{MovesStack, contrastOf-moves, transformed-moves, transformedAll-moves, squareOne-moves, gradientOne-moves, notPositive-agrees, variancesOf-moves, variancesOf-bear, directionsOf-moves, projected-moves, turnedAll-moves, gradientAt-moves, squaresOver-moves, stack-first, components-first, componentDfs-agree}
+
+-- ---- the statement's words
+-- the sizes that document 01 allows: coefficients 1–6, contrast rows 1–6, parameters 1–4
+pub record InputSizes (s : Inputs) : Type 0 where
+  pub p : s .p ≤ 6
+  pub some : 0 < s .q
+  pub q : s .q ≤ 6
+  pub n : s .n ≤ 4
+
+-- s' is s after a change of converter by 2 ^ k: the same sizes, L and A; β and β_H times 2 ^ k, v and each Jacobian times 4 ^ k, exactly, cell by cell
+pub record ConvertedInputs (k : ℤ) (s s' : Inputs) : Type 0 where
+  pub p : s' .p ≡ s .p
+  pub q : s' .q ≡ s .q
+  pub n : s' .n ≡ s .n
+  pub l : (i j : ℕ) → i < s .q → j < s .p → Tied (pos 0) (at floats (s .l) i j) (at floats (s' .l) i j)
+  pub beta : (i : ℕ) → i < s .p → Tied k (getD (s .beta) i nan) (getD (s' .beta) i nan)
+  pub betaH : (i : ℕ) → i < s .p → Tied k (getD (s .betaH) i nan) (getD (s' .betaH) i nan)
+  pub v : (i j : ℕ) → i < s .p → j < s .p → Tied (k +ℤ k) (at floats (s .v) i j) (at floats (s' .v) i j)
+  pub js : (r i j : ℕ) → r < s .n → i < s .p → j < s .p → Tied (k +ℤ k) (at floats (getD (s .js) r []) i j) (at floats (getD (s' .js) r []) i j)
+  pub a : (i j : ℕ) → i < s .n → j < s .n → at floats (s' .a) i j ≡ at floats (s .a) i j
+
+-- the same refusal and the same verdict; the mark may change
+pub record SameVerdict (x x' : Outcome) : Type 0 where
+  pub refused : x' .refused ≡ x .refused
+  pub f : x' .entry .f ≡ x .entry .f
+  pub df : x' .entry .df ≡ x .entry .df
+  pub rank : x' .entry .rank ≡ x .entry .rank
+
+-- ---- shifts
+-- twice a shift is at most twice as large
+twice-small : (k : ℤ) {a : ℕ} → natAbs k ≤ a → natAbs (k +ℤ k) ≤ a + a
+twice-small (pos m) h = omega arith
+twice-small (negsuc m) h = omega arith
+
+rotation-fits : T (fits binary64 (documentCutoffs .rotation))
+unfolding documentCutoffs fits
+rotation-fits = tt
+
+-- ---- two tests of the same sizes
+-- s with other numbers
+abbrev pub withNumbers : Inputs → Inputs → Inputs
+withNumbers s r = record { p = s .p; q = s .q; n = s .n; l = r .l; beta = r .beta; betaH = r .betaH; v = r .v; js = r .js; a = r .a }
+
+module _ (c : Cutoffs) (fine : T (fits binary64 (c .rotation))) (k : ℤ) (small : natAbs k ≤ 32) (s r : Inputs) (z : InputSizes s) (e : ConvertedInputs k s (withNumbers s r)) where
+  abbrev other : Inputs
+  other = withNumbers s r
+
+  abbrev w : ℤ
+  w = k +ℤ k
+
+  one-small : natAbs k ≤ 128
+  one-small = omega arith
+
+  two-small : natAbs (k +ℤ k) ≤ 128
+  two-small = omega (arith, twice-small k small)
+
+  four-small : natAbs (w +ℤ w) ≤ 128
+  four-small = twice-small (k +ℤ k) (twice-small k small)
+
+  -- what both kinds of test start from
+  l-moves : MovesCells 128 (pos 0) (s .q) (s .p) (lRows c s) (lRows c other)
+  l-moves = given-cells 6 6 (s .q) (s .p) (z .q) (z .p) (pos 0) (s .l) (r .l) (e .l)
+
+  ld-moves : MovesCells 128 k (s .q) 1 (ldRows c s) (ldRows c other)
+  unfolding ldRows
+  ld-moves = contrastOf-moves (s .p) (s .q) (z .p) (z .q) (lRows c s) (lRows c other) l-moves k one-small (s .beta) (s .betaH) (r .beta) (r .betaH) (e .beta) (e .betaH)
+
+  v-moves : MovesCells 128 w (s .q) (s .q) (vRows c s) (vRows c other)
+  unfolding vRows
+  v-moves = transformed-moves (s .p) (s .q) (z .p) (z .q) (lRows c s) (lRows c other) l-moves w two-small (s .v) (r .v) (e .v)
+
+  js-moves : MovesStack 128 w (s .n) (s .q) (s .q) (jStack c s) (jStack c other)
+  unfolding jStack
+  js-moves = transformedAll-moves (s .p) (s .q) (z .p) (z .q) (lRows c s) (lRows c other) l-moves w two-small (s .n) (z .n) (s .js) (r .js) (e .js)
+
+  start-v : Bears 128 (startSeen c s) → BearsCells 128 (s .q) (s .q) (vRows c s)
+  unfolding startSeen
+  start-v b =
+      allMarks-cells (s .q) (s .q) (vRows c s) (allMarks (s .q) 1 (ldRows c s) (given plusZero))
+      (stack-first (s .n) (s .q) (jStack c s) (allMarks (s .q) (s .q) (vRows c s) (allMarks (s .q) 1 (ldRows c s) (given plusZero))) b)
+
+  few : s .n ≤ 6
+  few = omega (arith, z .n)
+
+  -- ---- one row
+  module _ (b : Bears 128 (seenOne c s)) where
+    one-bears : Bears 128 (startSeen c s) × Bears 128 (fOne c s)
+    unfolding seenOne
+    one-bears =
+        also-bears (startSeen c s) (fOne c s) (gradient-first (s .n) few (at marks (vRows c s) 0 0) (gradientOne (s .n) (jStack c s)) (also (startSeen c s) (fOne c s)) b)
+
+    fOne-agrees : fOne c other .value ≡ fOne c s .value
+    unfolding fOne
+    fOne-agrees =
+        still-value (fOne c s) (fOne c other)
+        (squareOne-moves k (at marks (ldRows c s) 0 0) (at marks (vRows c s) 0 0) (at marks (ldRows c other) 0 0) (at marks (vRows c other) 0 0)
+        (ld-moves .cell 0 0 (z .some) (omega arith)) (v-moves .cell 0 0 (z .some) (z .some))) (one-bears .1)
+
+    dfOne-agrees : dfOne c other ≡ dfOne c s
+    unfolding dfOne seenOne
+    dfOne-agrees =
+        varianceDf-agrees (s .n) few w (at marks (vRows c s) 0 0) (at marks (vRows c other) 0 0) (gradientOne (s .n) (jStack c s)) (gradientOne (s .n) (jStack c other))
+        (v-moves .cell 0 0 (z .some) (z .some)) (gradientOne-moves w (s .n) (s .q) (z .n) (z .some) (jStack c s) (jStack c other) js-moves)
+        (s .a) (r .a) (also (startSeen c s) (fOne c s)) (e .a) (start-v (one-bears .0) .cell 0 0 (z .some) (z .some)) b
+
+    one-survives : SameVerdict (oneRow c s) (oneRow c other)
+    unfolding oneRow
+    one-survives = record { refused = refl; f = ap numberOf fOne-agrees; df = dfOne-agrees; rank = refl }
+
+  -- ---- several rows
+  module _ (b : Bears 128 (seenSeveral c s)) where
+    abbrev vectorsSeen : Marked
+    vectorsSeen = allMarks (s .q) (s .q) (rotatedV c s .v) (allMarks (s .q) (s .q) (rotatedV c s .a) (startSeen c s))
+
+    abbrev rotationsSeen : Marked
+    rotationsSeen = also vectorsSeen (rotatedV c s .seen)
+
+    several-bears : Bears 128 rotationsSeen × Bears 128 (fSeveral c s)
+    unfolding seenSeveral
+    several-bears = also-bears rotationsSeen (fSeveral c s) (components-first (s .n) (s .q) few (variances c s) (directions c s) (jxStack c s) (also rotationsSeen (fSeveral c s)) b)
+
+    state-bears : StateBears 128 (s .q) (rotatedV c s)
+    state-bears =
+        let h : Bears 128 vectorsSeen × Bears 128 (rotatedV c s .seen) = also-bears vectorsSeen (rotatedV c s .seen) (several-bears .0) in
+        record {
+          matrix =
+              allMarks-cells (s .q) (s .q) (rotatedV c s .a) (startSeen c s)
+              (allMarks-first (s .q) (s .q) (rotatedV c s .v) (allMarks (s .q) (s .q) (rotatedV c s .a) (startSeen c s)) (h .0));
+          vectors = allMarks-cells (s .q) (s .q) (rotatedV c s .v) (allMarks (s .q) (s .q) (rotatedV c s .a) (startSeen c s)) (h .0);
+          seen = h .1;
+        }
+
+    state-moves : StateMoves 128 w (s .q) (rotatedV c s) (rotatedV c other)
+    unfolding rotatedV
+    state-moves =
+        jacobi-moves (c .rotation) 6 6 (s .q) (z .q) (z .q) fine w four-small (vRows c s) (vRows c other)
+        (λ i j h l. v-moves .cell i j (omega arith) l) state-bears
+
+    variances-move : (i : ℕ) → i < s .q → Moves 128 w (entryAt (variances c s) i) (entryAt (variances c other) i)
+    unfolding variances
+    variances-move = variancesOf-moves w (s .q) (z .q) (z .some) (rotatedV c s .a) (rotatedV c other .a) (state-moves .matrix) (state-bears .matrix)
+
+    variances-bear : (i : ℕ) → i < s .q → Bears 128 (entryAt (variances c s) i)
+    unfolding variances
+    variances-bear = variancesOf-bear w (s .q) (z .q) (z .some) (rotatedV c s .a) (rotatedV c other .a) (state-moves .matrix) (state-bears .matrix)
+
+    directions-move : MovesCells 128 (pos 0) (s .q) (s .q) (directions c s) (directions c other)
+    unfolding directions
+    directions-move =
+        directionsOf-moves w (s .q) (z .q) (z .some) (rotatedV c s .a) (rotatedV c other .a) (state-moves .matrix) (state-bears .matrix) (rotatedV c s .v) (rotatedV c other .v) (state-moves .vectors)
+
+    jx-moves : MovesStack 128 w (s .n) (s .q) (s .q) (jxStack c s) (jxStack c other)
+    unfolding jxStack
+    jx-moves = turnedAll-moves (s .q) (z .q) (directions c s) (directions c other) directions-move w two-small (s .n) (z .n) (jStack c s) (jStack c other) js-moves
+
+    fSeveral-agrees : fSeveral c other .value ≡ fSeveral c s .value
+    unfolding fSeveral
+    fSeveral-agrees =
+        still-value (fSeveral c s) (fSeveral c other)
+        (squaresOver-moves k two-small (s .q) (projected (s .q) (directions c s) (ldRows c s)) (projected (s .q) (directions c other) (ldRows c other)) (variances c s) (variances c other)
+        (projected-moves (s .q) (z .q) (directions c s) (directions c other) directions-move k one-small (ldRows c s) (ldRows c other) ld-moves) variances-move) (several-bears .1)
+
+    dfSeveral-agrees : dfSeveral c other ≡ dfSeveral c s
+    unfolding dfSeveral seenSeveral
+    dfSeveral-agrees =
+        ap (severalDf (s .q))
+        (componentDfs-agree (s .n) (s .q) few (variances c s) (directions c s) (jxStack c s) (also rotationsSeen (fSeveral c s)) b w c (s .a) (r .a)
+        (variances c other) (directions c other) (jxStack c other) (e .a) variances-move variances-bear
+        (λ i h. gradientAt-moves (s .q) (z .q) (directions c s) (directions c other) directions-move w two-small (s .n) (z .n) (jxStack c s) (jxStack c other) jx-moves i h))
+
+    several-survives : SameVerdict (severalRows c s) (severalRows c other)
+    unfolding severalRows
+    several-survives = record {
+      refused = notPositive-agrees w (s .q) (z .q) (z .some) (rotatedV c s .a) (rotatedV c other .a) (state-moves .matrix) (state-bears .matrix);
+      f = ap numberOf fSeveral-agrees;
+      df = dfSeveral-agrees;
+      rank = refl;
+    }
+
+  -- ---- whole
+  one-inside : T (oneRow c s .entry .inside) → SameVerdict (oneRow c s) (oneRow c other)
+  unfolding oneRow
+  one-inside t = one-survives (inside-bears (seenOne c s) (omega arith) t)
+
+  several-inside : T (severalRows c s .entry .inside) → SameVerdict (severalRows c s) (severalRows c other)
+  unfolding severalRows
+  several-inside t = several-survives (inside-bears (seenSeveral c s) (omega arith) t)
+
+  numbers-survive : T (satterthwaite c s .entry .inside) → SameVerdict (satterthwaite c s) (satterthwaite c other)
+  unfolding satterthwaite
+  numbers-survive = go (eqb (s .q) 1)
+    where
+      go : (x : Bool) → T (cond x (oneRow c s) (severalRows c s) .entry .inside)
+          → SameVerdict (cond x (oneRow c s) (severalRows c s)) (cond x (oneRow c other) (severalRows c other))
+      go true t = one-inside t
+      go false t = several-inside t
+
+-- ---- DEMAND 3 for the Satterthwaite test
+pub satterthwaite-survives : (c : Cutoffs) → T (fits binary64 (c .rotation)) → (k : ℤ) → natAbs k ≤ 32 → (s s' : Inputs) → InputSizes s → ConvertedInputs k s s'
+    → T (satterthwaite c s .entry .inside) → SameVerdict (satterthwaite c s) (satterthwaite c s')
+satterthwaite-survives c fine k small s s' z e t = rw same at (numbers-survive c fine k small s s' z (rw same e) t)
+  where
+    sized : ℕ → ℕ → ℕ → Inputs
+    sized p q n = record { p = p; q = q; n = n; l = s' .l; beta = s' .beta; betaH = s' .betaH; v = s' .v; js = s' .js; a = s' .a }
+
+    same : withNumbers s s' ≡ s'
+    same = ap (λ (x : ℕ). sized x (s .q) (s .n)) (sym (e .p)) ∙ ap (λ (x : ℕ). sized (s' .p) x (s .n)) (sym (e .q)) ∙ ap (sized (s' .p) (s' .q)) (sym (e .n))
+
+-- with document 01's cutoffs
+pub document-survives : (k : ℤ) → natAbs k ≤ 32 → (s s' : Inputs) → InputSizes s → ConvertedInputs k s s'
+    → T (satterthwaite documentCutoffs s .entry .inside) → SameVerdict (satterthwaite documentCutoffs s) (satterthwaite documentCutoffs s')
+document-survives = satterthwaite-survives documentCutoffs rotation-fits

@@ -1,0 +1,22 @@
+-- `tests_kr_modcomp::kenward_roger::scaling_seen` meets its contract.
+use Rattle.tests.specs.KenwardRoger.{scalingSeen, uSeen}
+use borrow.Author.Needs.{needs}
+use Rattle.tests_kr_modcomp.proofs.kenward_roger.scaling_seen.Statement.{statement}
+use Rattle.tests_kr_modcomp.proofs.kenward_roger.scaling_seen.Tie as tie
+
+all-marks-requires : tie.Need-all-marks-requires
+all-marks-requires c κs = search needs
+
+all-marks-requires-2 : tie.Need-all-marks-requires-2
+all-marks-requires-2 c κs = search needs
+
+u-seen-requires : tie.Need-u-seen-requires
+u-seen-requires c κs = search needs
+
+returns : tie.Need-returns
+unfolding scalingSeen uSeen
+returns c = λ w. rw (← (c .before .before .all-marks .ensures), ← (c .before .all-marks2 .ensures)) (c .u-seen .ensures)
+
+pub scaling-seen-spec : {M : Type 1} → statement M
+scaling-seen-spec =
+    tie.close (tie.spec all-marks-requires all-marks-requires-2 u-seen-requires returns)

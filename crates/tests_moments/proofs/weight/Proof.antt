@@ -1,0 +1,54 @@
+-- `tests_moments::weight` meets its contract.
+use lib.Ieee.{ofBits}
+use borrow.Author.Tests.{eq-eqb, ne-eqb}
+use Rattle.tests.specs.Moments.{weight}
+use borrow.Author.Needs.{needs}
+use Rattle.tests_moments.proofs.weight.Statement.{statement}
+use Rattle.tests_moments.proofs.weight.Tie as tie
+
+mul-result : tie.Need-mul-result
+mul-result c = search needs
+
+mul-result-2 : tie.Need-mul-result-2
+mul-result-2 c = search needs
+
+index-1-result : tie.Need-index-1-result
+index-1-result c = search needs
+
+index-2-result : tie.Need-index-2-result
+index-2-result c = search needs
+
+returns : tie.Need-returns
+unfolding weight ofBits
+returns c = rw (eq-eqb _ _ (c .before .if1 .taken))
+
+mul-result-3 : tie.Need-mul-result-3
+mul-result-3 c = search needs
+
+mul-result-4 : tie.Need-mul-result-4
+mul-result-4 c = search needs
+
+index-1-result-2 : tie.Need-index-1-result-2
+index-1-result-2 c = search needs
+
+index-2-result-2 : tie.Need-index-2-result-2
+index-2-result-2 c = search needs
+
+returns-2 : tie.Need-returns-2
+unfolding weight ofBits
+returns-2 c = rw (ne-eqb _ _ (c .before .if1 .left))
+
+pub weight-spec : {M : Type 1} → statement M
+weight-spec =
+    tie.close
+    (tie.spec
+    mul-result
+    mul-result-2
+    index-1-result
+    index-2-result
+    returns
+    mul-result-3
+    mul-result-4
+    index-1-result-2
+    index-2-result-2
+    returns-2)
