@@ -1,7 +1,7 @@
 -- Document 01: "U: for r < s add (Q_rs − P_rΦP_s) × W_rs; add the transpose; add the r = s terms. Φ_A = Φ + (ΦUΦ) × 2. M: Φ and Φ_A times sigma2, each P divided by it; W unchanged."
 use Prim.Native.Nat.{ℕ, _+_}
-use mathlib.Core.Bool.{Bool, true, false, not, cond, _&&_, _||_}
-use mathlib.Core.List.{List, []}
+use mathlib.Core.Bool.{Bool, false, not, _||_}
+use mathlib.Core.List.{List, [], _∷_}
 use lib.ListN.{getD, replicate, set}
 use lib.Ieee.{Float, binary64, add, sub, mul}
 use Rattle.arithmetic.specs.declared.Marked.{Marked}
@@ -13,6 +13,7 @@ use Rattle.algebra.specs.Kind.{floats, marks}
 use Rattle.algebra.specs.Product.{at, product, transpose, plusCells, minusCells, timesNumber, overNumber}
 use Rattle.algebra.specs.Jacobi.{State, two, jacobi}
 use Rattle.algebra.specs.Small.{Rows, givenCells}
+use Rattle.algebra.specs.Reasons.{first}
 use Rattle.arithmetic_cutoffs.specs.declared.Cutoffs.{Cutoffs}
 use Rattle.adjustment.specs.Covariance.{Design, parameters, matrices, gRows, sigmaRows, cholesky, notDefinite, inverseFactor, inverseFactorRefused, precision}
 use Rattle.adjustment.specs.Information.{hRows, oRows, pRows, qRows, packed, kCell, ieCell, mirror, inverted, wRows, wRefused}
@@ -141,10 +142,15 @@ unfoldable pub psNotFiniteTo : ℕ → Stack → Float → ℕ → Bool
 psNotFiniteTo p ps sigma2 k =
     fold 0 k (λ r z. z || notAllFinite p p (matrixAt ps r) || notAllFiniteMarked p p (scaledDown p (matrixAt ps r) sigma2)) false
 
--- the refusal of the adjustment, 0 for none. Document 01: 9 (Cholesky), 10 (zero pivot, of L⁻¹ or of IE), then 4.
+-- what refuses the adjustment, in document 01's order: 9 (a Cholesky diagonal of Σ not > 0), 10 (a zero pivot, of L or of the matrix that is inverted for W), then 4
+unfoldable pub adjustmentReasons : Cutoffs → Design → Rows → Float → List (ℕ × Bool)
+adjustmentReasons c d phi sigma2 =
+    (9, notDefinite (d .n) (sigmaRows d))
+    ∷ (10, inverseFactorRefused (d .n) (cholesky (d .n) (sigmaRows d)))
+    ∷ (10, informationRefused c d phi (precisionOf d))
+    ∷ (4, outputNotFinite (d .p) (matrices d) phi sigma2 (adjustment c d phi))
+    ∷ []
+
+-- the refusal of the adjustment, 0 for none
 unfoldable pub adjustmentRefusal : Cutoffs → Design → Rows → Float → ℕ
-adjustmentRefusal c d phi sigma2 =
-    cond (notDefinite (d .n) (sigmaRows d)) 9
-    (cond (inverseFactorRefused (d .n) (cholesky (d .n) (sigmaRows d))) 10
-    (cond (informationRefused c d phi (precisionOf d)) 10
-    (cond (outputNotFinite (d .p) (matrices d) phi sigma2 (adjustment c d phi)) 4 0)))
+adjustmentRefusal c d phi sigma2 = first (adjustmentReasons c d phi sigma2)

@@ -18,7 +18,8 @@ use Rattle.algebra.specs.Small.{Rows}
 use Rattle.adjustment.specs.Blocks.{placesBefore}
 use Rattle.adjustment.specs.Covariance.{Design, matrices, gCell, gRows, sigmaRows, notDefinite, cholesky, inverseFactor, inverseFactorRefused, precision}
 use Rattle.adjustment.specs.Information.{hRows, oRows, pRows, qRows, mirror}
-use Rattle.adjustment.specs.Adjusted.{Stack, Adjustment, stack, qStack, hStack, oStack, pStack, qStackOf, ieRows, eigen, fromPrecision, informationRefused, outputNotFinite, precisionOf, adjustment, adjustmentRefusal}
+use Rattle.adjustment.specs.Adjusted.{Stack, Adjustment, stack, qStack, hStack, oStack, pStack, qStackOf, ieRows, eigen, fromPrecision, informationRefused, outputNotFinite, precisionOf, adjustment, adjustmentReasons, adjustmentRefusal}
+use Rattle.algebra.specs.Reasons.{first}
 use Rattle.adjustment_covariance.specs.joints.Lent.{design}
 use Rattle.adjustment_covariance.proofs.DesignLaws.{sigma-whole}
 use Rattle.adjustment_work.specs.joints.Work.{square, part, designOf, zeros, putStack, precisionIn, withHs, workOf}
@@ -132,13 +133,13 @@ first-accepts false true k l e h = absurd (omega arith)
 first-accepts false false k l e h = refl
 
 pub number-early : (c : Cutoffs) (d : Design) (phi : Rows) (sigma2 : Float) (k : ℕ) → k ≡ precisionRefusal d → (k ≡ 0 → ⊥) → k ≡ adjustmentRefusal c d phi sigma2
-unfolding precisionRefusal adjustmentRefusal afterPrecision
+unfolding precisionRefusal adjustmentRefusal adjustmentReasons first afterPrecision
 number-early c d phi sigma2 k e h =
     first-refuses (notDefinite (d .n) (sigmaRows d)) (inverseFactorRefused (d .n) (cholesky (d .n) (sigmaRows d))) k (afterPrecision c d phi sigma2 (precisionOf d)) e h
 
 pub number-late : (c : Cutoffs) (d : Design) (phi : Rows) (sigma2 : Float) (k : ℕ) → k ≡ precisionRefusal d → k ≡ 0
     → afterPrecision c d phi sigma2 (precisionOf d) ≡ adjustmentRefusal c d phi sigma2
-unfolding precisionRefusal adjustmentRefusal afterPrecision
+unfolding precisionRefusal adjustmentRefusal adjustmentReasons first afterPrecision
 number-late c d phi sigma2 k e h =
     first-accepts (notDefinite (d .n) (sigmaRows d)) (inverseFactorRefused (d .n) (cholesky (d .n) (sigmaRows d))) k (afterPrecision c d phi sigma2 (precisionOf d)) e h
 

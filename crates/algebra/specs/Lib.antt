@@ -7,3 +7,4 @@ pub mod Elimination
 pub mod Cholesky
 pub mod Jacobi
 pub mod Small
+pub mod Reasons

@@ -9,7 +9,8 @@ use Rattle.arithmetic.proofs.PlainLaws.{of-eq, clash}
 use Rattle.arithmetic.proofs.RangeTest.{or-cases}
 use mathlib.Core.Logic.{_⊎_, inl, inr}
 use Rattle.records.specs.declared.Kind.{Kind}
-use Rattle.records.specs.Scan.{any, most, first}
+use Rattle.algebra.specs.Reasons.{first}
+use Rattle.records.specs.Scan.{any, most}
 use Rattle.records.specs.Kinds.{Table, kindAt}
 use Rattle.records.specs.File.{count, kindOf, rowOf, columnOf, paddingOf, countOf, bitsOf, outOf, badRecord, rows, columns, beyond}
 

@@ -10,7 +10,8 @@ use lib.Ieee.{Float, le}
 use Rattle.arithmetic.specs.Numbers.{plusZero, isZero}
 use Rattle.arithmetic.proofs.PlainLaws.{clash, zero-scale}
 use Rattle.arithmetic.proofs.ScaleLaws.{le-scale}
-use Rattle.records.specs.Scan.{any, first}
+use Rattle.algebra.specs.Reasons.{first}
+use Rattle.records.specs.Scan.{any}
 use Rattle.records.specs.Kinds.{Table, kindAt, kenwardRoger}
 use Rattle.records.specs.File.{count, badRecord, again, beyond, present, notFinite}
 use Rattle.records.specs.Series.{specimens, coefficients, contrastRows, sizes, cellValue, sigma2, incomplete, badSize, badWeight, misfit, zeroContrast, reasons, refusal}

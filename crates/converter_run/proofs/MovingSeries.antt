@@ -2,8 +2,8 @@
 use Prim.Native.Nat.{ℕ, _≤_, _<_}
 use native.Mathlib.Omega.{arith}
 use mathlib.Core.Path.{ap}
-use mathlib.Core.Bool.{Bool, cond}
-use mathlib.Core.List.{[]}
+use mathlib.Core.Bool.{Bool}
+use mathlib.Core.List.{[], _∷_}
 use lib.IntN.{ℤ, natAbs}
 use lib.ListN.{replicate, length-replicate}
 use lib.Ieee.{nan, binary64, mul}
@@ -17,7 +17,8 @@ use Rattle.algebra.proofs.TableLaws.{table-at}
 use Rattle.arithmetic_cutoffs.specs.declared.Cutoffs.{Cutoffs}
 use Rattle.adjustment.specs.Covariance.{Design, matrices, sigmaRows, cholesky, notDefinite, inverseFactorRefused}
 use Rattle.adjustment.specs.Information.{oRows, pRows}
-use Rattle.adjustment.specs.Adjusted.{Stack, matrixAt, stack, phiARows, pStack, fromPrecision, precisionOf, informationRefused, adjustment, adjustmentRefusal}
+use Rattle.adjustment.specs.Adjusted.{Stack, matrixAt, stack, phiARows, pStack, fromPrecision, precisionOf, informationRefused, adjustment, adjustmentReasons, adjustmentRefusal}
+use Rattle.algebra.specs.Reasons.{first}
 use Rattle.algebra.specs.Small.{Rows}
 use Rattle.tests.specs.Verdict.{Inside}
 use Rattle.converter_run.specs.joints.ConvertedInput.{Input, runOn, ConvertedInput, RunSizes, WrittenCells, Written, WrittenUnits, SeriesSurvives}
@@ -56,15 +57,17 @@ adjustment-written c d phi hp hN w = record {
 pub series-survives : (c : Cutoffs) (d : Design) (phi : Rows) (rows : ℕ) (k : ℤ) (m : ℕ → ℤ) (x x' : Input) → RunSizes (d .p) (matrices d) rows → natAbs k ≤ 32
     → WrittenCells (d .p) (d .p) phi → Written (d .p) rows x → ConvertedInput k m (d .p) rows x x'
     → Inside (d .p) rows (runOn c (d .p) (matrices d) rows phi (adjustment c d phi) x) → SeriesSurvives c d phi rows x x'
-unfolding adjustmentRefusal
+unfolding adjustmentRefusal adjustmentReasons
 series-survives c d phi rows k m x x' sizes near w written converted inside =
     let units : WrittenUnits (d .p) (matrices d) phi (adjustment c d phi) = adjustment-written c d phi (sizes .coefficients) (sizes .matrices) w in
     record {
       number = ap
-          (λ (z : Bool). cond (notDefinite (d .n) (sigmaRows d)) 9
-          (cond (inverseFactorRefused (d .n) (cholesky (d .n) (sigmaRows d))) 10
-          (cond (informationRefused c d phi (precisionOf d)) 10
-          (cond z 4 0))))
+          (λ (z : Bool). first
+          ((9, notDefinite (d .n) (sigmaRows d))
+          ∷ (10, inverseFactorRefused (d .n) (cholesky (d .n) (sigmaRows d)))
+          ∷ (10, informationRefused c d phi (precisionOf d))
+          ∷ (4, z)
+          ∷ []))
           (finite-survives c (d .p) (matrices d) rows k m phi (adjustment c d phi) x x' sizes near units written converted inside);
       run = run-survives c (d .p) (matrices d) rows k m phi (adjustment c d phi) x x' sizes near units written converted inside;
     }

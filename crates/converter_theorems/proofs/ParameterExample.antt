@@ -24,7 +24,8 @@ use Rattle.tests.specs.Satterthwaite.{column, contrastOf, transformed, transfor
 use Rattle.tests.specs.declared.Number.the-variants.{Is}
 use Rattle.tests.specs.declared.Entry.{Entry}
 use Rattle.records.specs.Bytes.{word, long, bytesOf}
-use Rattle.records.specs.Scan.{any, most, last, first}
+use Rattle.algebra.specs.Reasons.{first}
+use Rattle.records.specs.Scan.{any, most, last}
 use Rattle.records.specs.Kinds.{kindAt, satterthwaite}
 use Rattle.records.specs.File.{outOf, badRecord, isCell, again, has, cell as cellOf, rows, columns, beyond, missing, notFinite}
 use Rattle.records.proofs.Examples.{recordOf}

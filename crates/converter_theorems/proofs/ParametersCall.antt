@@ -17,7 +17,8 @@ use Rattle.arithmetic_cutoffs.specs.declared.Cutoffs.{Cutoffs}
 use Rattle.arithmetic_cutoffs.specs.Cutoffs.{documentCutoffs}
 use Rattle.tests.specs.declared.Number.{Number}
 use Rattle.tests.specs.declared.Entry.{Entry}
-use Rattle.records.specs.Scan.{any, first}
+use Rattle.algebra.specs.Reasons.{first}
+use Rattle.records.specs.Scan.{any}
 use Rattle.records.specs.Kinds.{Table, kindAt, satterthwaite}
 use Rattle.records.specs.File.{count, kindOf, rowOf, columnOf, countOf, valueOf, cell, present, beyond, missing}
 use Rattle.tests.specs.Satterthwaite.{startSeen, satterthwaite as test}

@@ -20,7 +20,7 @@ use Rattle.arithmetic_cutoffs.specs.Cutoffs.{decimal, documentCutoffs}
 use Rattle.adjustment.specs.Information.{hRows, oRows, pRows, qRows, packed, kCell, ieCell, mirror, smallest, ridged, inverted, wRows, wRefused}
 use Rattle.adjustment.specs.Blocks.{columnsBefore, placesBefore, blockOf, placeOf, thetaCell, factorOf, direction}
 use Rattle.adjustment.specs.Covariance.{Design, directedCell, groupCell, blockCell, residualCell, gCell, factor as factorOfMatrix, gRows, sigmaCell, sigmaRows, cholesky, inverseFactor, inverseFactorRefused, precision}
-use Rattle.adjustment.specs.Adjusted.{stack, qStack, uTerm, uTermAt, uAbove, uRows, phiARows, hStack, oStack, pStack, qStackOf, ieRows, eigen, fromPrecision, informationRefused, precisionOf, adjustment, scaledUp, scaledDown, notAllFinite, notAllFiniteMarked, outputNotFinite, adjustmentRefusal}
+use Rattle.adjustment.specs.Adjusted.{stack, qStack, uTerm, uTermAt, uAbove, uRows, phiARows, hStack, oStack, pStack, qStackOf, ieRows, eigen, fromPrecision, informationRefused, precisionOf, adjustment, scaledUp, scaledDown, notAllFinite, notAllFiniteMarked, outputNotFinite, adjustmentReasons, adjustmentRefusal}
 use Rattle.algebra.specs.Cholesky.{put, lessDot, belowDiagonal, choleskyColumn, choleskyTo, notPositive, choleskyRefused, lower}
 use Rattle.algebra.specs.Jacobi.{ratio, tangent, cosine, sine, turnedFirst, turnedSecond, turnRow, turnColumns, rotatedCell, rotated, squared, bound, rotateTested, rotate, rowTo, sweepTo, sweepsTo, mirrored, jacobi}
 use Rattle.tests.specs.Basis.{largest, dividedCell, divided, contrastBasis}
@@ -31,7 +31,8 @@ use Rattle.tests.specs.declared.Number.the-variants.{Is, None}
 use Rattle.tests.specs.declared.Entry.{Entry}
 use Rattle.tests.specs.Answer.{noEntry, numberOf}
 use Rattle.records.specs.Bytes.{word, long, bytesOf}
-use Rattle.records.specs.Scan.{any, most, last, total, first}
+use Rattle.algebra.specs.Reasons.{first}
+use Rattle.records.specs.Scan.{any, most, last, total}
 use Rattle.records.specs.Kinds.{kindAt, kenwardRoger}
 use Rattle.records.specs.File.{outOf, badRecord, isCell, again, has, cell as cellOf, rows, columns, beyond, missing, notFinite}
 use Rattle.records.specs.Series.{coefficients, contrastRows, sizes, blockOf as blockAt, incomplete, badSize, badWeight, misfit, zeroContrast, reasons, design, phi, beta, betaH, contrast, sigma2}
@@ -102,7 +103,7 @@ record Runs : Type 0 where
   pub run : whole documentCutoffs pullDesign pullPhi 1 pullInput ≡ pullRun
 
 runs : Runs
-unfolding adjustmentRefusal outputNotFinite notAllFiniteMarked notAllFinite scaledDown scaledUp precisionOf informationRefused fromPrecision eigen ieRows qStackOf pStack oStack hStack phiARows uRows uAbove uTermAt uTerm qStack stack precision inverseFactorRefused inverseFactor cholesky sigmaRows sigmaCell gRows factorOfMatrix gCell residualCell blockCell groupCell directedCell direction factorOf thetaCell placeOf blockOf placesBefore columnsBefore wRefused wRows inverted ridged smallest mirror ieCell kCell packed qRows pRows oRows hRows lower choleskyRefused notPositive choleskyTo choleskyColumn belowDiagonal lessDot put jacobi mirrored sweepsTo sweepTo rowTo rotate rotateTested bound squared rotated rotatedCell turnColumns turnRow turnedSecond turnedFirst sine cosine tangent ratio identity plusCells minusCells timesNumber overNumber documentCutoffs decimal allMarks values givenCells sandwich solution refused joined backTo backCell backSum stopping columnOrStop zeroPivot eliminateTo eliminateColumn cleared lessBy factor swapRows pivotRow larger trace likeCells sumCells transpose product cell sum table blank row fold markedRoot markedDiv markedMul markedSub markedAdd also lostQuotient lostProduct stepMark inRange squareRoot wholeRoot ofCount isLarger isFinite isZero magnitude sign round add sub mul div neg lt eq le ofInt lib.Ieee.isNan tested testSeen a1 a2 waldNumber waldMarked yRows vRows ldRows us thetaPhi xRows aRows waldMany waldOneGiven waldOne uSeen uValues uStack uOf thetaOf difference scalingSeen fOf scalingOf scalingAt dfOf rankOne generalDf positive rhoOf lessA2 divOf v2Of v1Of v0Of leadingOf c3Of c2Of c1Of dOf gOf bOf a2Of a1Of weight contrastBasis divided dividedCell largest numberOf unitRow coefficientTest contrastTest scaledPs scaledBy runOf withTest coefficientsTo
+unfolding adjustmentRefusal adjustmentReasons first outputNotFinite notAllFiniteMarked notAllFinite scaledDown scaledUp precisionOf informationRefused fromPrecision eigen ieRows qStackOf pStack oStack hStack phiARows uRows uAbove uTermAt uTerm qStack stack precision inverseFactorRefused inverseFactor cholesky sigmaRows sigmaCell gRows factorOfMatrix gCell residualCell blockCell groupCell directedCell direction factorOf thetaCell placeOf blockOf placesBefore columnsBefore wRefused wRows inverted ridged smallest mirror ieCell kCell packed qRows pRows oRows hRows lower choleskyRefused notPositive choleskyTo choleskyColumn belowDiagonal lessDot put jacobi mirrored sweepsTo sweepTo rowTo rotate rotateTested bound squared rotated rotatedCell turnColumns turnRow turnedSecond turnedFirst sine cosine tangent ratio identity plusCells minusCells timesNumber overNumber documentCutoffs decimal allMarks values givenCells sandwich solution refused joined backTo backCell backSum stopping columnOrStop zeroPivot eliminateTo eliminateColumn cleared lessBy factor swapRows pivotRow larger trace likeCells sumCells transpose product cell sum table blank row fold markedRoot markedDiv markedMul markedSub markedAdd also lostQuotient lostProduct stepMark inRange squareRoot wholeRoot ofCount isLarger isFinite isZero magnitude sign round add sub mul div neg lt eq le ofInt lib.Ieee.isNan tested testSeen a1 a2 waldNumber waldMarked yRows vRows ldRows us thetaPhi xRows aRows waldMany waldOneGiven waldOne uSeen uValues uStack uOf thetaOf difference scalingSeen fOf scalingOf scalingAt dfOf rankOne generalDf positive rhoOf lessA2 divOf v2Of v1Of v0Of leadingOf c3Of c2Of c1Of dOf gOf bOf a2Of a1Of weight contrastBasis divided dividedCell largest numberOf unitRow coefficientTest contrastTest scaledPs scaledBy runOf withTest coefficientsTo
 runs = record { adjustment = refl; run = refl }
 
 -- ---- together

@@ -18,7 +18,7 @@ use Rattle.adjustment.specs.Adjusted.{adjustment, adjustmentRefusal}
 use Rattle.tests.specs.declared.Entry.{Entry}
 use Rattle.tests.specs.Answer.{noEntry}
 use Rattle.tests.specs.KenwardRoger.{Run}
-use Rattle.records.specs.Scan.{first}
+use Rattle.algebra.specs.Reasons.{first}
 use Rattle.records.specs.Series.{coefficients, contrastRows, design, phi, sigma2, beta, betaH, contrast, reasons, refusal}
 use Rattle.records.specs.KenwardRogerCall.{adjusted, scaled, run, lateRefusal, allReasons, number, entries}
 use Rattle.tests.specs.Verdict.{verdict, verdicts, Inside}

@@ -6,7 +6,8 @@ use mathlib.Core.List.{List, [], _∷_, _++_}
 use lib.Ieee.{ofBits, le, eq}
 use Rattle.arithmetic.specs.Numbers.{isFinite, isZero}
 use Rattle.records.specs.Bytes.{word, long, bytesOf}
-use Rattle.records.specs.Scan.{any, most, last, total, first}
+use Rattle.algebra.specs.Reasons.{first}
+use Rattle.records.specs.Scan.{any, most, last, total}
 use Rattle.records.specs.Kinds.{kindAt, kenwardRoger}
 use Rattle.records.specs.File.{outOf, badRecord, isCell, again, has, cell, rows, columns, beyond, missing, notFinite}
 use Rattle.records.specs.Series.{sizes, blockOf, incomplete, badSize, badWeight, misfit, zeroContrast, reasons, refusal}

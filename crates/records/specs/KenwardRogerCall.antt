@@ -11,7 +11,7 @@ use Rattle.tests.specs.declared.Entry.{Entry}
 use Rattle.tests.specs.Answer.{noEntry}
 use Rattle.records.specs.Layout.{answerBytes}
 use Rattle.tests.specs.KenwardRoger.{Scaled, scaledBy, Run, runOf}
-use Rattle.records.specs.Scan.{first}
+use Rattle.algebra.specs.Reasons.{first}
 use Rattle.records.specs.Series.{reasons, coefficients, contrastRows, design, phi, sigma2, beta, betaH, contrast}
 
 module _ (c : Cutoffs) (s : List ℕ) where

@@ -9,7 +9,8 @@ use lib.Ieee.{Float}
 use Rattle.arithmetic.specs.Numbers.{plusZero}
 use Rattle.algebra.specs.Fold.{span}
 use Rattle.algebra.specs.Table.{row, table, blank}
-use Rattle.records.specs.Scan.{any, first}
+use Rattle.algebra.specs.Reasons.{first}
+use Rattle.records.specs.Scan.{any}
 use Rattle.records.specs.Kinds.{Table, cells, unread, satterthwaite}
 use Rattle.records.specs.File.{count, cell, rows, columns, present, badRecord, again, beyond, missing, notFinite}
 use Rattle.tests.specs.Satterthwaite.{Inputs}

@@ -8,7 +8,7 @@ use Rattle.arithmetic_cutoffs.specs.declared.Cutoffs.{Cutoffs}
 use Rattle.tests.specs.declared.Entry.{Entry}
 use Rattle.tests.specs.Answer.{noEntry}
 use Rattle.records.specs.Layout.{entryBytes}
-use Rattle.records.specs.Scan.{first}
+use Rattle.algebra.specs.Reasons.{first}
 use Rattle.tests.specs.Satterthwaite.{Outcome, satterthwaite as test}
 use Rattle.records.specs.Parameters.{reasons, inputs}
 

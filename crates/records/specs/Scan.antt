@@ -1,7 +1,6 @@
 -- Questions over the numbers below n: whether one passes, the largest answer, the last that passes.
 use Prim.Native.Nat.{ℕ, zero, suc, _+_, max}
 use mathlib.Core.Bool.{Bool, true, false, _||_, cond}
-use mathlib.Core.List.{List, [], _∷_, _++_}
 
 -- some i below n passes
 unfoldable pub any : ℕ → (ℕ → Bool) → Bool
@@ -22,8 +21,3 @@ last (suc n) p f d = cond (p n) (f n) (last n p f d)
 unfoldable pub total : ℕ → (ℕ → ℕ) → ℕ
 total zero f = 0
 total (suc n) f = total n f + f n
-
--- the number of the first condition that holds, 0 where none does
-unfoldable pub first : List (ℕ × Bool) → ℕ
-first [] = 0
-first (c ∷ cs) = cond (c .1) (c .0) (first cs)

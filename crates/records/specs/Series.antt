@@ -11,7 +11,8 @@ use Rattle.algebra.specs.Small.{Rows}
 use Rattle.adjustment.specs.declared.Block.{Block}
 use Rattle.adjustment.specs.Blocks.{noBlock, places}
 use Rattle.adjustment.specs.Covariance.{Design}
-use Rattle.records.specs.Scan.{any, last, total, first}
+use Rattle.algebra.specs.Reasons.{first}
+use Rattle.records.specs.Scan.{any, last, total}
 use Rattle.records.specs.Kinds.{Table, cells, blocks, unread, kenwardRoger}
 use Rattle.records.specs.File.{count, columnOf, countOf, isCell, cell, rows, columns, present, badRecord, again, beyond, missing, notFinite}
 

@@ -12,7 +12,7 @@ use Rattle.tests.specs.declared.Entry.{Entry}
 use Rattle.tests.specs.Answer.{noEntry}
 use Rattle.records.specs.Layout.{answerBytes}
 use Rattle.tests.specs.Entries.{runRefusal, runEntries}
-use Rattle.records.specs.Scan.{first}
+use Rattle.algebra.specs.Reasons.{first}
 use Rattle.records.specs.Series.{reasons, refusal}
 use Rattle.records.specs.KenwardRogerCall.{lateRefusal, run, allReasons, number, entries, returned, written}
 

@@ -25,7 +25,8 @@ use Rattle.tests.specs.PooledDf.{tolerance, allWithin, anyLow, expected, pooled
 use Rattle.tests.specs.Satterthwaite.{column, contrastOf, transformed, transformedAll, squareOne, gradientOne, eigenvalues, notPositive, variancesOf, directionsOf, projected, squaresOver, jxAll, gradientAt, capped, componentDf, componentDfs, anyNone, severalDf, componentsSeen, stackSeen, Inputs, Outcome, ldRows, vRows, jStack, rotatedV, variances, directions, jxStack, fOne, fSeveral, dfOne, dfSeveral, startSeen, seenOne, seenSeveral, oneRow, severalRows, satterthwaite}
 use Rattle.records.specs.Layout.{bitsOf, entryBytes}
 use Rattle.records.specs.Bytes.{word, long, bytesOf}
-use Rattle.records.specs.Scan.{any, most, last, first}
+use Rattle.algebra.specs.Reasons.{first}
+use Rattle.records.specs.Scan.{any, most, last}
 use Rattle.records.specs.Kinds.{kindAt, satterthwaite as kinds}
 use Rattle.records.specs.File.{outOf, badRecord, isCell, again, has, cell as fileCell, rows, columns, beyond, missing, notFinite}
 use Rattle.records.proofs.Examples.{recordOf}

@@ -16,7 +16,8 @@ use Rattle.tests.specs.Answer.{noEntry}
 use Rattle.records.specs.Layout.{entryBytes}
 use Rattle.records_answer_bytes.proofs.LayoutLaws.{length-entry}
 use Rattle.records_little_endian.proofs.StoreLaws.{sets-all}
-use Rattle.records.specs.Scan.{any, last, first}
+use Rattle.algebra.specs.Reasons.{first}
+use Rattle.records.specs.Scan.{any, last}
 use Rattle.records.specs.Kinds.{Table, kindAt, satterthwaite}
 use Rattle.records.specs.File.{count, valueOf, badRecord, again, beyond, notFinite, isCell, cell, has, missing}
 use Rattle.records_file.proofs.Laws.{any-none}

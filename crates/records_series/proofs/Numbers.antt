@@ -12,7 +12,8 @@ use Rattle.algebra.specs.Table.{row}
 use Rattle.algebra.proofs.TableLaws.{row-at}
 use Rattle.adjustment.specs.declared.Block.{Block}
 use Rattle.adjustment.specs.Blocks.{noBlock, blockAt, places}
-use Rattle.records.specs.Scan.{any, total, first}
+use Rattle.algebra.specs.Reasons.{first}
+use Rattle.records.specs.Scan.{any, total}
 use Rattle.records.specs.Kinds.{kindAt, kenwardRoger}
 use Rattle.records.specs.File.{count, badRecord, again, beyond, notFinite, present}
 use Rattle.records_file.specs.joints.Sheet.{firstSlot, slots, sheetAfter}

@@ -8,7 +8,8 @@ use native.Mathlib.Omega.{arith}
 use lib.ListN.{length, getD}
 use lib.Ieee.{le}
 use Rattle.arithmetic.specs.Numbers.{plusZero}
-use Rattle.records.specs.Scan.{any, first}
+use Rattle.algebra.specs.Reasons.{first}
+use Rattle.records.specs.Scan.{any}
 use Rattle.records.specs.File.{count, notFinite}
 use Rattle.records.specs.Series.{sigma2, badSize, badWeight, misfit, zeroContrast, reasons, refusal}
 use Rattle.records_series.specs.joints.Gathered.{malformedFile}

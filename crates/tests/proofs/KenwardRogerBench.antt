@@ -15,13 +15,14 @@ use Rattle.algebra.specs.Table.{row, blank, table}
 use Rattle.algebra.specs.Kind.{floats}
 use Rattle.algebra.specs.Product.{at, sum, cell, product, transpose, sumCells, likeCells, trace, identity, plusCells, minusCells, timesNumber, overNumber}
 use Rattle.algebra.specs.Elimination.{larger, pivotRow, swapRows, factor, lessBy, cleared, eliminateColumn, eliminateTo, zeroPivot, columnOrStop, stopping, backSum, backCell, backTo, joined, solution, refused}
+use Rattle.algebra.specs.Reasons.{first}
 use Rattle.algebra.specs.Small.{sandwich, givenCells, values, allMarks}
 use Rattle.arithmetic_cutoffs.specs.Cutoffs.{decimal, documentCutoffs}
 use Rattle.adjustment.specs.declared.Block.{Block}
 use Rattle.adjustment.specs.Information.{hRows, oRows, pRows, qRows, packed, kCell, ieCell, mirror, smallest, ridged, inverted, wRows, wRefused}
 use Rattle.adjustment.specs.Blocks.{columnsBefore, placesBefore, blockOf, placeOf, thetaCell, factorOf, direction}
 use Rattle.adjustment.specs.Covariance.{Design, directedCell, groupCell, blockCell, residualCell, gCell, factor as factorOfMatrix, gRows, sigmaCell, sigmaRows, cholesky, inverseFactor, inverseFactorRefused, precision}
-use Rattle.adjustment.specs.Adjusted.{Adjustment, stack, qStack, uTerm, uTermAt, uAbove, uRows, phiARows, hStack, oStack, pStack, qStackOf, ieRows, eigen, fromPrecision, informationRefused, precisionOf, adjustment, scaledUp, scaledDown, notAllFinite, notAllFiniteMarked, outputNotFinite, adjustmentRefusal}
+use Rattle.adjustment.specs.Adjusted.{Adjustment, stack, qStack, uTerm, uTermAt, uAbove, uRows, phiARows, hStack, oStack, pStack, qStackOf, ieRows, eigen, fromPrecision, informationRefused, precisionOf, adjustment, scaledUp, scaledDown, notAllFinite, notAllFiniteMarked, outputNotFinite, adjustmentReasons, adjustmentRefusal}
 use Rattle.algebra.specs.Cholesky.{put, lessDot, belowDiagonal, choleskyColumn, choleskyTo, notPositive, choleskyRefused, lower}
 use Rattle.algebra.specs.Jacobi.{ratio, tangent, cosine, sine, turnedFirst, turnedSecond, turnRow, turnColumns, rotatedCell, rotated, squared, bound, rotateTested, rotate, rowTo, sweepTo, sweepsTo, mirrored, jacobi}
 use Rattle.tests.specs.declared.Number.{Number}
@@ -84,5 +85,5 @@ pub record BenchExamples : Type 0 where
       × (contrastTest documentCutoffs scaledPull betaSix (plusZero ∷ []) 1 ((one ∷ []) ∷ []) ≡ nineAndOne)
 
 pub bench : BenchExamples
-unfolding adjustmentRefusal outputNotFinite notAllFiniteMarked notAllFinite scaledDown scaledUp precisionOf informationRefused fromPrecision eigen ieRows qStackOf pStack oStack hStack phiARows uRows uAbove uTermAt uTerm qStack stack precision inverseFactorRefused inverseFactor cholesky sigmaRows sigmaCell gRows factorOfMatrix gCell residualCell blockCell groupCell directedCell direction factorOf thetaCell placeOf blockOf placesBefore columnsBefore wRefused wRows inverted ridged smallest mirror ieCell kCell packed qRows pRows oRows hRows lower choleskyRefused notPositive choleskyTo choleskyColumn belowDiagonal lessDot put jacobi mirrored sweepsTo sweepTo rowTo rotate rotateTested bound squared rotated rotatedCell turnColumns turnRow turnedSecond turnedFirst sine cosine tangent ratio identity plusCells minusCells timesNumber overNumber documentCutoffs decimal allMarks values givenCells sandwich solution refused joined backTo backCell backSum stopping columnOrStop zeroPivot eliminateTo eliminateColumn cleared lessBy factor swapRows pivotRow larger trace likeCells sumCells transpose product cell sum table blank row fold markedRoot markedDiv markedMul markedSub markedAdd also lostQuotient lostProduct stepMark inRange squareRoot wholeRoot ofCount isLarger isFinite isZero magnitude sign round add sub mul div neg lt eq le ofInt lib.Ieee.isNan tested testSeen a1 a2 waldNumber waldMarked yRows vRows ldRows us thetaPhi xRows aRows waldMany waldOneGiven waldOne uSeen uValues uStack uOf thetaOf difference scalingSeen fOf scalingOf scalingAt dfOf rankOne generalDf positive rhoOf lessA2 divOf v2Of v1Of v0Of leadingOf c3Of c2Of c1Of dOf gOf bOf a2Of a1Of weight contrastBasis divided dividedCell largest numberOf unitRow coefficientTest contrastTest scaledPs scaledBy
+unfolding adjustmentRefusal adjustmentReasons first outputNotFinite notAllFiniteMarked notAllFinite scaledDown scaledUp precisionOf informationRefused fromPrecision eigen ieRows qStackOf pStack oStack hStack phiARows uRows uAbove uTermAt uTerm qStack stack precision inverseFactorRefused inverseFactor cholesky sigmaRows sigmaCell gRows factorOfMatrix gCell residualCell blockCell groupCell directedCell direction factorOf thetaCell placeOf blockOf placesBefore columnsBefore wRefused wRows inverted ridged smallest mirror ieCell kCell packed qRows pRows oRows hRows lower choleskyRefused notPositive choleskyTo choleskyColumn belowDiagonal lessDot put jacobi mirrored sweepsTo sweepTo rowTo rotate rotateTested bound squared rotated rotatedCell turnColumns turnRow turnedSecond turnedFirst sine cosine tangent ratio identity plusCells minusCells timesNumber overNumber documentCutoffs decimal allMarks values givenCells sandwich solution refused joined backTo backCell backSum stopping columnOrStop zeroPivot eliminateTo eliminateColumn cleared lessBy factor swapRows pivotRow larger trace likeCells sumCells transpose product cell sum table blank row fold markedRoot markedDiv markedMul markedSub markedAdd also lostQuotient lostProduct stepMark inRange squareRoot wholeRoot ofCount isLarger isFinite isZero magnitude sign round add sub mul div neg lt eq le ofInt lib.Ieee.isNan tested testSeen a1 a2 waldNumber waldMarked yRows vRows ldRows us thetaPhi xRows aRows waldMany waldOneGiven waldOne uSeen uValues uStack uOf thetaOf difference scalingSeen fOf scalingOf scalingAt dfOf rankOne generalDf positive rhoOf lessA2 divOf v2Of v1Of v0Of leadingOf c3Of c2Of c1Of dOf gOf bOf a2Of a1Of weight contrastBasis divided dividedCell largest numberOf unitRow coefficientTest contrastTest scaledPs scaledBy
 bench = record { a = (refl, refl); b = refl; h = refl; k = (refl, refl, refl); pull = (refl, refl, refl) }

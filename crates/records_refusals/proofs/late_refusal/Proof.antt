@@ -1,6 +1,6 @@
 -- `records_refusals::late_refusal` meets its contract.
 use lib.Ieee.{ofBits}
-use Rattle.records.specs.Scan.{first}
+use Rattle.algebra.specs.Reasons.{first}
 use Rattle.records_series.specs.joints.Checks.{lateRefusal}
 use borrow.Author.Needs.{needs}
 use Rattle.records_refusals.proofs.late_refusal.Statement.{statement}

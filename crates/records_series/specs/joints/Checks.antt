@@ -9,7 +9,8 @@ use lib.Ieee.{Float, nan, le}
 use Rattle.arithmetic.specs.Numbers.{plusZero, isZero}
 use Rattle.adjustment.specs.declared.Block.{Block}
 use Rattle.adjustment.specs.Blocks.{blockAt, places}
-use Rattle.records.specs.Scan.{any, total, first}
+use Rattle.algebra.specs.Reasons.{first}
+use Rattle.records.specs.Scan.{any, total}
 use Rattle.records.specs.Kinds.{kindAt, kenwardRoger}
 use Rattle.records_file.specs.joints.Sheet.{firstSlot}
 use Rattle.records_series.specs.declared.SeriesSizes.{SeriesSizes}
