@@ -13,3 +13,4 @@ pub mod SameSizes
 pub mod Input
 pub mod Satterthwaite
 pub mod Examples
+pub mod AnswerBytes

@@ -1,4 +1,5 @@
 -- Document 01's third demand: the record file that a change of converter gives, and what is promised of each of the two calls on it. Definitions alone.
 pub mod Converted
+pub mod AnswerBytes
 pub mod SeriesDemand
 pub mod ParametersDemand

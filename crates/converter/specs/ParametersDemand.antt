@@ -1,5 +1,5 @@
 -- Document 01, demand 3, the verdict survives a change of converter: what it says of the Satterthwaite call on the bytes of a record file, over the definitions that the C function
--- promises (the number that it returns, the entry that it writes). Under another converter v and the Jacobians are 4 ^ k times what they were, β and β_H 2 ^ k times, each value as f64
+-- promises (the number that it returns, the entry, the bytes that it writes). Under another converter v and the Jacobians are 4 ^ k times what they were, β and β_H 2 ^ k times, each value as f64
 -- multiplication gives it.
 use Prim.Native.Nat.{ℕ, _≤_}
 use mathlib.Core.Path.{_≡_}
@@ -10,19 +10,27 @@ use lib.IntN.{ℤ, natAbs}
 use lib.Ieee.{binary64, fits}
 use Rattle.arithmetic_cutoffs.specs.declared.Cutoffs.{Cutoffs}
 use Rattle.arithmetic_cutoffs.specs.Cutoffs.{documentCutoffs}
-use Rattle.records.specs.SatterthwaiteCall.{number, entry}
+use Rattle.records.specs.SatterthwaiteCall.{number, entry, returned, written}
 use Rattle.tests.specs.Verdict.{verdict}
 use Rattle.converter.specs.Converted.{satterthwaiteChange, converted}
+use Rattle.converter.specs.AnswerBytes.{SameAnswer}
 
 -- s' is accepted, and its entry has the rank, F and df of the entry of s, none where that has none; the marks may differ
 pub record SameVerdict (c : Cutoffs) (s s' : List ℕ) : Type 0 where
   pub accepted : number c s' ≡ 0
   pub same : verdict (entry c s') ≡ verdict (entry c s)
 
--- every file that is accepted with its entry inside, k from -32 to 32
-abbrev pub CallSurvives : Cutoffs → Type 0
-CallSurvives c = (s : List ℕ) (k : ℤ) → natAbs k ≤ 32 → number c s ≡ 0 → entry c s .inside ≡ true → SameVerdict c s (converted (satterthwaiteChange k) s)
+-- P of a file and of what another converter makes of it: every file that is accepted with its entry inside, k from -32 to 32; with document 01's cutoffs, and with any others of which the
+-- one that Jacobi's rotation test reads is an f64 number
+abbrev pub ParametersWith : (List ℕ → List ℕ → Type 0) → Cutoffs → Type 0
+ParametersWith P c = (s : List ℕ) (k : ℤ) → natAbs k ≤ 32 → number c s ≡ 0 → entry c s .inside ≡ true → P s (converted (satterthwaiteChange k) s)
 
--- THE THIRD DEMAND, for the Satterthwaite call: with document 01's cutoffs, and with any others of which the one that Jacobi's rotation test reads is an f64 number
+abbrev pub EveryParameters : (Cutoffs → List ℕ → List ℕ → Type 0) → Type 0
+EveryParameters P = ParametersWith (P documentCutoffs) documentCutoffs × ((c : Cutoffs) → T (fits binary64 (c .rotation)) → ParametersWith (P c) c)
+
+-- THE THIRD DEMAND, for the Satterthwaite call: in its entry, and in its 24 answer bytes
 abbrev pub SatterthwaiteDemand : Type 0
-SatterthwaiteDemand = CallSurvives documentCutoffs × ((c : Cutoffs) → T (fits binary64 (c .rotation)) → CallSurvives c)
+SatterthwaiteDemand = EveryParameters SameVerdict
+
+abbrev pub SatterthwaiteAnswer : Type 0
+SatterthwaiteAnswer = EveryParameters (λ c s s'. SameAnswer 24 (written c s) (returned c s') (written c s'))

@@ -1,5 +1,5 @@
 -- Document 01, demand 3, the verdict survives a change of converter: what it says of the Kenward–Roger call on the bytes of a record file, over the definitions that the C function
--- promises (the number that it returns, the seven entries that it writes). Under another converter sigma2 is 4 ^ k times what it was, β and β_H 2 ^ k times, and row r of the contrast
+-- promises (the number that it returns, the seven entries, the bytes that it writes). Under another converter sigma2 is 4 ^ k times what it was, β and β_H 2 ^ k times, and row r of the contrast
 -- 2 ^ (m r) times, each value as f64 multiplication gives it.
 use Prim.Native.Nat.{ℕ, _<_, _≤_}
 use mathlib.Core.Path.{_≡_}
@@ -10,9 +10,10 @@ use lib.ListN.{getD}
 use Rattle.arithmetic_cutoffs.specs.declared.Cutoffs.{Cutoffs}
 use Rattle.tests.specs.Answer.{noEntry}
 use Rattle.records.specs.Series.{coefficients, contrastRows}
-use Rattle.records.specs.KenwardRogerCall.{number, entries}
+use Rattle.records.specs.KenwardRogerCall.{number, entries, returned, written}
 use Rattle.tests.specs.Verdict.{verdict}
 use Rattle.converter.specs.Converted.{kenwardRogerChange, converted}
+use Rattle.converter.specs.AnswerBytes.{SameAnswer}
 
 -- "a run is inside when all its entries are": those in use, which are the coefficients' and, where the file has a contrast, entry 6
 pub record AllInside (c : Cutoffs) (s : List ℕ) : Type 0 where
@@ -25,9 +26,16 @@ pub record SameVerdicts (c : Cutoffs) (s s' : List ℕ) : Type 0 where
   pub accepted : number c s' ≡ 0
   pub verdicts : map verdict (entries c s') ≡ map verdict (entries c s)
 
--- THE THIRD DEMAND, for the Kenward–Roger call: every file that is accepted with all entries inside, whatever the cutoffs, k from -32 to 32 and for each contrast row an m of its own
--- from -32 to 32
-abbrev pub KenwardRogerDemand : Type 0
-KenwardRogerDemand =
+-- P of a file and of what another converter makes of it: every file that is accepted with all entries inside, whatever the cutoffs, k from -32 to 32 and for each contrast row an m of its
+-- own from -32 to 32
+abbrev pub EverySeries : (Cutoffs → List ℕ → List ℕ → Type 0) → Type 0
+EverySeries P =
     (c : Cutoffs) (s : List ℕ) (k : ℤ) (m : ℕ → ℤ) → natAbs k ≤ 32 → ((r : ℕ) → r < contrastRows s → natAbs (m r) ≤ 32) → number c s ≡ 0 → AllInside c s
-    → SameVerdicts c s (converted (kenwardRogerChange k m) s)
+    → P c s (converted (kenwardRogerChange k m) s)
+
+-- THE THIRD DEMAND, for the Kenward–Roger call: in entries, and in its 168 answer bytes
+abbrev pub KenwardRogerDemand : Type 0
+KenwardRogerDemand = EverySeries SameVerdicts
+
+abbrev pub KenwardRogerAnswer : Type 0
+KenwardRogerAnswer = EverySeries (λ c s s'. SameAnswer 168 (written c s) (returned c s') (written c s'))

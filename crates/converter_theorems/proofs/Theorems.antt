@@ -1,8 +1,18 @@
--- THE THIRD DEMAND, whole: the verdict survives a change of converter, for every record file of either call.
-use Rattle.converter.specs.SeriesDemand.{KenwardRogerDemand}
-use Rattle.converter.specs.ParametersDemand.{SatterthwaiteDemand}
+-- THE THIRD DEMAND, whole: the verdict survives a change of converter, for every record file of either call, in entries and in answer bytes.
+use Prim.Native.Nat.{ℕ}
+use mathlib.Core.Path.{_≡_}
+use mathlib.Core.List.{List}
+use Rattle.records.specs.Layout.{entryBytes, answerBytes}
+use Rattle.records.specs.KenwardRogerCall as kenwardRoger
+use Rattle.records.specs.SatterthwaiteCall as satterthwaite
+use Rattle.converter.specs.AnswerBytes.{SameAnswer}
+use Rattle.converter.specs.Converted.{kenwardRogerChange, satterthwaiteChange, converted}
+use Rattle.converter.specs.SeriesDemand.{KenwardRogerDemand, KenwardRogerAnswer, SameVerdicts}
+use Rattle.converter.specs.ParametersDemand.{SatterthwaiteDemand, SatterthwaiteAnswer, SameVerdict}
+use Rattle.converter.proofs.AnswerBytes.{entry-same, answer-same, same-answer}
 use Rattle.converter_theorems.proofs.SeriesCall.{series-same}
 use Rattle.converter_theorems.proofs.ParametersCall.{parameters-same, document-rotation}
+use Rattle.arithmetic_cutoffs.specs.declared.Cutoffs.{Cutoffs}
 use Rattle.arithmetic_cutoffs.specs.Cutoffs.{documentCutoffs}
 
 -- Every file that the Kenward–Roger call accepts with all entries inside: with sigma2 times 4 ^ k, β and β_H times 2 ^ k and each contrast row times its own 2 ^ (m r), the call accepts
@@ -16,4 +26,31 @@ pub converter-satterthwaite : SatterthwaiteDemand
 converter-satterthwaite = (
   λ s k near e inside. parameters-same documentCutoffs document-rotation s k near e inside,
   λ c rotation s k near e inside. parameters-same c rotation s k near e inside,
+)
+
+-- ---- in answer bytes: files with the same verdicts have the same bytes but for the marks
+module _ (c : Cutoffs) (s s' : List ℕ) where
+  series-answer : kenwardRoger.number c s ≡ 0 → SameVerdicts c s s' → SameAnswer 168 (kenwardRoger.written c s) (kenwardRoger.returned c s') (kenwardRoger.written c s')
+  unfolding kenwardRoger.returned kenwardRoger.written
+  series-answer e v =
+      same-answer 168 (kenwardRoger.number c s) (kenwardRoger.number c s') (answerBytes (kenwardRoger.entries c s)) (answerBytes (kenwardRoger.entries c s')) e (v .accepted)
+      (answer-same (kenwardRoger.entries c s) (kenwardRoger.entries c s') (v .verdicts))
+
+  parameters-answer : satterthwaite.number c s ≡ 0 → SameVerdict c s s' → SameAnswer 24 (satterthwaite.written c s) (satterthwaite.returned c s') (satterthwaite.written c s')
+  unfolding satterthwaite.returned satterthwaite.written
+  parameters-answer e v =
+      same-answer 24 (satterthwaite.number c s) (satterthwaite.number c s') (entryBytes (satterthwaite.entry c s)) (entryBytes (satterthwaite.entry c s')) e (v .accepted)
+      (entry-same (satterthwaite.entry c s) (satterthwaite.entry c s') (v .same))
+
+-- Every file that the Kenward–Roger call accepts with all entries inside: lent any 168 bytes, it returns 0 for the converted file too, and writes every byte that it writes for the
+-- file itself, but byte 19 of each entry, the mark.
+pub answer-kenward-roger : KenwardRogerAnswer
+answer-kenward-roger c s k m near nears e inside =
+    series-answer c s (converted (kenwardRogerChange k m) s) e (converter-kenward-roger c s k m near nears e inside)
+
+-- Every file that the Satterthwaite call accepts with its entry inside, lent any 24 bytes, likewise.
+pub answer-satterthwaite : SatterthwaiteAnswer
+answer-satterthwaite = (
+  λ s k near e inside. parameters-answer documentCutoffs s (converted (satterthwaiteChange k) s) e (converter-satterthwaite .0 s k near e inside),
+  λ c rotation s k near e inside. parameters-answer c s (converted (satterthwaiteChange k) s) e (converter-satterthwaite .1 c rotation s k near e inside),
 )
