@@ -28,7 +28,7 @@ use Rattle.algebra.specs.Reasons.{first}
 use Rattle.records.specs.Scan.{any, most, last}
 use Rattle.records.specs.Kinds.{kindAt, satterthwaite}
 use Rattle.records.specs.File.{outOf, badRecord, isCell, again, has, cell as cellOf, rows, columns, beyond, missing, notFinite}
-use Rattle.records.proofs.Examples.{recordOf}
+use Rattle.records.specs.Bench.{recordOf}
 use Rattle.records.specs.Parameters.{sizes, incomplete, reasons, jacobians, inputs}
 use Rattle.records.specs.SatterthwaiteCall.{number, entry}
 use Rattle.tests.specs.Verdict.{Verdict, verdict}

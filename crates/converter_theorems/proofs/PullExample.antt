@@ -36,7 +36,7 @@ use Rattle.records.specs.Scan.{any, most, last, total}
 use Rattle.records.specs.Kinds.{kindAt, kenwardRoger}
 use Rattle.records.specs.File.{outOf, badRecord, isCell, again, has, cell as cellOf, rows, columns, beyond, missing, notFinite}
 use Rattle.records.specs.Series.{coefficients, contrastRows, sizes, blockOf as blockAt, incomplete, badSize, badWeight, misfit, zeroContrast, reasons, design, phi, beta, betaH, contrast, sigma2}
-use Rattle.records.proofs.Examples.{recordOf}
+use Rattle.records.specs.Bench.{pullBytes, pullFile}
 use Rattle.records.specs.KenwardRogerCall.{run, number, entries}
 use Rattle.tests.specs.Verdict.{Verdict, verdict}
 use Rattle.converter_run.specs.joints.ConvertedInput.{Input}
@@ -44,16 +44,6 @@ use Rattle.converter.specs.Converted.{kenwardRogerShift, kenwardRogerChange, ne
 use Rattle.converter.specs.SeriesDemand.{AllInside, SameVerdicts}
 use Rattle.converter_theorems.proofs.SeriesCall.{inputOf, whole, listed, run-is, number-is, entries-are}
 use Rattle.converter_theorems.proofs.Theorems.{converter-kenward-roger}
-
--- X 1,1, Φ 0.5, and the bits of sigma2, β and the contrast
-abbrev pub pullBytes : ℕ → ℕ → ℕ → List ℕ
-pullBytes v b l =
-    recordOf 1 0 0 0 0x3ff0000000000000
-    ++ (recordOf 1 1 0 0 0x3ff0000000000000 ++ (recordOf 6 0 0 0 0x3fe0000000000000 ++ (recordOf 7 0 0 0 v ++ (recordOf 8 0 0 0 b ++ recordOf 9 0 0 0 l))))
-
--- "X 1,1, Φ 0.5, sigma2 8, β 6, contrast 1"
-abbrev pub pullFile : List ℕ
-pullFile = pullBytes 0x4020000000000000 0x4018000000000000 0x3ff0000000000000
 
 -- ---- what the file says
 abbrev pullDesign : Design

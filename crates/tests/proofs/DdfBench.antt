@@ -58,7 +58,7 @@ abbrev pub accepted : Float → Float → ℕ → Outcome
 accepted f df rank = record { refused = false; entry = record { f = Is f; df = Is df; rank = rank; inside = true } }
 
 -- ---- the statement
-pub record BenchExamples : Type 0 where
+pub record SatterthwaiteExamples : Type 0 where
   -- (c) ν 6,6,4 give 5; (d) 1,1 give 1; (e) 2,5 give 2
   pub c : getFstatDdf 3 (six ∷ six ∷ four ∷ []) tolerance ≡ five
   pub d : getFstatDdf 2 (one ∷ one ∷ []) tolerance ≡ one
@@ -72,6 +72,6 @@ pub record BenchExamples : Type 0 where
   pub j : (satterthwaite documentCutoffs (example 2 tiny) ≡ accepted (fin false 5 (negsuc 0)) (fin false 375 (pos 3)) 2)
       × (satterthwaite documentCutoffs (example 1 tiny) ≡ accepted four (fin false 1 (pos 13)) 1)
 
-pub bench : BenchExamples
+pub bench : SatterthwaiteExamples
 unfolding satterthwaite severalRows oneRow seenSeveral seenOne startSeen dfSeveral dfOne fSeveral fOne jxStack directions variances rotatedV jStack vRows ldRows stackSeen componentsSeen severalDf anyNone componentDfs componentDf capped gradientAt jxAll squaresOver projected directionsOf variancesOf notPositive eigenvalues gradientOne squareOne transformedAll transformed contrastOf column getFstatDdf pooled expected anyLow allWithin tolerance gradientSeen varianceDf dfOfRelative relativeVariance relativeGradient isPositive indexAt placeIn comesBefore numberOf documentCutoffs decimal allMarks givenCells sandwich jacobi mirrored sweepsTo sweepTo rowTo rotate rotateTested bound squared rotated rotatedCell turnColumns turnRow turnedSecond turnedFirst sine cosine tangent ratio identity minusCells sumCells transpose product cell sum table blank row fold markedMagnitude markedRoot markedDiv markedMul markedSub markedAdd also lostQuotient lostProduct stepMark inRange squareRoot wholeRoot ofCount isFinite isZero magnitude sign round add sub mul div neg lt eq le ofInt lib.Ieee.isNan
 bench = record { c = refl; d = refl; e = refl; f = refl; g = refl; i = refl; j = (refl, refl) }

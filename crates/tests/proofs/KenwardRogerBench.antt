@@ -71,7 +71,7 @@ abbrev pub scaledPull : Scaled
 scaledPull = scaledBy 1 1 halfPhi eight (adjustment documentCutoffs designPull halfPhi)
 
 -- ---- the statement
-pub record BenchExamples : Type 0 where
+pub record KenwardRogerExamples : Type 0 where
   -- (a) N = 3: (1,2) and (2,1) pack at 4; (b) (2,2) at 5
   pub a : (packed 3 1 2 ≡ 4) × (packed 3 2 1 ≡ 4)
   pub b : packed 3 2 2 ≡ 5
@@ -84,6 +84,6 @@ pub record BenchExamples : Type 0 where
   pub pull : (adjustmentRefusal documentCutoffs designPull halfPhi eight ≡ 0) × (coefficientTest documentCutoffs scaledPull betaSix 0 ≡ nineAndOne)
       × (contrastTest documentCutoffs scaledPull betaSix (plusZero ∷ []) 1 ((one ∷ []) ∷ []) ≡ nineAndOne)
 
-pub bench : BenchExamples
+pub bench : KenwardRogerExamples
 unfolding adjustmentRefusal adjustmentReasons first outputNotFinite notAllFiniteMarked notAllFinite scaledDown scaledUp precisionOf informationRefused fromPrecision eigen ieRows qStackOf pStack oStack hStack phiARows uRows uAbove uTermAt uTerm qStack stack precision inverseFactorRefused inverseFactor cholesky sigmaRows sigmaCell gRows factorOfMatrix gCell residualCell blockCell groupCell directedCell direction factorOf thetaCell placeOf blockOf placesBefore columnsBefore wRefused wRows inverted ridged smallest mirror ieCell kCell packed qRows pRows oRows hRows lower choleskyRefused notPositive choleskyTo choleskyColumn belowDiagonal lessDot put jacobi mirrored sweepsTo sweepTo rowTo rotate rotateTested bound squared rotated rotatedCell turnColumns turnRow turnedSecond turnedFirst sine cosine tangent ratio identity plusCells minusCells timesNumber overNumber documentCutoffs decimal allMarks values givenCells sandwich solution refused joined backTo backCell backSum stopping columnOrStop zeroPivot eliminateTo eliminateColumn cleared lessBy factor swapRows pivotRow larger trace likeCells sumCells transpose product cell sum table blank row fold markedRoot markedDiv markedMul markedSub markedAdd also lostQuotient lostProduct stepMark inRange squareRoot wholeRoot ofCount isLarger isFinite isZero magnitude sign round add sub mul div neg lt eq le ofInt lib.Ieee.isNan tested testSeen a1 a2 waldNumber waldMarked yRows vRows ldRows us thetaPhi xRows aRows waldMany waldOneGiven waldOne uSeen uValues uStack uOf thetaOf difference scalingSeen fOf scalingOf scalingAt dfOf rankOne generalDf positive rhoOf lessA2 divOf v2Of v1Of v0Of leadingOf c3Of c2Of c1Of dOf gOf bOf a2Of a1Of weight contrastBasis divided dividedCell largest numberOf unitRow coefficientTest contrastTest scaledPs scaledBy
 bench = record { a = (refl, refl); b = refl; h = refl; k = (refl, refl, refl); pull = (refl, refl, refl) }
