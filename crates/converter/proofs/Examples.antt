@@ -1,4 +1,4 @@
--- Converted files, computed: document 01's `pulltest` series with a second contrast row, and a Satterthwaite series of one coefficient and one parameter.
+-- Converted files, computed: document 01's `pulltest` series with a second contrast row and β_H, and a Satterthwaite series of one coefficient and one parameter.
 use Prim.Native.Nat.{ℕ}
 use mathlib.Core.Path.{_≡_, refl}
 use mathlib.Core.Bool.{cond}
@@ -19,26 +19,29 @@ one-record k r b = k ∷ r ∷ 0 ∷ 0 ∷ (bytesOf 4 0 ++ bytesOf 8 b)
 abbrev by : ℤ → ℤ → ℕ → ℤ
 by m0 m1 r = cond (eqb r 0) m0 m1
 
--- X 1,1, Φ 0.5, and sigma2, β and the two contrast rows
-abbrev series : ℕ → ℕ → ℕ → ℕ → List ℕ
-series v b l0 l1 =
+-- X 1,1, Φ 0.5, and sigma2, β, the two contrast rows and β_H
+abbrev series : ℕ → ℕ → ℕ → ℕ → ℕ → List ℕ
+series v b l0 l1 h =
     one-record 1 0 0x3ff0000000000000
-    ++ (one-record 1 1 0x3ff0000000000000 ++ (one-record 6 0 0x3fe0000000000000 ++ (one-record 7 0 v ++ (one-record 8 0 b ++ (one-record 9 0 l0 ++ one-record 9 1 l1)))))
+    ++ (one-record 1 1 0x3ff0000000000000
+    ++ (one-record 6 0 0x3fe0000000000000 ++ (one-record 7 0 v ++ (one-record 8 0 b ++ (one-record 9 0 l0 ++ (one-record 9 1 l1 ++ one-record 10 0 h))))))
 
--- β, contrast 1, v, the Jacobian, A 0.5
-abbrev other : ℕ → ℕ → ℕ → List ℕ
-other b v j = one-record 8 0 b ++ (one-record 9 0 0x3ff0000000000000 ++ (one-record 30 0 v ++ (one-record 31 0 j ++ one-record 32 0 0x3fe0000000000000)))
+-- β, contrast 1, β_H, v, the Jacobian, A 0.5
+abbrev other : ℕ → ℕ → ℕ → ℕ → List ℕ
+other b h v j =
+    one-record 8 0 b
+    ++ (one-record 9 0 0x3ff0000000000000 ++ (one-record 10 0 h ++ (one-record 30 0 v ++ (one-record 31 0 j ++ one-record 32 0 0x3fe0000000000000))))
 
 pub record Computed : Type 0 where
-  -- k = 1, m 0 = -1, m 1 = 3: sigma2 8 becomes 32, β 6 becomes 12, contrast row 0 becomes 1/2 and row 1 becomes 8
-  pub up : converted (kenwardRogerChange (pos 1) (by (negsuc 0) (pos 3))) (series 0x4020000000000000 0x4018000000000000 0x3ff0000000000000 0x3ff0000000000000)
-      ≡ series 0x4040000000000000 0x4028000000000000 0x3fe0000000000000 0x4020000000000000
-  -- k = -1, m 0 = 1, m 1 = -3: sigma2 8 becomes 2, β 6 becomes 3, row 0 becomes 2 and row 1 becomes 1/8
-  pub down : converted (kenwardRogerChange (negsuc 0) (by (pos 1) (negsuc 2))) (series 0x4020000000000000 0x4018000000000000 0x3ff0000000000000 0x3ff0000000000000)
-      ≡ series 0x4000000000000000 0x4008000000000000 0x4000000000000000 0x3fc0000000000000
-  -- k = 1: β 4 becomes 8, v 4 becomes 16, the Jacobian 4 becomes 16; contrast and A stay
-  pub variance : converted (satterthwaiteChange (pos 1)) (other 0x4010000000000000 0x4010000000000000 0x4010000000000000)
-      ≡ other 0x4020000000000000 0x4030000000000000 0x4030000000000000
+  -- k = 1, m 0 = -1, m 1 = 3: sigma2 8 becomes 32, β 6 becomes 12, contrast row 0 becomes 1/2 and row 1 becomes 8, β_H 2 becomes 4
+  pub up : converted (kenwardRogerChange (pos 1) (by (negsuc 0) (pos 3))) (series 0x4020000000000000 0x4018000000000000 0x3ff0000000000000 0x3ff0000000000000 0x4000000000000000)
+      ≡ series 0x4040000000000000 0x4028000000000000 0x3fe0000000000000 0x4020000000000000 0x4010000000000000
+  -- k = -1, m 0 = 1, m 1 = -3: sigma2 8 becomes 2, β 6 becomes 3, row 0 becomes 2 and row 1 becomes 1/8, β_H 2 becomes 1
+  pub down : converted (kenwardRogerChange (negsuc 0) (by (pos 1) (negsuc 2))) (series 0x4020000000000000 0x4018000000000000 0x3ff0000000000000 0x3ff0000000000000 0x4000000000000000)
+      ≡ series 0x4000000000000000 0x4008000000000000 0x4000000000000000 0x3fc0000000000000 0x3ff0000000000000
+  -- k = 1: β 4 becomes 8, β_H 2 becomes 4, v 4 becomes 16, the Jacobian 4 becomes 16; contrast and A stay
+  pub variance : converted (satterthwaiteChange (pos 1)) (other 0x4010000000000000 0x4000000000000000 0x4010000000000000 0x4010000000000000)
+      ≡ other 0x4020000000000000 0x4010000000000000 0x4030000000000000 0x4030000000000000
 
 pub computed : Computed
 unfolding converted newByte newBits kenwardRogerShift satterthwaiteShift row fold word long bytesOf mul ofBits toBits

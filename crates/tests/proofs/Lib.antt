@@ -5,3 +5,4 @@ pub mod MovingComponents
 pub mod SatterthwaiteSurvives
 pub mod DdfBench
 pub mod KenwardRogerBench
+pub mod RotationMark
