@@ -1,10 +1,10 @@
 // The contrast basis: rows of unit length that span those of the contrast, by rotations of row pairs.
 ghost use mathlib.Core.Path.{_≡_};
-ghost use mathlib.Core.Bool.{cond};
+ghost use mathlib.Core.Bool.{false, cond};
 ghost use Prim.Native.Nat.{_+_, _<_, _≤_, min, max};
 ghost use lib.Ieee.{binary64, mul, div, lt};
 ghost use lib.ListN.{getD};
-ghost use Rattle.arithmetic.specs.Numbers.{plusZero};
+ghost use Rattle.arithmetic.specs.Numbers.{plusZero, isZero};
 ghost use Rattle.arithmetic.specs.Marks.{marked};
 ghost use Rattle.algebra.specs.Fold.{fold};
 ghost use Rattle.algebra.specs.Table.{row};
@@ -12,7 +12,7 @@ ghost use Rattle.algebra.specs.Kind.{floats};
 ghost use Rattle.algebra.specs.Product.{at, sum};
 ghost use Rattle.algebra.specs.Jacobi.{ratio, tangent, turnedFirst, turnedSecond};
 ghost use Rattle.tests.specs.Order.{indexAt};
-ghost use Rattle.tests.specs.Basis.{largest, dividedCell, divided, turnPair, pairsTo, sweepTo, sweepsTo, norms, singular, tolerance, rankOf, basisRows, contrastBasis};
+ghost use Rattle.tests.specs.Basis.{largest, dividedCell, divided, rowDot, turnPair, pairsTo, sweepTo, sweepsTo, norms, singular, tolerance, rankOf, basisRows, contrastBasis};
 use arithmetic::Marked;
 use arithmetic::plain::is_zero;
 use arithmetic::plain::magnitude;
@@ -117,52 +117,62 @@ fn pair_tangent(p: usize, x: [f64; 6], y: [f64; 6], g: f64) -> f64
     algebra_rotation::tangent(algebra_rotation::ratio(row_dot(p, x, x), row_dot(p, y, y), g))
 }
 
-// The pair (i, j) of the rows of m, turned in place unless its dot product is zero. Both rows come from the old two.
-pub fn turn_pair(p: usize, i: usize, j: usize, m: &mut [[f64; 6]; 6])
-    requires { ⌜ (p ≤ 6) × (i < 6) × (j < 6) ⌝ }
-    ensures { λ r. ⌜ now (m .exit) ≡ turnPair p i j (now (m .entry)) ⌝ }
+// Rows i and j of m turned by the rotation that makes them orthogonal, from their dot product g. Both come from the old two.
+pub fn turned_pair(p: usize, i: usize, j: usize, g: f64, m: [[f64; 6]; 6]) -> [[f64; 6]; 6]
+    requires { ⌜ (p ≤ 6) × (i < 6) × (j < 6) × (g ≡ rowDot p m i j) × (isZero g ≡ false) ⌝ }
+    ensures { λ r. ⌜ r ≡ turnPair p i j m ⌝ }
 {
     let x = m[i];
     let y = m[j];
-    let g = row_dot(p, x, y);
-    if is_zero(g) {
-        return;
-    }
     let t = pair_tangent(p, x, y, g);
     let c = algebra_rotation::cosine(t);
     let s = algebra_rotation::sine(t, c);
-    m[i] = first_turned(p, x, y, c, s);
-    m[j] = second_turned(p, x, y, c, s);
+    let mut out = m;
+    out[i] = first_turned(p, x, y, c, s);
+    out[j] = second_turned(p, x, y, c, s);
+    out
 }
 
-// The pairs of row i.
-pub fn pairs(rows: usize, p: usize, i: usize, m: &mut [[f64; 6]; 6])
+// The pairs of row i. A pair is tested by its dot product first, so that nothing is copied for one that stays.
+pub fn pairs(rows: usize, p: usize, i: usize, m: [[f64; 6]; 6]) -> [[f64; 6]; 6]
     requires { ⌜ (rows ≤ 6) × (p ≤ 6) × (i < rows) ⌝ }
-    ensures { λ r. ⌜ now (m .exit) ≡ pairsTo rows p i (now (m .entry)) ⌝ }
+    ensures { λ r. ⌜ r ≡ pairsTo rows p i m ⌝ }
 {
+    let mut out = m;
     for j in i + 1..rows {
-        turn_pair(p, i, j, m);
+        let g = row_dot(p, out[i], out[j]);
+        if !is_zero(g) {
+            let next = turned_pair(p, i, j, g, out);
+            out = next;
+        }
     }
+    out
 }
 
 // A sweep over all pairs.
-pub fn sweep(rows: usize, p: usize, m: &mut [[f64; 6]; 6])
+pub fn sweep(rows: usize, p: usize, m: [[f64; 6]; 6]) -> [[f64; 6]; 6]
     requires { ⌜ (rows ≤ 6) × (p ≤ 6) ⌝ }
-    ensures { λ r. ⌜ now (m .exit) ≡ sweepTo rows rows p (now (m .entry)) ⌝ }
+    ensures { λ r. ⌜ r ≡ sweepTo rows rows p m ⌝ }
 {
+    let mut out = m;
     for i in 0..rows {
-        pairs(rows, p, i, m);
+        let next = pairs(rows, p, i, out);
+        out = next;
     }
+    out
 }
 
 // The 30 sweeps, whether or not the last ones still turn a pair.
-pub fn sweeps(rows: usize, p: usize, m: &mut [[f64; 6]; 6])
+pub fn sweeps(rows: usize, p: usize, m: [[f64; 6]; 6]) -> [[f64; 6]; 6]
     requires { ⌜ (rows ≤ 6) × (p ≤ 6) ⌝ }
-    ensures { λ r. ⌜ now (m .exit) ≡ sweepsTo 30 rows p (now (m .entry)) ⌝ }
+    ensures { λ r. ⌜ r ≡ sweepsTo 30 rows p m ⌝ }
 {
+    let mut out = m;
     for i in 0..30usize {
-        sweep(rows, p, m);
+        let next = sweep(rows, p, out);
+        out = next;
     }
+    out
 }
 
 // The lengths of the rows.
@@ -302,11 +312,11 @@ pub fn contrast_basis(
     let d = divided(rows, p, l);
     let all = algebra_products_marked::cells::all_marks(d, rows, p, given(0.0));
     *seen = all.inside;
-    let mut m = algebra_products_marked::cells::values(d, rows, p);
+    let m = algebra_products_marked::cells::values(d, rows, p);
     if rows == 1 {
         *rank = 1;
         return m;
     }
-    sweeps(rows, p, &mut m);
-    unit_rows(rows, p, m, rank)
+    let turned = sweeps(rows, p, m);
+    unit_rows(rows, p, turned, rank)
 }

@@ -34,7 +34,7 @@ unit-rows-requires c κs = search needs
 returns-2 : tie.Need-returns-2
 unfolding ofBits
 returns-2 c =
-    let i = c .before .before .before .before in
+    let i = c .before .before .before in
     let v = i .before in
     let a = v .before in
     (basis-of-several _ _ _ _ _ _ _ (a .before .before .divided .ensures) (a .before .given .ensures) (a .all-marks .ensures) (v .values .ensures) _ _ _ (i .if1 .left) (c .before .before .sweeps .ensures) (c .unit-rows .ensures .0) (c .unit-rows .ensures .2), c .unit-rows .ensures .1)

@@ -8,10 +8,10 @@ use Rattle.tests_basis.proofs.basis.sweeps.Statement.{statement}
 use Rattle.tests_basis.proofs.basis.sweeps.Tie as tie
 
 abbrev Inv-loop : tie.InvT-loop
-Inv-loop rows p m₀ i₀ m i = (i ≤ 30) × (m ≡ sweepsTo i rows p m₀)
+Inv-loop rows p out₀ i₀ out i = (i ≤ 30) × (out ≡ sweepsTo i rows p out₀)
 
 abbrev μ-loop : tie.MeasureT-loop
-μ-loop rows p m₀ i₀ m i = 30 - i
+μ-loop rows p out₀ i₀ out i = 30 - i
 
 loop-holds : tie.Need-loop-holds Inv-loop μ-loop
 unfolding sweepsTo
@@ -29,7 +29,7 @@ loop-less c = omega arith
 loop-again : tie.Need-loop-again Inv-loop μ-loop
 unfolding sweepsTo
 loop-again c =
-    let v = c .before .before .before .loop .inv in
+    let v = c .before .before .loop .inv in
     (omega arith, fold-next _ _ _ _ _ _ (omega arith) (v .1) (c .sweep .ensures))
 
 returns : tie.Need-returns Inv-loop μ-loop
