@@ -30,7 +30,7 @@ use Rattle.tests.specs.declared.Entry.{Entry}
 use Rattle.tests.specs.Basis.{Basis, contrastBasis}
 use Rattle.tests_basis.proofs.Rank.{rank-most}
 use Rattle.tests.specs.Answer.{noEntry}
-use Rattle.tests.specs.KenwardRoger.{Scaled, Tested, Run, scaledPs, scaledBy, basisOf, testSeen, tested, unitRow, coefficientTest, contrastTest, withTest, coefficientsTo, runOf}
+use Rattle.tests.specs.KenwardRoger.{Scaled, Tested, Run, scaledPs, scaledBy, testSeen, tested, unitRow, coefficientTest, contrastTest, withTest, coefficientsTo, runOf}
 use Rattle.tests.specs.Verdict.{Verdict, verdict, verdicts, Inside, RunSurvives}
 use Rattle.converter_run.specs.joints.ConvertedInput.{Input, runOn, ConvertedInput, RunSizes, WrittenCells, Written, WrittenUnits}
 use Rattle.algebra_products.proofs.MovingSmall.{tied-still, tied-nil}
@@ -51,9 +51,12 @@ pub inside-seen : {t : ℕ} (c : Cutoffs) (s : Scaled) (beta betaH : List Float)
 unfolding tested
 inside-seen c s beta betaH b h e = inside-bears (testSeen c s beta betaH b) h (of-eq e)
 
--- a basis with the same rows and rank, and its own mark
-basis-is : (b b' : Basis) → SameBasis b b' → basisOf (b .rows) (b .rank) (b' .seen) ≡ b'
-basis-is b b' e = ap (λ (x : Rows). basisOf x (b .rank) (b' .seen)) (sym (e .rows)) ∙ ap (λ (x : ℕ). basisOf (b' .rows) x (b' .seen)) (sym (e .rank))
+-- a basis from its parts; one with the same rows and rank, and its own mark
+abbrev basisFrom : Rows → ℕ → Marked → Basis
+basisFrom rows rank seen = record { rows = rows; rank = rank; seen = seen }
+
+basis-is : (b b' : Basis) → SameBasis b b' → basisFrom (b .rows) (b .rank) (b' .seen) ≡ b'
+basis-is b b' e = ap (λ (x : Rows). basisFrom x (b .rank) (b' .seen)) (sym (e .rows)) ∙ ap (λ (x : ℕ). basisFrom (b' .rows) x (b' .seen)) (sym (e .rank))
 
 -- a row of the unit matrix
 pub unit-tied : (p i : ℕ) → p ≤ 6 → (r j : ℕ) → r < 1 → j < p → Tied (pos 0) (at floats (unitRow p i) r j) (at floats (unitRow p i) r j)
@@ -78,8 +81,8 @@ module _ {t : ℕ} (c : Cutoffs) (p N : ℕ) (p1 : 1 ≤ p) (hp : p ≤ 6) (hN :
       rw (ps-at p N (a .ps) sigma2 hN r h, ps-at p N (a .ps) sigma2' hN r h) (scaledDown-moves p hp (k +ℤ k) n2 sigma2 sigma2' es (matrixAt (a .ps) r) (units .ps r h))
 
   module _ (betaH betaH' : List Float) (eh : (i : ℕ) → i < p → Tied k (getD betaH i nan) (getD betaH' i nan)) where
-    basis-test : (rows : Rows) (q : ℕ) (seen seen' : Marked) → q ≤ 6 → WrittenCells q p rows → Bears t (testSeen c s beta betaH (basisOf rows q seen))
-        → SameVerdict (tested c s beta betaH (basisOf rows q seen)) (tested c s' beta' betaH' (basisOf rows q seen'))
+    basis-test : (rows : Rows) (q : ℕ) (seen seen' : Marked) → q ≤ 6 → WrittenCells q p rows → Bears t (testSeen c s beta betaH (basisFrom rows q seen))
+        → SameVerdict (tested c s beta betaH (basisFrom rows q seen)) (tested c s' beta' betaH' (basisFrom rows q seen'))
     unfolding scaledBy
     basis-test rows q seen seen' hq w h =
         test-survives c p N q hp p1 hN hq k n2 (scaledUp p phi sigma2) (scaledUp p (a .phiA) sigma2) (scaledUp p phi sigma2') (scaledUp p (a .phiA) sigma2')

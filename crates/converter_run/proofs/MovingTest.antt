@@ -3,7 +3,7 @@
 use Prim.Native.Nat.{ℕ, _≤_, _<_}
 use native.Mathlib.Omega.{arith}
 use mathlib.Core.Path.{_≡_, refl, sym, ap, _∙_, subst}
-use mathlib.Core.Bool.{Bool, true, false, cond, _&&_, _||_, true≢false}
+use mathlib.Core.Bool.{Bool, true, false, not, cond, _&&_, _||_, true≢false}
 use mathlib.Core.List.{List, []}
 use lib.Dec.{eqb}
 use lib.IntN.{ℤ, pos, negℤ, natAbs, _+ℤ_, _-ℤ_, +ℤ-idl, +ℤ-assoc, +ℤ-invr, +ℤ-invl, negℤ-+ℤ}
@@ -12,16 +12,16 @@ use lib.Ieee.{Float, nan}
 use borrow.Author.Tests.{eqb-true}
 use Rattle.arithmetic.specs.declared.Marked.{Marked}
 use Rattle.arithmetic.specs.Numbers.{plusZero}
-use Rattle.arithmetic.specs.Marks.{given, markedSub, markedMul, markedDiv, markedRoot}
+use Rattle.arithmetic.specs.Marks.{given, markedSub, markedMul}
 use Rattle.arithmetic.proofs.Tied.{Tied}
-use Rattle.arithmetic.proofs.MarkLaws.{Bears, Moves, given-moves, also-bears, sub-moves, mul-moves, root-moves}
+use Rattle.arithmetic.proofs.MarkLaws.{Bears, Moves, given-moves, also-bears, sub-moves, mul-moves}
 use Rattle.algebra.specs.Fold.{fold}
 use Rattle.algebra.specs.Table.{blank}
 use Rattle.algebra.specs.Kind.{marks}
 use Rattle.algebra.specs.Product.{at, product, transpose}
 use Rattle.algebra.specs.Elimination as elimination
 use Rattle.algebra.proofs.FoldLaws.{fold-ext, span-at}
-use Rattle.algebra.proofs.MovingCells.{BearsCells, MovesCells, table-moves, moves-by, nil-moves, still-times, alike-over, cond-moves, still-value, less-agrees, half-small}
+use Rattle.algebra.proofs.MovingCells.{BearsCells, MovesCells, table-moves, moves-by, nil-moves, cond-moves, still-value, half-small}
 use Rattle.algebra.proofs.MovingProducts.{sum-moves, product-moves, transpose-moves}
 use Rattle.algebra.proofs.MovingElimination.{SolvedAlike, solution-moves}
 use Rattle.algebra.specs.Small.{MarkedRows, Rows, givenCells, values, allMarks}
@@ -30,11 +30,14 @@ use Rattle.tests.specs.declared.Number.{Number}
 use Rattle.tests.specs.declared.Number.the-variants.{None}
 use Rattle.tests.specs.Answer.{numberOf}
 use Rattle.tests.specs.Basis.{Basis}
-use Rattle.tests.specs.KenwardRoger.{Scaled, Tested, scalingSeen, difference, thetaOf, uOf, uStack, uValues, uSeen, waldOne, waldOneGiven, waldMany, scaledOf, basisOf, aRows, xRows, thetaPhi, us, ldRows, vRows, yRows, waldMarked, waldNumber, testSeen, a1, a2, tested}
+use Rattle.tests.specs.KenwardRoger.{Scaled, Tested, scalingSeen, difference, thetaOf, uOf, uStack, uValues, waldMany, aRows, xRows, thetaPhi, us, ldRows, vRows, yRows, waldMarked, waldNumber, testSeen, a1, a2, tested}
+use Rattle.tests.specs.Both.{isPositive, squareOne, stackSeen}
 use Rattle.tests.specs.Verdict.{verdict}
 use Rattle.converter_run.specs.joints.ConvertedInput.{WrittenCells}
-use Rattle.algebra_products.proofs.MovingSmall.{tied-still, tied-nil, cells-by, allMarks-first, allMarks-cells, stack-first, stack-cells, given-cells, sandwich-moves, values-agree}
-use Rattle.converter_run.proofs.MovingScaling.{abs-neg, finite-agrees}
+use Rattle.algebra_products.proofs.MovingSmall.{tied-still, cells-by, allMarks-first, allMarks-cells, stack-first, stack-cells, given-cells, sandwich-moves, values-agree}
+use Rattle.tests.proofs.MovingVariance.{positive-agrees}
+use Rattle.tests.proofs.MovingComponents.{squareOne-moves}
+use Rattle.converter_run.proofs.MovingScaling.{abs-neg}
 
 -- ---- shifts
 back-by-one : (k : ℤ) → k -ℤ (k +ℤ k) ≡ negℤ k
@@ -52,7 +55,7 @@ pub record ScalingBears (t : ℕ) (s : Scaled) (seen : Marked) : Type 0 where
   pub ps : (r : ℕ) → r < s .matrices → BearsCells t (s .p) (s .p) (getD (s .ps) r [])
 
 pub scaling-bears : {t : ℕ} (s : Scaled) (seen : Marked) → Bears t (scalingSeen s seen) → ScalingBears t s seen
-unfolding scalingSeen
+unfolding scalingSeen stackSeen
 scaling-bears {t} s seen h =
     let p : ℕ = s .p in
     let s1 : Marked = allMarks p p (s .phi) seen in
@@ -77,7 +80,7 @@ pub record TestBears (t : ℕ) (c : Cutoffs) (s : Scaled) (beta betaH : List Flo
   pub wald : Bears t (waldMarked c s beta betaH b)
 
 pub test-bears : {t : ℕ} (c : Cutoffs) (s : Scaled) (beta betaH : List Float) (b : Basis) → Bears t (testSeen c s beta betaH b) → TestBears t c s beta betaH b
-unfolding testSeen uSeen
+unfolding testSeen stackSeen
 test-bears {t} c s beta betaH b h =
     record {
       scaling = scaling-bears s (b .seen) (allMarks-first p 1 d s0 h1);
@@ -171,18 +174,6 @@ pub record SameVerdict (x x' : Tested) : Type 0 where
   pub refusal : x' .refused ≡ x .refused
   pub same : verdict (x' .entry) ≡ verdict (x .entry)
 
--- Wald for one row, from LD and v
-waldOne-moves : {t : ℕ} (k : ℤ) (ld v ld' v' : Marked) → Moves t k ld ld' → Moves t (k +ℤ k) v v' → Moves t (pos 0) (waldOne ld v) (waldOne ld' v')
-unfolding waldOne
-waldOne-moves k ld v ld' v' p q =
-    let d : Moves _ (pos 0) (markedDiv ld (markedRoot v)) (markedDiv ld' (markedRoot v')) =
-    alike-over k ld (markedRoot v) ld' (markedRoot v') p (root-moves k v v' q) in
-    still-times (pos 0) (omega arith) (markedDiv ld (markedRoot v)) (markedDiv ld (markedRoot v)) (markedDiv ld' (markedRoot v')) (markedDiv ld' (markedRoot v')) d d
-
-waldGiven-agrees : (u : ℤ) (v v' : Marked) → Tied u (v .value) (v' .value) → waldOneGiven v' ≡ waldOneGiven v
-unfolding waldOneGiven
-waldGiven-agrees u v v' e = rw (finite-agrees u (v .value) (v' .value) e, less-agrees u plusZero (v .value) plusZero (v' .value) (tied-nil u) e)
-
 -- the inputs of the two: Φ and Φ_A moved by 2k, the Ps by -2k, W, L and the rank the same, β and β_H times 2 ^ k
 module _ {t : ℕ} (c : Cutoffs) (p N q : ℕ) (hp : p ≤ 6) (p1 : 0 < p) (hN : N ≤ 4) (hq : q ≤ 6) (k : ℤ) (n2 : natAbs (k +ℤ k) ≤ t) (phi phiA phi' phiA' : MarkedRows)
     (ps ps' : List MarkedRows) (w : Rows) (beta betaH beta' betaH' : List Float) (rows : Rows) (seen seen' : Marked) (mphi : MovesCells t (k +ℤ k) p p phi phi')
@@ -190,16 +181,16 @@ module _ {t : ℕ} (c : Cutoffs) (p N q : ℕ) (hp : p ≤ 6) (p1 : 0 < p) (hN :
     (ebeta : (i : ℕ) → i < p → Tied k (getD beta i nan) (getD beta' i nan)) (ebetaH : (i : ℕ) → i < p → Tied k (getD betaH i nan) (getD betaH' i nan))
     (written : WrittenCells q p rows) where
   abbrev s : Scaled
-  s = scaledOf p N phi phiA ps w
+  s = record { p = p; matrices = N; phi = phi; phiA = phiA; ps = ps; w = w }
 
   abbrev s' : Scaled
-  s' = scaledOf p N phi' phiA' ps' w
+  s' = record { p = p; matrices = N; phi = phi'; phiA = phiA'; ps = ps'; w = w }
 
   abbrev b : Basis
-  b = basisOf rows q seen
+  b = record { rows = rows; rank = q; seen = seen }
 
   abbrev b' : Basis
-  b' = basisOf rows q seen'
+  b' = record { rows = rows; rank = q; seen = seen' }
 
   abbrev u : ℤ
   u = k +ℤ k
@@ -314,10 +305,10 @@ module _ {t : ℕ} (c : Cutoffs) (p N q : ℕ) (hp : p ≤ 6) (p1 : 0 < p) (hN :
         (mul-moves k (k -ℤ u) (rw (none-left k) (omega arith)) (at marks ld i 0) (at marks y i 0) (at marks ld' i 0) (at marks y' i 0)
         (ld-moves .cell i 0 h (omega arith)) (y-alike e .cells .cell i 0 h (omega arith))))
 
-    given-agrees : eqb q 1 ≡ true → waldOneGiven (at marks (vRows c s' beta' betaH' b') 0 0) ≡ waldOneGiven (at marks (vRows c s beta betaH b) 0 0)
+    given-agrees : eqb q 1 ≡ true → isPositive (at marks (vRows c s' beta' betaH' b') 0 0 .value) ≡ isPositive (at marks (vRows c s beta betaH b) 0 0 .value)
     given-agrees e =
         let h : 0 < q = omega (arith, eqb-true q 1 e) in
-        waldGiven-agrees u (at marks (vRows c s beta betaH b) 0 0) (at marks (vRows c s' beta' betaH' b') 0 0) (v-moves .cell 0 0 h h (bears .v .cell 0 0 h h))
+        positive-agrees u (at marks (vRows c s beta betaH b) 0 0 .value) (at marks (vRows c s' beta' betaH' b') 0 0 .value) (v-moves .cell 0 0 h h (bears .v .cell 0 0 h h))
 
     wald-moves : Moves t (pos 0) (waldMarked c s beta betaH b) (waldMarked c s' beta' betaH' b')
     unfolding waldMarked
@@ -342,12 +333,12 @@ module _ {t : ℕ} (c : Cutoffs) (p N q : ℕ) (hp : p ≤ 6) (p1 : 0 < p) (hN :
         many' = waldMany q (ldRows c s' beta' betaH' b') (yRows c s' beta' betaH' b')
 
         go : (e : Bool) → eqb q 1 ≡ e
-            → Moves t (pos 0) (cond e (cond (waldOneGiven v) (waldOne ld v) (given plusZero)) many) (cond e (cond (waldOneGiven v') (waldOne ld' v') (given plusZero)) many')
+            → Moves t (pos 0) (cond e (cond (isPositive (v .value)) (squareOne ld v) (given plusZero)) many) (cond e (cond (isPositive (v' .value)) (squareOne ld' v') (given plusZero)) many')
         go true e =
             let h : 0 < q = omega (arith, eqb-true q 1 e) in
             rw (given-agrees e)
-            (cond-moves (waldOneGiven v) (waldOne ld v) (given plusZero) (waldOne ld' v') (given plusZero)
-            (waldOne-moves k ld v ld' v' (ld-moves .cell 0 0 h (omega arith)) (v-moves .cell 0 0 h h)) (nil-moves (pos 0)))
+            (cond-moves (isPositive (v .value)) (squareOne ld v) (given plusZero) (squareOne ld' v') (given plusZero)
+            (squareOne-moves k ld v ld' v' (ld-moves .cell 0 0 h (omega arith)) (v-moves .cell 0 0 h h)) (nil-moves (pos 0)))
         go false e = many-moves e
 
     wald-agrees : waldNumber c s' beta' betaH' b' ≡ waldNumber c s beta betaH b
@@ -367,7 +358,7 @@ module _ {t : ℕ} (c : Cutoffs) (p N q : ℕ) (hp : p ≤ 6) (p1 : 0 < p) (hN :
         v' = at marks (vRows c s' beta' betaH' b') 0 0
 
         go : (e : Bool) → eqb q 1 ≡ e → x' ≡ x
-            → _≡_ {A = Number} (cond (e && cond (waldOneGiven v') false true) None (numberOf x')) (cond (e && cond (waldOneGiven v) false true) None (numberOf x))
+            → _≡_ {A = Number} (cond (e && not (isPositive (v' .value))) None (numberOf x')) (cond (e && not (isPositive (v .value))) None (numberOf x))
         go true e h = rw (given-agrees e, h)
         go false e h = rw h
 

@@ -23,7 +23,8 @@ use Rattle.algebra.proofs.MovingCells.{step-bears, table-bears}
 use Rattle.algebra.proofs.MovingProducts.{sum-bears, minusCells-bears}
 use Rattle.algebra.specs.Small.{MarkedRows, Rows, sandwich, givenCells, allMarks}
 use Rattle.arithmetic_cutoffs.specs.declared.Cutoffs.{Cutoffs}
-use Rattle.tests.specs.Satterthwaite.{column, contrastOf, transformed, transformedAll, gradientOne, stackSeen, Inputs, lRows, ldRows, vRows, jStack, rotatedV, variances, directions, jxStack, fOne, fSeveral, startSeen, seenOne, seenSeveral, oneRow, severalRows, satterthwaite}
+use Rattle.tests.specs.Satterthwaite.{column, contrastOf, transformed, transformedAll, gradientOne, Inputs, lRows, ldRows, vRows, jStack, rotatedV, variances, directions, jxStack, fOne, fSeveral, startSeen, seenOne, seenSeveral, oneRow, severalRows, satterthwaite}
+use Rattle.tests.specs.Both.{stackSeen}
 use Rattle.algebra_products.proofs.MovingSmall.{allMarks-first, allMarks-cells}
 use Rattle.tests.proofs.MovingVariance.{gradient-first}
 use Rattle.tests.proofs.MovingComponents.{stack-first, components-first}

@@ -18,9 +18,10 @@ use Rattle.algebra.specs.Small.{sandwich, givenCells, allMarks}
 use Rattle.arithmetic_cutoffs.specs.Cutoffs.{decimal, documentCutoffs}
 use Rattle.tests.specs.Answer.{numberOf}
 use Rattle.tests.specs.Order.{comesBefore, placeIn, indexAt}
-use Rattle.tests.specs.VarianceDf.{isPositive, relativeGradient, relativeVariance, dfOfRelative, varianceDf, gradientSeen}
+use Rattle.tests.specs.VarianceDf.{relativeGradient, relativeVariance, dfOfRelative, varianceDf, gradientSeen}
+use Rattle.tests.specs.Both.{isPositive, squareOne, stackSeen}
 use Rattle.tests.specs.PooledDf.{tolerance, allWithin, anyLow, expected, pooled, getFstatDdf}
-use Rattle.tests.specs.Satterthwaite.{column, contrastOf, transformed, transformedAll, squareOne, gradientOne, eigenvalues, notPositive, variancesOf, directionsOf, projected, squaresOver, jxAll, gradientAt, capped, componentDf, componentDfs, anyNone, severalDf, componentsSeen, stackSeen, Inputs, Outcome, ldRows, vRows, jStack, rotatedV, variances, directions, jxStack, fOne, fSeveral, dfOne, dfSeveral, startSeen, seenOne, seenSeveral, oneRow, severalRows, satterthwaite as test}
+use Rattle.tests.specs.Satterthwaite.{column, contrastOf, transformed, transformedAll, gradientOne, eigenvalues, notPositive, variancesOf, directionsOf, projected, squaresOver, jxAll, gradientAt, capped, componentDf, componentDfs, anyNone, severalDf, componentsSeen, Inputs, Outcome, ldRows, vRows, jStack, rotatedV, variances, directions, jxStack, fOne, fSeveral, dfOne, dfSeveral, startSeen, seenOne, seenSeveral, oneRow, severalRows, satterthwaite as test}
 use Rattle.tests.specs.declared.Number.the-variants.{Is}
 use Rattle.tests.specs.declared.Entry.{Entry}
 use Rattle.records.specs.Bytes.{word, long, bytesOf}

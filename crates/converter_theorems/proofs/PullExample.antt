@@ -25,7 +25,8 @@ use Rattle.algebra.specs.Cholesky.{put, lessDot, belowDiagonal, choleskyColumn,
 use Rattle.algebra.specs.Jacobi.{ratio, tangent, cosine, sine, turnedFirst, turnedSecond, turnRow, turnColumns, rotatedCell, rotated, squared, bound, rotateTested, rotate, rowTo, sweepTo, sweepsTo, mirrored, jacobi}
 use Rattle.tests.specs.Basis.{largest, dividedCell, divided, contrastBasis}
 use Rattle.tests.specs.Moments.{weight, a1Of, a2Of, bOf, gOf, dOf, c1Of, c2Of, c3Of, leadingOf, v0Of, v1Of, v2Of, divOf, lessA2, rhoOf, positive, generalDf, rankOne, dfOf, scalingAt, scalingOf, fOf}
-use Rattle.tests.specs.KenwardRoger.{Run, unitRow, coefficientTest, contrastTest, scaledPs, scaledBy, scalingSeen, difference, thetaOf, uOf, uStack, uValues, uSeen, waldOne, waldOneGiven, waldMany, aRows, xRows, thetaPhi, us, ldRows, vRows, yRows, waldMarked, waldNumber, testSeen, a1, a2, tested, withTest, coefficientsTo, runOf}
+use Rattle.tests.specs.KenwardRoger.{Run, unitRow, coefficientTest, contrastTest, scaledPs, scaledBy, scalingSeen, difference, thetaOf, uOf, uStack, uValues, waldMany, aRows, xRows, thetaPhi, us, ldRows, vRows, yRows, waldMarked, waldNumber, testSeen, a1, a2, tested, withTest, coefficientsTo, runOf}
+use Rattle.tests.specs.Both.{squareOne, isPositive, stackSeen}
 use Rattle.adjustment.specs.Blocks.{noBlock}
 use Rattle.tests.specs.declared.Number.the-variants.{Is, None}
 use Rattle.tests.specs.declared.Entry.{Entry}
@@ -93,7 +94,7 @@ record Runs : Type 0 where
   pub run : whole documentCutoffs pullDesign pullPhi 1 pullInput ≡ pullRun
 
 runs : Runs
-unfolding adjustmentRefusal adjustmentReasons first outputNotFinite notAllFiniteMarked notAllFinite scaledDown scaledUp precisionOf informationRefused fromPrecision eigen ieRows qStackOf pStack oStack hStack phiARows uRows uAbove uTermAt uTerm qStack stack precision inverseFactorRefused inverseFactor cholesky sigmaRows sigmaCell gRows factorOfMatrix gCell residualCell blockCell groupCell directedCell direction factorOf thetaCell placeOf blockOf placesBefore columnsBefore wRefused wRows inverted ridged smallest mirror ieCell kCell packed qRows pRows oRows hRows lower choleskyRefused notPositive choleskyTo choleskyColumn belowDiagonal lessDot put jacobi mirrored sweepsTo sweepTo rowTo rotate rotateTested bound squared rotated rotatedCell turnColumns turnRow turnedSecond turnedFirst sine cosine tangent ratio identity plusCells minusCells timesNumber overNumber documentCutoffs decimal allMarks values givenCells sandwich solution refused joined backTo backCell backSum stopping columnOrStop zeroPivot eliminateTo eliminateColumn cleared lessBy factor swapRows pivotRow larger trace likeCells sumCells transpose product cell sum table blank row fold markedRoot markedDiv markedMul markedSub markedAdd also lostQuotient lostProduct stepMark inRange squareRoot wholeRoot ofCount isLarger isFinite isZero magnitude sign round add sub mul div neg lt eq le ofInt lib.Ieee.isNan tested testSeen a1 a2 waldNumber waldMarked yRows vRows ldRows us thetaPhi xRows aRows waldMany waldOneGiven waldOne uSeen uValues uStack uOf thetaOf difference scalingSeen fOf scalingOf scalingAt dfOf rankOne generalDf positive rhoOf lessA2 divOf v2Of v1Of v0Of leadingOf c3Of c2Of c1Of dOf gOf bOf a2Of a1Of weight contrastBasis divided dividedCell largest numberOf unitRow coefficientTest contrastTest scaledPs scaledBy runOf withTest coefficientsTo
+unfolding adjustmentRefusal adjustmentReasons first outputNotFinite notAllFiniteMarked notAllFinite scaledDown scaledUp precisionOf informationRefused fromPrecision eigen ieRows qStackOf pStack oStack hStack phiARows uRows uAbove uTermAt uTerm qStack stack precision inverseFactorRefused inverseFactor cholesky sigmaRows sigmaCell gRows factorOfMatrix gCell residualCell blockCell groupCell directedCell direction factorOf thetaCell placeOf blockOf placesBefore columnsBefore wRefused wRows inverted ridged smallest mirror ieCell kCell packed qRows pRows oRows hRows lower choleskyRefused notPositive choleskyTo choleskyColumn belowDiagonal lessDot put jacobi mirrored sweepsTo sweepTo rowTo rotate rotateTested bound squared rotated rotatedCell turnColumns turnRow turnedSecond turnedFirst sine cosine tangent ratio identity plusCells minusCells timesNumber overNumber documentCutoffs decimal allMarks values givenCells sandwich solution refused joined backTo backCell backSum stopping columnOrStop zeroPivot eliminateTo eliminateColumn cleared lessBy factor swapRows pivotRow larger trace likeCells sumCells transpose product cell sum table blank row fold markedRoot markedDiv markedMul markedSub markedAdd also lostQuotient lostProduct stepMark inRange squareRoot wholeRoot ofCount isLarger isFinite isZero magnitude sign round add sub mul div neg lt eq le ofInt lib.Ieee.isNan tested testSeen a1 a2 waldNumber waldMarked yRows vRows ldRows us thetaPhi xRows aRows waldMany uValues uStack uOf thetaOf difference scalingSeen fOf scalingOf scalingAt dfOf rankOne generalDf positive rhoOf lessA2 divOf v2Of v1Of v0Of leadingOf c3Of c2Of c1Of dOf gOf bOf a2Of a1Of weight contrastBasis divided dividedCell largest numberOf unitRow coefficientTest contrastTest scaledPs scaledBy runOf withTest coefficientsTo isPositive squareOne stackSeen
 runs = record { adjustment = refl; run = refl }
 
 -- ---- together

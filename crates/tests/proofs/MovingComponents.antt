@@ -25,8 +25,9 @@ use Rattle.algebra.specs.Small.{MarkedRows, Rows, givenCells, allMarks}
 use Rattle.arithmetic_cutoffs.specs.declared.Cutoffs.{Cutoffs}
 use Rattle.tests.specs.Answer.{floatOf}
 use Rattle.tests.specs.Order.{indexAt}
-use Rattle.tests.specs.VarianceDf.{entryAt, isPositive, varianceDf, gradientSeen}
-use Rattle.tests.specs.Satterthwaite.{column, contrastOf, transformed, transformedAll, squareOne, gradientOne, eigenvalues, notPositive, variancesOf, directionsOf, projected, squaresOver, jxAll, gradientAt, capped, componentDf, componentDfs, componentsSeen, stackSeen}
+use Rattle.tests.specs.VarianceDf.{entryAt, varianceDf, gradientSeen}
+use Rattle.tests.specs.Both.{isPositive, squareOne, stackSeen}
+use Rattle.tests.specs.Satterthwaite.{column, contrastOf, transformed, transformedAll, gradientOne, eigenvalues, notPositive, variancesOf, directionsOf, projected, squaresOver, jxAll, gradientAt, capped, componentDf, componentDfs, componentsSeen}
 use Rattle.algebra_products.proofs.MovingSmall.{cells-by, given-cells, sandwich-moves, allMarks-first, allMarks-cells}
 use Rattle.tests.proofs.MovingVariance.{positive-agrees, row-moves, gradient-first, varianceDf-agrees}
 use Rattle.tests.proofs.MovingOrder.{index-below, indexAt-agrees}

@@ -23,7 +23,8 @@ use Rattle.algebra.proofs.TableLaws.{row-at}
 use Rattle.algebra.proofs.MovingCells.{first-bears, step-bears, alike-over, still-value, cond-both}
 use Rattle.tests.specs.declared.Number.{Number}
 use Rattle.tests.specs.declared.Number.the-variants.{Is, None}
-use Rattle.tests.specs.VarianceDf.{entryAt, isPositive, relativeGradient, relativeVariance, dfOfRelative, varianceDf, gradientSeen}
+use Rattle.tests.specs.VarianceDf.{entryAt, relativeGradient, relativeVariance, dfOfRelative, varianceDf, gradientSeen}
+use Rattle.tests.specs.Both.{isPositive}
 
 -- "finite and > 0" holds of a number and of its multiple by a power of two alike
 pub positive-agrees : (u : ℤ) (x x' : Float) → Tied u x x' → isPositive x' ≡ isPositive x

@@ -6,7 +6,7 @@ use lib.Dec.{eqb}
 use lib.ListN.{getD}
 use lib.IntN.{pos}
 use lib.Ieee.{Float, fin, binary64, add, sub, mul, div, lt}
-use Rattle.arithmetic.specs.Numbers.{plusZero, one, magnitude, isFinite, ofCount}
+use Rattle.arithmetic.specs.Numbers.{plusZero, one, magnitude, ofCount}
 use Rattle.algebra.specs.Fold.{fold}
 use Rattle.algebra.specs.Kind.{floats}
 use Rattle.algebra.specs.Product.{at, trace, likeCells, transpose}
@@ -15,6 +15,7 @@ use Rattle.arithmetic_cutoffs.specs.declared.Cutoffs.{Cutoffs}
 use Rattle.tests.specs.declared.Number.{Number}
 use Rattle.tests.specs.declared.Number.the-variants.{Is, None}
 use Rattle.tests.specs.Answer.{numberOf}
+use Rattle.tests.specs.Both.{isPositive}
 use Rattle.algebra.specs.Small.{Rows}
 
 abbrev plus : Float → Float → Float
@@ -50,11 +51,37 @@ a1Of N p w us = fold 0 N (λ i s. fold i N (λ j s. plus s (times (times (weight
 unfoldable pub a2Of : ℕ → ℕ → Rows → List Rows → Float
 a2Of N p w us = fold 0 N (λ i s. fold i N (λ j s. plus s (times (weight w i j) (likeCells floats p p (getD us i []) (transpose floats 6 6 p p (getD us j []))))) s) plusZero
 
-module _ (c : Cutoffs) (q : ℕ) (a1 a2 : Float) where
-  -- B = (a1 + 6a2)/(2q)
-  unfoldable pub bOf : Float
-  bOf = over (plus a1 (times six a2)) (times two (ofCount q))
+-- ---- with q = rank
+-- B = (a1 + 6a2)/(2q)
+unfoldable pub bOf : ℕ → Float → Float → Float
+bOf q a1 a2 = over (plus a1 (times six a2)) (times two (ofCount q))
 
+-- 0 below 1e-10 in magnitude
+unfoldable pub leadingOf : Cutoffs → Float → Float
+leadingOf c x = cond (lt (magnitude x) (c .leading)) plusZero x
+
+-- div: 0 for a denominator below 1e-10 in magnitude
+unfoldable pub divOf : Cutoffs → Float → Float → Float
+divOf c x y = cond (lt (magnitude y) (c .divisor)) plusZero (over x y)
+
+-- 1 − a2/q
+unfoldable pub lessA2 : ℕ → Float → Float
+lessA2 q a2 = minus one (over a2 (ofCount q))
+
+-- "df ≤ 0 or NaN is none"
+unfoldable pub positive : Float → Number
+positive x = cond (lt plusZero x) (Is x) None
+
+-- "q = 1 with finite a2 > 0"
+unfoldable pub rankOne : ℕ → Float → Bool
+rankOne q a2 = eqb q 1 && isPositive a2
+
+-- the scaling by the df of the moment equations: "|df−2| < 1e-2 gives 1; else none with df none; else df(1−a2/q)/(df−2)"
+unfoldable pub scalingAt : Cutoffs → ℕ → Float → Number → Number
+scalingAt c q a2 None = None
+scalingAt c q a2 (Is x) = cond (lt (magnitude (minus x two)) (c .near)) (Is one) (numberOf (over (times x (lessA2 q a2)) (minus x two)))
+
+module _ (c : Cutoffs) (q : ℕ) (a1 a2 : Float) where
   -- g = ((q+1)a1 − (q+4)a2)/((q+2)a2) if |a2| > 1e-15, else 0
   unfoldable pub gOf : Float
   gOf = cond (lt (c .moment) (magnitude a2)) (over (minus (times (ofCount (q + 1)) a1) (times (ofCount (q + 4)) a2)) (times (ofCount (q + 2)) a2)) plusZero
@@ -73,55 +100,32 @@ module _ (c : Cutoffs) (q : ℕ) (a1 a2 : Float) where
   unfoldable pub c3Of : Float
   c3Of = over (minus (plus (ofCount q) two) gOf) dOf
 
-  -- 0 below 1e-10 in magnitude
-  unfoldable pub leadingOf : Float → Float
-  leadingOf x = cond (lt (magnitude x) (c .leading)) plusZero x
-
   -- V0 = 1 + c1B and V2 = 1 − c3B, each 0 below 1e-10 in magnitude; V1 = 1 − c2B
   unfoldable pub v0Of : Float
-  v0Of = leadingOf (plus one (times c1Of bOf))
+  v0Of = leadingOf c (plus one (times c1Of (bOf q a1 a2)))
 
   unfoldable pub v1Of : Float
-  v1Of = minus one (times c2Of bOf)
+  v1Of = minus one (times c2Of (bOf q a1 a2))
 
   unfoldable pub v2Of : Float
-  v2Of = leadingOf (minus one (times c3Of bOf))
-
-  -- div: 0 for a denominator below 1e-10 in magnitude
-  unfoldable pub divOf : Float → Float → Float
-  divOf x y = cond (lt (magnitude y) (c .divisor)) plusZero (over x y)
-
-  -- 1 − a2/q
-  unfoldable pub lessA2 : Float
-  lessA2 = minus one (over a2 (ofCount q))
+  v2Of = leadingOf c (minus one (times c3Of (bOf q a1 a2)))
 
   -- ρ = (1/q)·(div((1 − a2/q), V1))²·div(V0,V2)
   unfoldable pub rhoOf : Float
-  rhoOf = let h : Float = divOf lessA2 v1Of in times (times (over one (ofCount q)) (times h h)) (divOf v0Of v2Of)
+  rhoOf = let h : Float = divOf c (lessA2 q a2) v1Of in times (times (over one (ofCount q)) (times h h)) (divOf c v0Of v2Of)
 
-  -- df = 4 + (q+2)/(qρ−1) if |qρ−1| > 1e-12; df ≤ 0 or NaN is none
-  unfoldable pub positive : Float → Number
-  positive x = cond (lt plusZero x) (Is x) None
-
+  -- df = 4 + (q+2)/(qρ−1) if |qρ−1| > 1e-12, else none
   unfoldable pub generalDf : Number
   generalDf =
       let e : Float = minus (times (ofCount q) rhoOf) one in
       cond (lt (c .excess) (magnitude e)) (positive (plus four (over (plus (ofCount q) two) e))) None
 
-  -- q = 1 with finite a2 > 0
-  unfoldable pub rankOne : Bool
-  rankOne = eqb q 1 && (isFinite a2 && lt plusZero a2)
-
-  -- "Scaling: q = 1 with finite a2 > 0 gives df 2/a2 and 1; else |df−2| < 1e-2 gives 1; else none with df none; else df(1−a2/q)/(df−2)."
+  -- "Scaling: q = 1 with finite a2 > 0 gives df 2/a2 and 1; else .."
   unfoldable pub dfOf : Number
-  dfOf = cond rankOne (Is (over two a2)) generalDf
-
-  unfoldable pub scalingAt : Number → Number
-  scalingAt None = None
-  scalingAt (Is x) = cond (lt (magnitude (minus x two)) (c .near)) (Is one) (numberOf (over (times x lessA2) (minus x two)))
+  dfOf = cond (rankOne q a2) (Is (over two a2)) generalDf
 
   unfoldable pub scalingOf : Number
-  scalingOf = cond rankOne (Is one) (scalingAt generalDf)
+  scalingOf = cond (rankOne q a2) (Is one) (scalingAt c q a2 generalDf)
 
 -- F = scaling × (Wald/q)
 unfoldable pub fOf : ℕ → Number → Number → Number

@@ -8,7 +8,7 @@ use lib.ListN.{getD, replicate}
 use lib.Ieee.{Float, nan, lt, isNan}
 use Rattle.arithmetic.specs.declared.Marked.{Marked}
 use Rattle.arithmetic.specs.Numbers.{plusZero, ofCount}
-use Rattle.arithmetic.specs.Marks.{given, markedMul, markedDiv, markedRoot, also}
+use Rattle.arithmetic.specs.Marks.{given, markedMul, markedDiv, also}
 use Rattle.algebra.specs.Fold.{fold, span}
 use Rattle.algebra.specs.Table.{row, table, blank}
 use Rattle.algebra.specs.Kind.{marks}
@@ -21,7 +21,8 @@ use Rattle.tests.specs.declared.Number.the-variants.{Is, None}
 use Rattle.tests.specs.declared.Entry.{Entry}
 use Rattle.tests.specs.Answer.{numberOf, floatOf}
 use Rattle.tests.specs.Order.{indexAt}
-use Rattle.tests.specs.VarianceDf.{entryAt, isPositive, varianceDf, gradientSeen}
+use Rattle.tests.specs.VarianceDf.{entryAt, varianceDf, gradientSeen}
+use Rattle.tests.specs.Both.{isPositive, squareOne, stackSeen}
 use Rattle.tests.specs.PooledDf.{tolerance, getFstatDdf}
 
 -- ---- the marked matrices that a test starts from
@@ -41,11 +42,7 @@ transformed p q l m = sandwich marks 6 6 q p l (givenCells 6 6 p p m)
 unfoldable pub transformedAll : ℕ → ℕ → ℕ → MarkedRows → List Rows → List MarkedRows
 transformedAll n p q l js = span 0 n (λ i. transformed p q l (getD js i [])) (replicate 4 (blank (given plusZero) 6 6))
 
--- ---- "One row: F = (LβD/sqrt V)²; df by `variance_df`". F is made whatever V is, as in the Rust: only a NaN is none.
-unfoldable pub squareOne : Marked → Marked → Marked
-squareOne ld v = let t : Marked = markedDiv ld (markedRoot v) in markedMul t t
-
--- the gradient of one row's variance: the one cell of each J
+-- ---- "One row": the gradient of its variance, the one cell of each J
 unfoldable pub gradientOne : ℕ → List MarkedRows → List Marked
 gradientOne n js = row (given plusZero) 6 n (λ i. at marks (getD js i []) 0 0)
 
@@ -101,10 +98,6 @@ severalDf q nu = cond (anyNone q nu) None (numberOf (getFstatDdf q nu tolerance)
 unfoldable pub componentsSeen : ℕ → ℕ → List Marked → MarkedRows → List MarkedRows → Marked → Marked
 componentsSeen n q es x jx seen = fold 0 q (λ k s. gradientSeen n (entryAt es k) (gradientAt n q x jx k) s) seen
 
--- `seen`, with the marks of the n matrices counted
-unfoldable pub stackSeen : ℕ → ℕ → List MarkedRows → Marked → Marked
-stackSeen n q ms seen = fold 0 n (λ i s. allMarks q q (getD ms i []) s) seen
-
 -- ---- a test, whole
 -- what is sent: p coefficients, q contrast rows, n parameters; L, β, β_H, v, the Jacobians and A
 pub record Inputs : Type 0 where
@@ -149,7 +142,7 @@ module _ (c : Cutoffs) (s : Inputs) where
   unfoldable pub jxStack : List MarkedRows
   jxStack = jxAll (s .n) (s .q) jStack directions
 
-  -- F with its mark
+  -- F with its mark: "One row: F = (LβD/sqrt V)²", made whatever V is, as in the Rust (only a NaN is none); and of several rows
   unfoldable pub fOne : Marked
   fOne = squareOne (at marks ldRows 0 0) (at marks vRows 0 0)
 

@@ -1,12 +1,12 @@
 -- Document 01, "ddf.rs": "df by `variance_df`: none unless V finite and > 0; g = J/V (M ends); r = sum over j, k of (g_j A_jk) g_k; 2/r if r finite and > 0, else none."
 -- A variance and its gradient, a number for each of n parameters, are marked; A and r are not.
 use Prim.Native.Nat.{ℕ}
-use mathlib.Core.Bool.{Bool, cond, _&&_}
+use mathlib.Core.Bool.{cond}
 use mathlib.Core.List.{List}
 use lib.ListN.{getD}
-use lib.Ieee.{Float, binary64, mul, div, lt}
+use lib.Ieee.{Float, binary64, mul, div}
 use Rattle.arithmetic.specs.declared.Marked.{Marked}
-use Rattle.arithmetic.specs.Numbers.{plusZero, isFinite}
+use Rattle.arithmetic.specs.Numbers.{plusZero}
 use Rattle.arithmetic.specs.Marks.{given, markedDiv, also}
 use Rattle.algebra.specs.Fold.{fold}
 use Rattle.algebra.specs.Table.{row}
@@ -15,14 +15,11 @@ use Rattle.algebra.specs.Product.{at, sumCells}
 use Rattle.algebra.specs.Jacobi.{two}
 use Rattle.tests.specs.declared.Number.{Number}
 use Rattle.tests.specs.declared.Number.the-variants.{Is, None}
+use Rattle.tests.specs.Both.{isPositive}
 
 -- number i of a list of marked numbers
 abbrev pub entryAt : List Marked → ℕ → Marked
 entryAt xs i = getD xs i (marks .void)
-
--- "finite and > 0": what V, r and an eigenvalue have to be
-unfoldable pub isPositive : Float → Bool
-isPositive x = isFinite x && lt plusZero x
 
 -- g = J/V, the last marked steps
 unfoldable pub relativeGradient : ℕ → Marked → List Marked → List Marked

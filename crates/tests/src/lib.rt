@@ -3,6 +3,8 @@ ghost use mathlib.Core.Path.{_≡_};
 ghost use Rattle.tests.specs.Answer.{numberOf};
 use arithmetic::plain::is_nan;
 
+pub mod both;
+
 // A number, or none where the Rust has NaN: every F and df.
 pub enum Number {
     Is(f64),

@@ -16,7 +16,6 @@ ghost use Rattle.tests.specs.Satterthwaite.{eigenvalues, notPositive, variances
 use crate::pooled::get_fstat_ddf;
 use crate::pooled::tolerance;
 use crate::variance::gradient_seen;
-use crate::variance::is_positive;
 use crate::variance::no_marks;
 use crate::variance::variance_df;
 use algebra_products_marked::cell;
@@ -32,6 +31,7 @@ use arithmetic_steps::div;
 use arithmetic_steps::given;
 use arithmetic_steps::mul;
 use tests::Number;
+use tests::both::is_positive;
 use tests::number_of;
 use tests_falling_order::index_at;
 

@@ -5,7 +5,7 @@ ghost use Rattle.arithmetic.specs.Marks.{marked};
 ghost use Rattle.arithmetic.specs.Numbers.{plusZero};
 ghost use Rattle.algebra.specs.Kind.{marks};
 ghost use Rattle.algebra.specs.Product.{at};
-ghost use Rattle.tests.specs.Satterthwaite.{squareOne, gradientOne, satterthwaite};
+ghost use Rattle.tests.specs.Satterthwaite.{gradientOne, satterthwaite};
 ghost use Rattle.tests_ddf.specs.joints.Parts.{inputsOf, startSeenOf, rotationsSeenOf, oneEntryOf, componentsEntryOf, severalEntryOf, severalOutcomeOf};
 use crate::components::component_dfs;
 use crate::components::components_seen;
@@ -30,19 +30,9 @@ use algebra_products_marked::cells::given_cells;
 use arithmetic::Marked;
 use arithmetic_cutoffs::Cutoffs;
 use arithmetic_steps::also;
-use arithmetic_steps::div;
-use arithmetic_steps::mul;
-use arithmetic_steps::square_root;
 use tests::Entry;
+use tests::both::square_one;
 use tests::number_of;
-
-// F of one row, whatever V is.
-pub fn square_one(ld: Marked, v: Marked) -> Marked
-    ensures { λ r. ⌜ r ≡ squareOne ld v ⌝ }
-{
-    let t = div(ld, square_root(v));
-    mul(t, t)
-}
 
 // The gradient of one row's variance.
 pub fn gradient_one(js: [[[Marked; 6]; 6]; 4], n: usize) -> [Marked; 6]

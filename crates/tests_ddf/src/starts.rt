@@ -3,7 +3,7 @@ ghost use mathlib.Core.Path.{_≡_};
 ghost use Prim.Native.Nat.{_≤_};
 ghost use Rattle.algebra.specs.Kind.{marks};
 ghost use Rattle.algebra.specs.Product.{product};
-ghost use Rattle.tests.specs.Satterthwaite.{column, contrastOf, transformed, transformedAll, stackSeen};
+ghost use Rattle.tests.specs.Satterthwaite.{column, contrastOf, transformed, transformedAll};
 ghost use Rattle.tests_ddf.specs.joints.Parts.{startSeenOf};
 use algebra_products_marked::cells::all_marks;
 use algebra_products_marked::cells::given_cells;
@@ -13,6 +13,7 @@ use algebra_products_marked::product;
 use algebra_products_marked::sandwich;
 use arithmetic::Marked;
 use arithmetic_steps::given;
+use tests::both::stack_seen;
 
 // b as a column.
 pub fn column(b: [f64; 6], p: usize) -> [[Marked; 6]; 6]
@@ -79,19 +80,6 @@ pub fn transform_contrast(
         out[i] = turned;
     }
     out
-}
-
-// `seen`, with the marks of n matrices counted.
-pub fn stack_seen(ms: [[[Marked; 6]; 6]; 4], n: usize, q: usize, seen: Marked) -> Marked
-    requires { ⌜ (n ≤ 4) × (q ≤ 6) ⌝ }
-    ensures { λ r. ⌜ r ≡ stackSeen n q ms seen ⌝ }
-{
-    let mut all = seen;
-    for i in 0..n {
-        let m = ms[i];
-        all = all_marks(m, q, q, all);
-    }
-    all
 }
 
 // The marks of LβD, V and every J.

@@ -8,12 +8,12 @@ ghost use Rattle.arithmetic.specs.Marks.{given, also};
 ghost use Rattle.algebra.specs.Fold.{fold};
 ghost use Rattle.algebra.specs.Kind.{floats};
 ghost use Rattle.algebra.specs.Product.{at};
-ghost use Rattle.tests.specs.VarianceDf.{entryAt, isPositive, relativeGradient, relativeVariance, dfOfRelative, varianceDf, gradientSeen};
+ghost use Rattle.tests.specs.VarianceDf.{entryAt, relativeGradient, relativeVariance, dfOfRelative, varianceDf, gradientSeen};
 use arithmetic::Marked;
-use arithmetic::plain::is_finite;
 use arithmetic_steps::also;
 use arithmetic_steps::div;
 use tests::Number;
+use tests::both::is_positive;
 
 // Six zeros, for rows of marked numbers.
 pub fn no_marks() -> [Marked; 6]
@@ -24,13 +24,6 @@ pub fn no_marks() -> [Marked; 6]
         inside: true,
     };
     [zero; 6]
-}
-
-// Finite and above zero: what a variance, r and an eigenvalue have to be.
-pub fn is_positive(x: f64) -> bool
-    ensures { λ r. ⌜ r ≡ isPositive x ⌝ }
-{
-    is_finite(x) & (0.0 < x)
 }
 
 // g, the gradient in units of the variance: squares of tiny or large variances do not arise.

@@ -21,13 +21,11 @@ use Rattle.arithmetic_cutoffs.specs.declared.Cutoffs.{Cutoffs}
 use Rattle.tests.specs.declared.Number.{Number}
 use Rattle.tests.specs.declared.Entry.{Entry}
 use Rattle.tests.specs.Moments.{a1Of, a2Of, dfOf, scalingOf, fOf}
-use Rattle.tests.specs.KenwardRoger.{scalingSeen, difference, thetaOf, uOf, uStack, uValues, uSeen, scaledOf, basisOf, waldOf, waldNumberOf, thetaSeen, waldSeen, entryOf, waldEntry, thetaEntry, aRows, xRows, thetaPhi, us, ldRows, vRows, yRows, waldMarked, waldNumber, testSeen, a1, a2, tested}
+use Rattle.tests.specs.KenwardRoger.{scalingSeen, difference, thetaOf, uOf, uStack, uValues, aRows, xRows, thetaPhi, us, ldRows, vRows, yRows, waldMarked, waldNumber, testSeen, a1, a2, tested}
+use Rattle.tests_kr_modcomp.specs.joints.Parts.{scaledOf, basisOf, waldOf, waldNumberOf, thetaSeenOf, waldSeenOf, entryOf, waldEntryOf, thetaEntryOf}
+use Rattle.tests.specs.Both.{stackSeen}
 
--- a choice between false and true is the negation, and one between false and z is a conjunction
-pub not-is : (b : Bool) → cond b false true ≡ not b
-not-is false = refl
-not-is true = refl
-
+-- a choice between false and z is a conjunction
 pub also-not-is : (b z : Bool) → (not b && z) ≡ cond b false z
 also-not-is false z = refl
 also-not-is true z = refl
@@ -55,10 +53,10 @@ entry-is c N p q w us wald seen plain x y scaling f df e1 e2 e3 e4 e5 e6 = rw (�
 pub theta-entry-is : (c : Cutoffs) (N p q : ℕ) (w : Rows) (phi : MarkedRows) (ps : List MarkedRows) (l d ld v y : MarkedRows) (seen : Marked) (a x tp : MarkedRows) (before all : Marked)
     (plain : List Rows) (r : Entry)
     → a ≡ sandwich marks 6 6 q p l phi → x ≡ solution marks 6 12 6 q p a l → tp ≡ product marks 6 6 p p p (thetaOf p q l x) phi
-    → before ≡ allMarks p p tp (allMarks q p x (allMarks q q a (allMarks p 1 d seen))) → all ≡ uSeen N p (uStack N p tp ps phi) before
-    → plain ≡ uValues N p (uStack N p tp ps phi) → ((us : List MarkedRows) → plain ≡ uValues N p us → r ≡ waldEntry c N p q w us ld v y all)
-    → r ≡ thetaEntry c N p q w phi ps l d ld v y seen
-unfolding thetaEntry thetaSeen
+    → before ≡ thetaSeenOf p q d a x tp seen → all ≡ stackSeen N p (uStack N p tp ps phi) before
+    → plain ≡ uValues N p (uStack N p tp ps phi) → ((us : List MarkedRows) → plain ≡ uValues N p us → r ≡ waldEntryOf c N p q w us ld v y all)
+    → r ≡ thetaEntryOf c N p q w phi ps l d ld v y seen
+unfolding thetaEntryOf
 theta-entry-is c N p q w phi ps l d ld v y seen a x tp before all plain r e1 e2 e3 e4 e5 e6 e7 = rw (← e1, ← e2, ← e3, ← e4, ← e5) (e7 (uStack N p tp ps phi) e6)
 
 module _ (c : Cutoffs) (p N : ℕ) (phi phiA : MarkedRows) (ps : List MarkedRows) (w : Rows) (beta betaH : List Float) (rows : Rows) (q : ℕ) (seen : Marked)
@@ -66,8 +64,8 @@ module _ (c : Cutoffs) (p N : ℕ) (phi phiA : MarkedRows) (ps : List MarkedRows
     (e4 : v ≡ sandwich marks 6 6 q p l phiA) where
   -- the test's entry, from L, D, LD, v and Y
   pub tested-is : (y : MarkedRows) (all : Marked) (r : Entry) → y ≡ solution marks 6 12 6 q 1 v ld → all ≡ scalingSeen (scaledOf p N phi phiA ps w) seen
-      → r ≡ thetaEntry c N p q w phi ps l d ld v y all → r ≡ tested c (scaledOf p N phi phiA ps w) beta betaH (basisOf rows q seen) .entry
-  unfolding tested aRows xRows thetaPhi us ldRows vRows yRows waldMarked waldNumber testSeen a1 a2 thetaEntry waldEntry entryOf waldOf waldNumberOf thetaSeen waldSeen
+      → r ≡ thetaEntryOf c N p q w phi ps l d ld v y all → r ≡ tested c (scaledOf p N phi phiA ps w) beta betaH (basisOf rows q seen) .entry
+  unfolding tested aRows xRows thetaPhi us ldRows vRows yRows waldMarked waldNumber testSeen a1 a2 thetaEntryOf waldEntryOf entryOf waldOf waldNumberOf thetaSeenOf waldSeenOf
   tested-is y all r e5 e6 e7 = rw (← e1, ← e2, ← e3, ← e4, ← e5, ← e6) e7
 
   -- whether it is refused, from the pivots of A and of v

@@ -9,7 +9,8 @@ use Rattle.arithmetic.specs.Numbers.{plusZero}
 use Rattle.arithmetic_cutoffs.specs.declared.Cutoffs.{Cutoffs}
 use Rattle.algebra.specs.Small.{Rows}
 use Rattle.tests.specs.Basis.{Basis, contrastBasis}
-use Rattle.tests.specs.KenwardRoger.{Scaled, Tested, tested, basisOf, unitRow, coefficientTest, contrastTest}
+use Rattle.tests.specs.KenwardRoger.{Scaled, Tested, tested, unitRow, coefficientTest, contrastTest}
+use Rattle.tests_kr_modcomp.specs.joints.Parts.{basisOf}
 
 module _ (c : Cutoffs) (s : Scaled) (beta : List Float) where
   pub contrast-is : (betaH : List Float) (rows : ℕ) (l m : Rows) (rank : ℕ) (seen : Marked) → basisOf m rank seen ≡ contrastBasis rows (s .p) l

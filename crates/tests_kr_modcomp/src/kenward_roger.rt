@@ -5,8 +5,10 @@ ghost use mathlib.Core.List.{List};
 ghost use Rattle.algebra.specs.Kind.{marks};
 ghost use Rattle.algebra.specs.Product.{product};
 ghost use Rattle.algebra.specs.Elimination.{refused};
-ghost use Rattle.algebra.specs.Small.{MarkedRows, Rows, sandwich, allMarks};
-ghost use Rattle.tests.specs.KenwardRoger.{scaledPs, scalingSeen, difference, thetaOf, uOf, uStack, uValues, uSeen, waldOne, waldOneGiven, waldMany, scaledOf, basisOf, waldOf, waldNumberOf, waldSeen, entryOf, waldEntry, thetaEntry, tested, unitRow};
+ghost use Rattle.algebra.specs.Small.{MarkedRows, Rows, sandwich};
+ghost use Rattle.tests.specs.KenwardRoger.{scaledPs, scalingSeen, difference, thetaOf, uOf, uStack, uValues, waldMany, tested, unitRow};
+ghost use Rattle.tests_kr_modcomp.specs.joints.Parts.{scaledOf, basisOf, waldOf, waldNumberOf, thetaSeenOf, waldSeenOf, entryOf, waldEntryOf, thetaEntryOf};
+ghost use Rattle.tests.specs.Both.{stackSeen};
 use adjustment_response_units::scaled_down;
 use algebra_elimination_marked::solve;
 use algebra_products_marked::cells::all_marks;
@@ -17,17 +19,17 @@ use algebra_products_marked::product;
 use algebra_products_marked::sandwich;
 use algebra_products_marked::transpose;
 use arithmetic::Marked;
-use arithmetic::plain::is_finite;
 use arithmetic_cutoffs::Cutoffs;
 use arithmetic_steps::add;
 use arithmetic_steps::also;
-use arithmetic_steps::div;
 use arithmetic_steps::given;
 use arithmetic_steps::mul;
-use arithmetic_steps::square_root;
 use arithmetic_steps::sub;
 use tests::Entry;
 use tests::Number;
+use tests::both::is_positive;
+use tests::both::square_one;
+use tests::both::stack_seen;
 use tests::number_of;
 use tests_moments::a1_of;
 use tests_moments::a2_of;
@@ -111,7 +113,7 @@ pub fn u_split(
     plain: &mut [[[f64; 6]; 6]; 4],
 ) -> Marked
     requires { ⌜ (n ≤ 4) × (p ≤ 6) ⌝ }
-    ensures { λ r. ⌜ r ≡ uSeen n p (uStack n p tp ps phi) seen ⌝ }
+    ensures { λ r. ⌜ r ≡ stackSeen n p (uStack n p tp ps phi) seen ⌝ }
     ensures { λ r. ⌜ now (plain .exit) ≡ uValues n p (uStack n p tp ps phi) ⌝ }
 {
     let blank = algebra_products::zeros();
@@ -124,19 +126,6 @@ pub fn u_split(
         all = all_marks(u, p, p, all);
     }
     *plain = out;
-    all
-}
-
-// `seen`, with the marks of the n matrices counted.
-pub fn u_seen(us: [[[Marked; 6]; 6]; 4], n: usize, p: usize, seen: Marked) -> Marked
-    requires { ⌜ (n ≤ 4) × (p ≤ 6) ⌝ }
-    ensures { λ r. ⌜ r ≡ uSeen n p us seen ⌝ }
-{
-    let mut all = seen;
-    for i in 0..n {
-        let u = us[i];
-        all = all_marks(u, p, p, all);
-    }
     all
 }
 
@@ -154,21 +143,7 @@ pub fn scaling_seen(
 {
     let first = all_marks(phi, p, p, seen);
     let second = all_marks(phi_a, p, p, first);
-    u_seen(ps, n, p, second)
-}
-
-// Wald of one row that has a positive finite variance.
-pub fn wald_one(ld: Marked, v: Marked) -> Marked
-    ensures { λ r. ⌜ r ≡ waldOne ld v ⌝ }
-{
-    let t = div(ld, square_root(v));
-    mul(t, t)
-}
-
-pub fn wald_one_given(v: Marked) -> bool
-    ensures { λ r. ⌜ r ≡ waldOneGiven v ⌝ }
-{
-    is_finite(v.value) & (0.0 < v.value)
+    stack_seen(ps, n, p, second)
 }
 
 // Wald of several rows: LD · Y.
@@ -197,8 +172,9 @@ pub fn solve_wald_quadratic(
     ensures { λ r. ⌜ r ≡ waldOf q ld v y ⌝ }
 {
     if q == 1 {
-        if wald_one_given(v[0][0]) {
-            return wald_one(ld[0][0], v[0][0]);
+        let variance = v[0][0];
+        if is_positive(variance.value) {
+            return square_one(ld[0][0], variance);
         }
         return given(0.0);
     }
@@ -210,7 +186,8 @@ pub fn wald_number(v: [[Marked; 6]; 6], wald: Marked, q: usize) -> Number
     ensures { λ r. ⌜ r ≡ waldNumberOf q v wald ⌝ }
 {
     let one_row = q == 1;
-    if one_row & !wald_one_given(v[0][0]) {
+    let variance = v[0][0];
+    if one_row & !is_positive(variance.value) {
         return Number::None;
     }
     number_of(wald.value)
@@ -227,7 +204,7 @@ pub fn theta_seen(
     seen: Marked,
 ) -> Marked
     requires { ⌜ (p ≤ 6) × (q ≤ 6) ⌝ }
-    ensures { λ r. ⌜ r ≡ allMarks p p tp (allMarks q p x (allMarks q q a (allMarks p 1 d seen))) ⌝ }
+    ensures { λ r. ⌜ r ≡ thetaSeenOf p q d a x tp seen ⌝ }
 {
     let s1 = all_marks(d, p, 1, seen);
     let s2 = all_marks(a, q, q, s1);
@@ -245,7 +222,7 @@ pub fn wald_seen(
     seen: Marked,
 ) -> Marked
     requires { ⌜ q ≤ 6 ⌝ }
-    ensures { λ r. ⌜ r ≡ waldSeen q ld v y wald seen ⌝ }
+    ensures { λ r. ⌜ r ≡ waldSeenOf q ld v y wald seen ⌝ }
 {
     let s1 = all_marks(ld, q, 1, seen);
     let s2 = all_marks(v, q, q, s1);
@@ -297,7 +274,7 @@ pub fn wald_entry(
     seen: Marked,
 ) -> Entry
     requires { ⌜ (n ≤ 4) × (p ≤ 6) × (q ≤ 6) ⌝ }
-    ensures { λ r. ⌜ ((us : List MarkedRows) → plain ≡ uValues n p us → r ≡ waldEntry c n p q w us ld v y seen) ⌝ }
+    ensures { λ r. ⌜ ((us : List MarkedRows) → plain ≡ uValues n p us → r ≡ waldEntryOf c n p q w us ld v y seen) ⌝ }
 {
     let wald = solve_wald_quadratic(v, ld, y, q);
     let number = wald_number(v, wald, q);
@@ -323,7 +300,7 @@ pub fn theta_entry(
     zero_pivot: &mut bool,
 ) -> Entry
     requires { ⌜ (n ≤ 4) × (p ≤ 6) × (q ≤ 6) ⌝ }
-    ensures { λ r. ⌜ r ≡ thetaEntry c n p q w phi ps l d ld v y seen ⌝ }
+    ensures { λ r. ⌜ r ≡ thetaEntryOf c n p q w phi ps l d ld v y seen ⌝ }
     ensures { λ r. ⌜ now («zero_pivot» .exit) ≡ refused marks 6 12 q p (sandwich marks 6 6 q p l phi) l ⌝ }
 {
     let a = sandwich(l, phi, q, p);

@@ -1,7 +1,8 @@
 // The Kenward–Roger run: each coefficient alone, then the contrast if one is given (kenward_roger).
 ghost use mathlib.Core.Path.{_≡_};
 ghost use Prim.Native.Nat.{_≤_, _<_};
-ghost use Rattle.tests.specs.KenwardRoger.{scaledOf, coefficientTest, contrastTest, withTest, coefficientsTo, runOf};
+ghost use Rattle.tests.specs.KenwardRoger.{coefficientTest, contrastTest, withTest, coefficientsTo, runOf};
+ghost use Rattle.tests_kr_modcomp.specs.joints.Parts.{scaledOf};
 use crate::kenward_roger::kr_modcomp_test;
 use crate::kenward_roger::unit_row;
 use arithmetic::Marked;

@@ -1,24 +1,23 @@
 // The unmarked part of a Kenward–Roger test: from the matrices u_i and W to a1 and a2, and from these to the degrees of freedom and the scaling of F.
 ghost use mathlib.Core.Path.{_≡_};
-ghost use Prim.Native.Nat.{ℕ, _≤_, _<_};
+ghost use Prim.Native.Nat.{_≤_, _<_};
 ghost use mathlib.Core.List.{[]};
 ghost use lib.ListN.{getD};
-ghost use lib.Ieee.{Float, nan, binary64, mul};
+ghost use lib.Ieee.{nan, binary64, mul};
 ghost use Rattle.arithmetic.specs.Numbers.{plusZero, one, ofCount};
 ghost use Rattle.algebra.specs.Fold.{fold};
 ghost use Rattle.algebra.specs.Table.{row};
 ghost use Rattle.algebra.specs.Kind.{floats};
 ghost use Rattle.algebra.specs.Product.{trace, likeCells, transpose};
-ghost use Rattle.arithmetic_cutoffs.specs.declared.Cutoffs.{Cutoffs};
 ghost use Rattle.tests.specs.declared.Number.the-variants.{Is};
 ghost use Rattle.tests.specs.Answer.{numberOf};
 ghost use Rattle.tests.specs.Moments.{weight, a1Of, a2Of, bOf, gOf, dOf, c1Of, c2Of, c3Of, leadingOf, v0Of, v1Of, v2Of, divOf, lessA2, rhoOf, positive, generalDf, rankOne, dfOf, scalingAt, scalingOf, fOf};
 use crate::rho::rho_from;
-use arithmetic::plain::is_finite;
 use arithmetic::plain::magnitude;
 use arithmetic::plain::of_count;
 use arithmetic_cutoffs::Cutoffs;
 use tests::Number;
+use tests::both::is_positive;
 use tests::number_of;
 
 pub mod rho;
@@ -125,7 +124,7 @@ pub fn a2_of(us: [[[f64; 6]; 6]; 4], w: [[f64; 6]; 6], n: usize, p: usize) -> f6
 // B.
 pub fn b_of(q: usize, a1: f64, a2: f64) -> f64
     requires { ⌜ q ≤ 6 ⌝ }
-    ensures { λ r. ⌜ ((c : Cutoffs) → r ≡ bOf c q a1 a2) ⌝ }
+    ensures { λ r. ⌜ r ≡ bOf q a1 a2 ⌝ }
 {
     (a1 + 6.0 * a2) / (2.0 * of_count(q))
 }
@@ -177,7 +176,7 @@ pub fn c3_of(c: Cutoffs, q: usize, a1: f64, a2: f64) -> f64
 
 // What is next to zero is zero: for V0 and V2.
 pub fn leading_of(c: Cutoffs, x: f64) -> f64
-    ensures { λ r. ⌜ ((q : ℕ) (a1 a2 : Float) → r ≡ leadingOf c q a1 a2 x) ⌝ }
+    ensures { λ r. ⌜ r ≡ leadingOf c x ⌝ }
 {
     if magnitude(x) < c.leading {
         return 0.0;
@@ -208,7 +207,7 @@ pub fn v2_of(c: Cutoffs, q: usize, a1: f64, a2: f64) -> f64
 
 // A quotient that is zero where its denominator is next to zero.
 pub fn div_zero(c: Cutoffs, num: f64, denom: f64) -> f64
-    ensures { λ r. ⌜ ((q : ℕ) (a1 a2 : Float) → r ≡ divOf c q a1 a2 num denom) ⌝ }
+    ensures { λ r. ⌜ r ≡ divOf c num denom ⌝ }
 {
     if magnitude(denom) < c.divisor {
         return 0.0;
@@ -219,7 +218,7 @@ pub fn div_zero(c: Cutoffs, num: f64, denom: f64) -> f64
 // 1 − a2/q.
 pub fn less_a2(q: usize, a2: f64) -> f64
     requires { ⌜ q ≤ 6 ⌝ }
-    ensures { λ r. ⌜ ((c : Cutoffs) (a1 : Float) → r ≡ lessA2 c q a1 a2) ⌝ }
+    ensures { λ r. ⌜ r ≡ lessA2 q a2 ⌝ }
 {
     1.0 - a2 / of_count(q)
 }
@@ -227,7 +226,7 @@ pub fn less_a2(q: usize, a2: f64) -> f64
 // The quotient of ρ that is squared.
 pub fn rho_root(c: Cutoffs, q: usize, a1: f64, a2: f64) -> f64
     requires { ⌜ q ≤ 6 ⌝ }
-    ensures { λ r. ⌜ r ≡ divOf c q a1 a2 (lessA2 c q a1 a2) (v1Of c q a1 a2) ⌝ }
+    ensures { λ r. ⌜ r ≡ divOf c (lessA2 q a2) (v1Of c q a1 a2) ⌝ }
 {
     div_zero(c, less_a2(q, a2), v1_of(c, q, a1, a2))
 }
@@ -235,7 +234,7 @@ pub fn rho_root(c: Cutoffs, q: usize, a1: f64, a2: f64) -> f64
 // The last factor of ρ.
 pub fn rho_factor(c: Cutoffs, q: usize, a1: f64, a2: f64) -> f64
     requires { ⌜ q ≤ 6 ⌝ }
-    ensures { λ r. ⌜ r ≡ divOf c q a1 a2 (v0Of c q a1 a2) (v2Of c q a1 a2) ⌝ }
+    ensures { λ r. ⌜ r ≡ divOf c (v0Of c q a1 a2) (v2Of c q a1 a2) ⌝ }
 {
     div_zero(c, v0_of(c, q, a1, a2), v2_of(c, q, a1, a2))
 }
@@ -252,7 +251,7 @@ pub fn rho_of(c: Cutoffs, q: usize, a1: f64, a2: f64) -> f64
 
 // A df that is positive; zero, a negative number and a NaN are none.
 pub fn positive(x: f64) -> Number
-    ensures { λ r. ⌜ ((c : Cutoffs) (q : ℕ) (a1 a2 : Float) → r ≡ positive c q a1 a2 x) ⌝ }
+    ensures { λ r. ⌜ r ≡ positive x ⌝ }
 {
     if 0.0 < x {
         return Number::Is(x);
@@ -282,10 +281,10 @@ pub fn general_df(c: Cutoffs, q: usize, a1: f64, a2: f64) -> Number
 
 // One row, with an a2 that has a df of its own.
 pub fn rank_one(q: usize, a2: f64) -> bool
-    ensures { λ r. ⌜ ((c : Cutoffs) (a1 : Float) → r ≡ rankOne c q a1 a2) ⌝ }
+    ensures { λ r. ⌜ r ≡ rankOne q a2 ⌝ }
 {
     let one_row = q == 1;
-    one_row & (is_finite(a2) & (0.0 < a2))
+    one_row & is_positive(a2)
 }
 
 pub fn df_of(c: Cutoffs, q: usize, a1: f64, a2: f64) -> Number
@@ -301,7 +300,7 @@ pub fn df_of(c: Cutoffs, q: usize, a1: f64, a2: f64) -> Number
 // The scaling of F for a df that is a number: 1 next to 2, where the quotient has no limit.
 pub fn scaling_of_df(c: Cutoffs, q: usize, a2: f64, df: f64) -> Number
     requires { ⌜ q ≤ 6 ⌝ }
-    ensures { λ r. ⌜ ((a1 : Float) → r ≡ scalingAt c q a1 a2 (Is df)) ⌝ }
+    ensures { λ r. ⌜ r ≡ scalingAt c q a2 (Is df) ⌝ }
 {
     let beyond = df - 2.0;
     if magnitude(beyond) < c.near {
@@ -313,7 +312,7 @@ pub fn scaling_of_df(c: Cutoffs, q: usize, a2: f64, df: f64) -> Number
 // The scaling of F; none for no df.
 pub fn scaling_at(c: Cutoffs, q: usize, a2: f64, df: Number) -> Number
     requires { ⌜ q ≤ 6 ⌝ }
-    ensures { λ r. ⌜ ((a1 : Float) → r ≡ scalingAt c q a1 a2 df) ⌝ }
+    ensures { λ r. ⌜ r ≡ scalingAt c q a2 df ⌝ }
 {
     match df {
         Number::Is(x) => scaling_of_df(c, q, a2, x),

@@ -13,7 +13,8 @@ use Rattle.adjustment.specs.Adjusted.{Adjustment, scaledUp}
 use Rattle.tests.specs.declared.Entry.{Entry}
 use Rattle.algebra.specs.Small.{MarkedRows, Rows}
 use Rattle.tests.specs.Answer.{noEntry}
-use Rattle.tests.specs.KenwardRoger.{Scaled, Tested, scaledBy, scaledPs, scaledOf, coefficientTest, contrastTest, Run, withTest, coefficientsTo, runOf}
+use Rattle.tests.specs.KenwardRoger.{Scaled, Tested, scaledBy, scaledPs, coefficientTest, contrastTest, Run, withTest, coefficientsTo, runOf}
+use Rattle.tests_kr_modcomp.specs.joints.Parts.{scaledOf}
 use Rattle.tests_run.specs.joints.Units.{responseUnits}
 
 -- an adjustment's parts, in response units, are the adjustment in response units
@@ -24,7 +25,7 @@ response-units-is p N phi sigma2 a = refl
 -- the scaled matrices, each by an equation
 pub scaled-is : (p N : ℕ) (phi phiA : Rows) (ps : List Rows) (w : Rows) (sigma2 : Float) (phi′ phiA′ : MarkedRows) (ps′ : List MarkedRows) → phi′ ≡ scaledUp p phi sigma2
     → phiA′ ≡ scaledUp p phiA sigma2 → ps′ ≡ scaledPs p N ps sigma2 → scaledOf p N phi′ phiA′ ps′ w ≡ responseUnits p N phi phiA ps w sigma2
-unfolding responseUnits scaledBy
+unfolding responseUnits
 scaled-is p N phi phiA ps w sigma2 phi′ phiA′ ps′ e f g = rw (e, f, g)
 
 -- a run, from its two parts

@@ -1,7 +1,8 @@
 // The Kenward–Roger run: each coefficient alone, then the contrast if one is given (kenward_roger).
 ghost use mathlib.Core.Path.{_≡_};
 ghost use Prim.Native.Nat.{_≤_};
-ghost use Rattle.tests.specs.KenwardRoger.{scaledOf, coefficientsTo, runOf};
+ghost use Rattle.tests.specs.KenwardRoger.{coefficientsTo, runOf};
+ghost use Rattle.tests_kr_modcomp.specs.joints.Parts.{scaledOf};
 ghost use Rattle.tests_run.specs.joints.Units.{responseUnits};
 use adjustment_response_units::scaled_up;
 use arithmetic::Marked;

@@ -15,7 +15,8 @@ use Rattle.tests.specs.declared.Number.{Number}
 use Rattle.tests.specs.declared.Entry.{Entry}
 use Rattle.tests.specs.Answer.{numberOf}
 use Rattle.tests.specs.VarianceDf.{varianceDf, gradientSeen}
-use Rattle.tests.specs.Satterthwaite.{squareOne, gradientOne, eigenvalues, notPositive, variancesOf, directionsOf, projected, squaresOver, jxAll, componentDfs, severalDf, componentsSeen, stackSeen, Inputs, Outcome}
+use Rattle.tests.specs.Satterthwaite.{gradientOne, eigenvalues, notPositive, variancesOf, directionsOf, projected, squaresOver, jxAll, componentDfs, severalDf, componentsSeen, Inputs, Outcome}
+use Rattle.tests.specs.Both.{squareOne, stackSeen}
 
 -- what is sent, from its parts
 abbrev pub inputsOf : ℕ → ℕ → ℕ → Rows → List Float → List Float → Rows → List Rows → Rows → Inputs

@@ -1,4 +1,4 @@
--- `moments::a1_of` meets its contract.
+-- `tests_moments::a1_of` meets its contract.
 use Rattle.tests_moments.proofs.MomentLaws.{a1-is}
 use borrow.Author.Needs.{needs}
 use Rattle.tests_moments.proofs.a1_of.Statement.{statement}

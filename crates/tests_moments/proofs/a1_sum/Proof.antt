@@ -1,4 +1,4 @@
--- `moments::a1_sum` meets its contract.
+-- `tests_moments::a1_sum` meets its contract.
 use Prim.Native.Nat.{ℕ, _≤_, _<_, _-_}
 use mathlib.Core.Path.{_≡_}
 use mathlib.Core.List.{List}

@@ -1,4 +1,4 @@
--- `moments::a1_term` meets its contract.
+-- `tests_moments::a1_term` meets its contract.
 use borrow.Author.Needs.{needs}
 use Rattle.tests_moments.proofs.a1_term.Statement.{statement}
 use Rattle.tests_moments.proofs.a1_term.Tie as tie

@@ -1,4 +1,4 @@
--- `moments::a2_of` meets its contract.
+-- `tests_moments::a2_of` meets its contract.
 use Prim.Native.Nat.{ℕ, _≤_, _<_, _-_}
 use mathlib.Core.Path.{_≡_}
 use mathlib.Core.List.{List, []}

@@ -1,4 +1,4 @@
--- `moments::a2_term` meets its contract.
+-- `tests_moments::a2_term` meets its contract.
 use borrow.Author.Needs.{needs}
 use Rattle.tests_moments.proofs.a2_term.Statement.{statement}
 use Rattle.tests_moments.proofs.a2_term.Tie as tie

@@ -1,4 +1,4 @@
--- `moments::c1_of` meets its contract.
+-- `tests_moments::c1_of` meets its contract.
 use lib.Ieee.{ofBits}
 use Rattle.tests.specs.Moments.{c1Of}
 use borrow.Author.Needs.{needs}

@@ -1,4 +1,4 @@
--- `moments::c2_of` meets its contract.
+-- `tests_moments::c2_of` meets its contract.
 use Rattle.tests.specs.Moments.{c2Of}
 use borrow.Author.Needs.{needs}
 use Rattle.tests_moments.proofs.c2_of.Statement.{statement}

@@ -1,4 +1,4 @@
--- `moments::c3_of` meets its contract.
+-- `tests_moments::c3_of` meets its contract.
 use lib.Ieee.{ofBits}
 use Rattle.tests.specs.Moments.{c3Of}
 use borrow.Author.Needs.{needs}

@@ -26,7 +26,7 @@ returns c =
       c .before .before .if1 .taken,
       ← (c .before .of-count .ensures),
     )
-    (c .positive .ensures _ _ _ _)
+    (c .positive .ensures)
 
 returns-2 : tie.Need-returns-2
 unfolding generalDf ofBits

@@ -10,11 +10,11 @@ magnitude-requires c κs = search needs
 
 returns : tie.Need-returns
 unfolding leadingOf ofBits
-returns c = λ q a1 a2. rw (← (c .before .before .magnitude .ensures), c .if1 .taken)
+returns c = rw (← (c .before .before .magnitude .ensures), c .if1 .taken)
 
 returns-2 : tie.Need-returns-2
 unfolding leadingOf ofBits
-returns-2 c = λ q a1 a2. rw (← (c .before .before .magnitude .ensures), c .if1 .left)
+returns-2 c = rw (← (c .before .before .magnitude .ensures), c .if1 .left)
 
 pub leading-of-spec : {M : Type 1} → statement M
 leading-of-spec = tie.close (tie.spec magnitude-requires returns returns-2)

@@ -1,4 +1,4 @@
--- `moments::less_a2` meets its contract.
+-- `tests_moments::less_a2` meets its contract.
 use lib.Ieee.{ofBits}
 use Rattle.tests.specs.Moments.{lessA2}
 use borrow.Author.Needs.{needs}
@@ -10,7 +10,7 @@ of-count-requires c κs = search needs
 
 returns : tie.Need-returns
 unfolding lessA2 ofBits
-returns c = λ k a1. cc
+returns c = cc
 
 pub less-a2-spec : {M : Type 1} → statement M
 less-a2-spec = tie.close (tie.spec of-count-requires returns)

@@ -13,7 +13,7 @@ div-zero-requires : tie.Need-div-zero-requires
 div-zero-requires c κs = search needs
 
 returns : tie.Need-returns
-returns c = rw (← (c .before .before .v0-of .ensures), ← (c .before .v2-of .ensures)) (c .div-zero .ensures _ _ _)
+returns c = rw (← (c .before .before .v0-of .ensures), ← (c .before .v2-of .ensures)) (c .div-zero .ensures)
 
 pub rho-factor-spec : {M : Type 1} → statement M
 rho-factor-spec = tie.close (tie.spec v0-of-requires v2-of-requires div-zero-requires returns)

@@ -13,7 +13,7 @@ div-zero-requires : tie.Need-div-zero-requires
 div-zero-requires c κs = search needs
 
 returns : tie.Need-returns
-returns c = rw (← (c .before .before .less-a2 .ensures), ← (c .before .v1-of .ensures)) (c .div-zero .ensures _ _ _)
+returns c = rw (← (c .before .before .less-a2 .ensures), ← (c .before .v1-of .ensures)) (c .div-zero .ensures)
 
 pub rho-root-spec : {M : Type 1} → statement M
 rho-root-spec = tie.close (tie.spec less-a2-requires v1-of-requires div-zero-requires returns)

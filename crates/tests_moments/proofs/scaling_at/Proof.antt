@@ -14,11 +14,11 @@ enum-told : tie.Need-enum-told
 enum-told c = search needs
 
 returns : tie.Need-returns
-returns c = λ a1. rw (c .before .before .df .given .1) (c .scaling-of-df .ensures a1)
+returns c = rw (c .before .before .df .given .1) (c .scaling-of-df .ensures)
 
 returns-2 : tie.Need-returns-2
 unfolding scalingAt
-returns-2 c = λ a1. rw (c .enum-told .given .1)
+returns-2 c = rw (c .enum-told .given .1)
 
 pub scaling-at-spec : {M : Type 1} → statement M
 scaling-at-spec =

@@ -21,7 +21,7 @@ scaling-at-requires c κs = search needs
 returns-2 : tie.Need-returns-2
 unfolding scalingOf ofBits
 returns-2 c =
-    rw (← (c .before .before .before .rank-one .ensures), c .before .before .if1 .left, ← (c .before .general-df .ensures)) (c .scaling-at .ensures _)
+    rw (← (c .before .before .before .rank-one .ensures), c .before .before .if1 .left, ← (c .before .general-df .ensures)) (c .scaling-at .ensures)
 
 pub scaling-of-spec : {M : Type 1} → statement M
 scaling-of-spec =

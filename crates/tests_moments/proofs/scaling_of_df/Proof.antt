@@ -10,7 +10,7 @@ magnitude-requires c κs = search needs
 
 returns : tie.Need-returns
 unfolding scalingAt ofBits
-returns c = λ a1. rw (← (c .before .before .magnitude .ensures), c .if1 .taken)
+returns c = rw (← (c .before .before .magnitude .ensures), c .if1 .taken)
 
 less-a2-requires : tie.Need-less-a2-requires
 less-a2-requires c κs = search needs
@@ -20,7 +20,7 @@ number-of-requires c κs = search needs
 
 returns-2 : tie.Need-returns-2
 unfolding scalingAt ofBits
-returns-2 c = λ a1. rw (← (c .before .before .before .before .magnitude .ensures), c .before .before .if1 .left, ← (c .before .less-a2 .ensures)) (c .number-of .ensures)
+returns-2 c = rw (← (c .before .before .before .before .magnitude .ensures), c .before .before .if1 .left, ← (c .before .less-a2 .ensures)) (c .number-of .ensures)
 
 pub scaling-of-df-spec : {M : Type 1} → statement M
 scaling-of-df-spec =

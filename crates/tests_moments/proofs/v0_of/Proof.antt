@@ -1,4 +1,4 @@
--- `moments::v0_of` meets its contract.
+-- `tests_moments::v0_of` meets its contract.
 use lib.Ieee.{ofBits}
 use Rattle.tests.specs.Moments.{v0Of}
 use borrow.Author.Needs.{needs}
@@ -16,7 +16,7 @@ leading-of-requires c κs = search needs
 
 returns : tie.Need-returns
 unfolding v0Of ofBits
-returns c = rw (← (c .before .before .c1-of .ensures), ← (c .before .b-of .ensures)) (c .leading-of .ensures _ _ _)
+returns c = rw (← (c .before .before .c1-of .ensures), ← (c .before .b-of .ensures)) (c .leading-of .ensures)
 
 pub v0-of-spec : {M : Type 1} → statement M
 v0-of-spec = tie.close (tie.spec c1-of-requires b-of-requires leading-of-requires returns)

@@ -1,4 +1,4 @@
--- `moments::v1_of` meets its contract.
+-- `tests_moments::v1_of` meets its contract.
 use lib.Ieee.{ofBits}
 use Rattle.tests.specs.Moments.{v1Of}
 use borrow.Author.Needs.{needs}

@@ -1,4 +1,4 @@
--- `moments::v2_of` meets its contract.
+-- `tests_moments::v2_of` meets its contract.
 use lib.Ieee.{ofBits}
 use Rattle.tests.specs.Moments.{v2Of}
 use borrow.Author.Needs.{needs}
@@ -16,7 +16,7 @@ leading-of-requires c κs = search needs
 
 returns : tie.Need-returns
 unfolding v2Of ofBits
-returns c = rw (← (c .before .before .c3-of .ensures), ← (c .before .b-of .ensures)) (c .leading-of .ensures _ _ _)
+returns c = rw (← (c .before .before .c3-of .ensures), ← (c .before .b-of .ensures)) (c .leading-of .ensures)
 
 pub v2-of-spec : {M : Type 1} → statement M
 v2-of-spec = tie.close (tie.spec c3-of-requires b-of-requires leading-of-requires returns)

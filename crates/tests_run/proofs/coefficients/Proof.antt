@@ -1,7 +1,8 @@
 -- `tests_run::coefficients` meets its contract.
 use Prim.Native.Nat.{_≤_, _-_}
 use mathlib.Core.Path.{_≡_, ap}
-use Rattle.tests.specs.KenwardRoger.{Run, scaledOf, coefficientsTo}
+use Rattle.tests.specs.KenwardRoger.{Run, coefficientsTo}
+use Rattle.tests_kr_modcomp.specs.joints.Parts.{scaledOf}
 use Rattle.tests_run.proofs.RunLaws.{runFrom, coefficients-start, coefficients-next, coefficients-end}
 use native.Mathlib.Omega.{arith}
 use borrow.Author.Needs.{needs}

@@ -1,5 +1,5 @@
 -- `tests_kr_modcomp::kenward_roger::scaling_seen` meets its contract.
-use Rattle.tests.specs.KenwardRoger.{scalingSeen, uSeen}
+use Rattle.tests.specs.KenwardRoger.{scalingSeen}
 use borrow.Author.Needs.{needs}
 use Rattle.tests_kr_modcomp.proofs.kenward_roger.scaling_seen.Statement.{statement}
 use Rattle.tests_kr_modcomp.proofs.kenward_roger.scaling_seen.Tie as tie
@@ -10,13 +10,13 @@ all-marks-requires c κs = search needs
 all-marks-requires-2 : tie.Need-all-marks-requires-2
 all-marks-requires-2 c κs = search needs
 
-u-seen-requires : tie.Need-u-seen-requires
-u-seen-requires c κs = search needs
+stack-seen-requires : tie.Need-stack-seen-requires
+stack-seen-requires c κs = search needs
 
 returns : tie.Need-returns
-unfolding scalingSeen uSeen
-returns c = λ w. rw (← (c .before .before .all-marks .ensures), ← (c .before .all-marks2 .ensures)) (c .u-seen .ensures)
+unfolding scalingSeen
+returns c = λ w. rw (← (c .before .before .all-marks .ensures), ← (c .before .all-marks2 .ensures)) (c .stack-seen .ensures)
 
 pub scaling-seen-spec : {M : Type 1} → statement M
 scaling-seen-spec =
-    tie.close (tie.spec all-marks-requires all-marks-requires-2 u-seen-requires returns)
+    tie.close (tie.spec all-marks-requires all-marks-requires-2 stack-seen-requires returns)

@@ -1,4 +1,5 @@
 -- `tests_kr_modcomp::kenward_roger::theta_seen` meets its contract.
+use Rattle.tests_kr_modcomp.specs.joints.Parts.{thetaSeenOf}
 use borrow.Author.Needs.{needs}
 use Rattle.tests_kr_modcomp.proofs.kenward_roger.theta_seen.Statement.{statement}
 use Rattle.tests_kr_modcomp.proofs.kenward_roger.theta_seen.Tie as tie
@@ -16,6 +17,7 @@ all-marks-requires-4 : tie.Need-all-marks-requires-4
 all-marks-requires-4 c κs = search needs
 
 returns : tie.Need-returns
+unfolding thetaSeenOf
 returns c =
     let s1 = c .before .before .before .all-marks .ensures in
     let s2 = c .before .before .all-marks2 .ensures in

@@ -2,7 +2,8 @@
 use Prim.Native.Nat.{_≤_, _-_}
 use mathlib.Core.Path.{_≡_}
 use Rattle.algebra.proofs.FoldLaws.{fold-start, fold-next, fold-end}
-use Rattle.tests.specs.KenwardRoger.{uStack, uValues, uSeen}
+use Rattle.tests.specs.KenwardRoger.{uStack, uValues}
+use Rattle.tests.specs.Both.{stackSeen}
 use Rattle.tests_kr_modcomp.proofs.Parts.{u-values-step, u-seen-step}
 use native.Mathlib.Omega.{arith}
 use borrow.Author.Needs.{needs}
@@ -10,7 +11,7 @@ use Rattle.tests_kr_modcomp.proofs.kenward_roger.u_split.Statement.{sta
 use Rattle.tests_kr_modcomp.proofs.kenward_roger.u_split.Tie as tie
 
 abbrev Inv-loop : tie.InvT-loop
-Inv-loop tp phi n p plain ps out₀ all₀ i₀ out all i = (i ≤ n) × (out ≡ uValues i p (uStack n p tp ps phi)) × (all ≡ uSeen i p (uStack n p tp ps phi) all₀)
+Inv-loop tp phi n p plain ps out₀ all₀ i₀ out all i = (i ≤ n) × (out ≡ uValues i p (uStack n p tp ps phi)) × (all ≡ stackSeen i p (uStack n p tp ps phi) all₀)
 
 abbrev μ-loop : tie.MeasureT-loop
 μ-loop tp phi n p plain ps out₀ all₀ i₀ out all i = n - i
@@ -19,7 +20,7 @@ zeros-requires : tie.Need-zeros-requires Inv-loop μ-loop
 zeros-requires c κs = search needs
 
 loop-holds : tie.Need-loop-holds Inv-loop μ-loop
-unfolding uValues uSeen
+unfolding uValues stackSeen
 loop-holds c = (omega arith, rw (c .zeros .ensures) (fold-start _ _ _), fold-start _ _ _)
 
 mul-pi : tie.Need-mul-pi Inv-loop μ-loop
@@ -50,7 +51,7 @@ loop-less : tie.Need-loop-less Inv-loop μ-loop
 loop-less c = omega arith
 
 loop-again : tie.Need-loop-again Inv-loop μ-loop
-unfolding uValues uSeen
+unfolding uValues stackSeen
 loop-again c =
     let u = c .before .before .u-of .ensures in
     let l = c .before .before .before .before .before .loop in
@@ -61,7 +62,7 @@ loop-again c =
     )
 
 returns : tie.Need-returns Inv-loop μ-loop
-unfolding uValues uSeen
+unfolding uValues stackSeen
 returns c =
     let v = c .before .loop .inv in
     (fold-end _ _ _ _ _ _ (v .0) (c .loop-test .left) (v .2), fold-end _ _ _ _ _ _ (v .0) (c .loop-test .left) (v .1))

@@ -1,5 +1,5 @@
 -- `tests_kr_modcomp::kenward_roger::wald_entry` meets its contract.
-use Rattle.tests.specs.KenwardRoger.{waldEntry}
+use Rattle.tests_kr_modcomp.specs.joints.Parts.{waldEntryOf}
 use borrow.Author.Needs.{needs}
 use Rattle.tests_kr_modcomp.proofs.kenward_roger.wald_entry.Statement.{statement}
 use Rattle.tests_kr_modcomp.proofs.kenward_roger.wald_entry.Tie as tie
@@ -17,7 +17,7 @@ entry-of-requires : tie.Need-entry-of-requires
 entry-of-requires c κs = search needs
 
 returns : tie.Need-returns
-unfolding waldEntry
+unfolding waldEntryOf
 returns c = λ us e. rw (← c .before .before .before .solve-wald-quadratic .ensures, ← c .before .before .wald-number .ensures, ← c .before .wald-seen .ensures) (c .entry-of .ensures us e)
 
 pub wald-entry-spec : {M : Type 1} → statement M

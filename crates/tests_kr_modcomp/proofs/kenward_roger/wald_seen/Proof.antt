@@ -1,6 +1,6 @@
 -- `tests_kr_modcomp::kenward_roger::wald_seen` meets its contract.
 use borrow.Author.Tests.{eq-eqb, ne-eqb}
-use Rattle.tests.specs.KenwardRoger.{waldSeen}
+use Rattle.tests_kr_modcomp.specs.joints.Parts.{waldSeenOf}
 use borrow.Author.Needs.{needs}
 use Rattle.tests_kr_modcomp.proofs.kenward_roger.wald_seen.Statement.{statement}
 use Rattle.tests_kr_modcomp.proofs.kenward_roger.wald_seen.Tie as tie
@@ -15,7 +15,7 @@ also-requires : tie.Need-also-requires
 also-requires c κs = search needs
 
 returns : tie.Need-returns
-unfolding waldSeen
+unfolding waldSeenOf
 returns c =
     let s1 = c .before .before .before .all-marks .ensures in
     let s2 = c .before .before .all-marks2 .ensures in
@@ -28,7 +28,7 @@ also-requires-2 : tie.Need-also-requires-2
 also-requires-2 c κs = search needs
 
 returns-2 : tie.Need-returns-2
-unfolding waldSeen
+unfolding waldSeenOf
 returns-2 c =
     let s1 = c .before .before .before .before .all-marks .ensures in
     let s2 = c .before .before .before .all-marks2 .ensures in

@@ -1,8 +1,8 @@
--- `tests_ddf::satterthwaite::square_one` meets its contract.
-use Rattle.tests.specs.Satterthwaite.{squareOne}
+-- `tests::both::square_one` meets its contract.
+use Rattle.tests.specs.Both.{squareOne}
 use borrow.Author.Needs.{needs}
-use Rattle.tests_ddf.proofs.satterthwaite.square_one.Statement.{statement}
-use Rattle.tests_ddf.proofs.satterthwaite.square_one.Tie as tie
+use Rattle.tests.proofs.both.square_one.Statement.{statement}
+use Rattle.tests.proofs.both.square_one.Tie as tie
 
 square-root-requires : tie.Need-square-root-requires
 square-root-requires c κs = search needs
