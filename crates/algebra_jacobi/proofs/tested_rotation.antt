@@ -1,3 +1,3 @@
 -- The laws of a pair's rotation, for any kind of number.
 pub mod Cells
-pub mod Tests
+pub mod Pairs

@@ -2,3 +2,4 @@
 pub mod Starts
 pub mod States
 pub mod Rotated
+pub mod Tested

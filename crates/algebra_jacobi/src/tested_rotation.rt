@@ -1,11 +1,11 @@
-// A pair of Jacobi's sweeps on plain numbers: its rotation test, and the two matrices rotated where it says so. No mark is kept, so the state's `seen` stays +0.
+// A pair of Jacobi's sweeps on plain numbers: its rotation test, and the two matrices rotated.
 ghost use mathlib.Core.Path.{_≡_};
 ghost use Prim.Native.Nat.{_+_, _<_, _≤_};
-ghost use Rattle.arithmetic.specs.Numbers.{plusZero};
 ghost use Rattle.algebra.specs.Table.{table};
 ghost use Rattle.algebra.specs.Kind.{floats, zeroOf};
 ghost use Rattle.algebra_jacobi.specs.joints.Rotated.{chosenCell, mirroringCell};
-ghost use Rattle.algebra.specs.Jacobi.{State, rotated, rotateTested, rotate};
+ghost use Rattle.algebra_jacobi.specs.joints.Tested.{rotates, rotatedPair};
+ghost use Rattle.algebra.specs.Jacobi.{rotated};
 use algebra_rotation::cosine;
 use algebra_rotation::ratio;
 use algebra_rotation::sine;
@@ -86,53 +86,23 @@ pub fn rotated(
     rotated_cells(w, n, p, q, m[p][p] - moved, m[q][q] + moved)
 }
 
-// The pair (p, q), whose cell is not zero: rotated if the test says so. Returns the rotations made so far.
-pub fn rotate_tested(
-    a: &mut [[f64; 6]; 6],
-    v: &mut [[f64; 6]; 6],
-    n: usize,
-    p: usize,
-    q: usize,
-    limit: f64,
-    count: usize,
-) -> usize
-    requires { ⌜ (n ≤ 6) × (p < 6) × (q < 6) × (count ≤ 3000) ⌝ }
-    ensures { λ r. ⌜ record { a = now (a .exit); v = now (v .exit); count = r; seen = plusZero } ≡ rotateTested floats limit 6 6 n p q (record { a = now (a .entry); v = now (v .entry); count = count; seen = plusZero }) ⌝ }
+// Whether a pair rotates, from its three cells: document 01's "Where A_ab ≠ 0, rotate if A_ab² > 2^-100 × (A_aa × A_bb)".
+pub fn rotates(pp: f64, qq: f64, pq: f64, limit: f64) -> bool
+    ensures { λ r. ⌜ r ≡ rotates floats limit pp qq pq ⌝ }
 {
-    let more = count + 1;
-    let pq = a[p][q];
-    let pp = a[p][p];
-    let qq = a[q][q];
-    if limit * (pp * qq) < pq * pq {
-        let m = *a;
-        let t = tangent(ratio(pp, qq, pq));
-        let c = cosine(t);
-        let s = sine(t, c);
-        let b = rotated(m, n, p, q, t, c, s);
-        let old = *v;
-        let turned = turn_columns(old, n, p, q, c, s);
-        *a = b;
-        *v = turned;
-        return more;
-    }
-    count // no rotation
+    !is_zero(pq) & (limit * (pp * qq) < pq * pq)
 }
 
-// The pair (p, q): left as it is where its cell is zero.
-pub fn rotate(
-    a: &mut [[f64; 6]; 6],
-    v: &mut [[f64; 6]; 6],
-    n: usize,
-    p: usize,
-    q: usize,
-    limit: f64,
-    count: usize,
-) -> usize
-    requires { ⌜ (n ≤ 6) × (p < 6) × (q < 6) × (count ≤ 3000) ⌝ }
-    ensures { λ r. ⌜ record { a = now (a .exit); v = now (v .exit); count = r; seen = plusZero } ≡ rotate floats limit 6 6 n p q (record { a = now (a .entry); v = now (v .entry); count = count; seen = plusZero }) ⌝ }
+// The matrix and the vectors rotated at the pair (p, q).
+pub fn rotated_pair(both: [[[f64; 6]; 6]; 2], n: usize, p: usize, q: usize) -> [[[f64; 6]; 6]; 2]
+    requires { ⌜ (n ≤ 6) × (p < 6) × (q < 6) ⌝ }
+    ensures { λ r. ⌜ r ≡ rotatedPair floats 6 6 n p q both ⌝ }
 {
-    if is_zero(a[p][q]) {
-        return count;
-    }
-    rotate_tested(a, v, n, p, q, limit, count)
+    let m = both[0];
+    let t = tangent(ratio(m[p][p], m[q][q], m[p][q]));
+    let c = cosine(t);
+    let s = sine(t, c);
+    let a = rotated(m, n, p, q, t, c, s);
+    let v = turn_columns(both[1], n, p, q, c, s);
+    [a, v]
 }

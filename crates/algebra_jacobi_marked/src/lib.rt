@@ -2,14 +2,17 @@
 // `inside` is the mark of the state's `seen`, which counts theirs, and whose value stays +0.
 ghost use mathlib.Core.Path.{_≡_};
 ghost use Prim.Native.Nat.{_+_, _<_, _≤_};
-ghost use mathlib.Core.List.{[], _∷_};
+ghost use mathlib.Core.Bool.{true};
+ghost use Rattle.arithmetic.specs.Numbers.{plusZero};
+ghost use Rattle.arithmetic.specs.Marks.{marked};
 ghost use Rattle.algebra.specs.Table.{table};
 ghost use Rattle.algebra.specs.Kind.{marks, zeroOf};
-ghost use Rattle.algebra.specs.Product.{at, identity};
+ghost use Rattle.algebra.specs.Product.{identity};
 ghost use Rattle.algebra_jacobi.specs.joints.Rotated.{chosenCell, mirroringCell};
 ghost use Rattle.algebra_jacobi.specs.joints.States.{markedState};
+ghost use Rattle.algebra_jacobi.specs.joints.Tested.{rotates, seenAfter, rotatedPair};
 ghost use Rattle.algebra_jacobi.specs.joints.Starts.{mirroredCell, identityCell};
-ghost use Rattle.algebra.specs.Jacobi.{State, ratio, tangent, cosine, sine, turnedFirst, turnedSecond, turnRow, turnColumns, rotated, squared, bound, rotateTested, rotate, rowTo, sweepTo, sweepsTo, mirrored, jacobi};
+ghost use Rattle.algebra.specs.Jacobi.{State, ratio, tangent, cosine, sine, turnedFirst, turnedSecond, turnRow, turnColumns, rotated, sweepsTo, mirrored, jacobi};
 use arithmetic::Marked;
 use arithmetic::plain::is_zero;
 use arithmetic::plain::sign;
@@ -173,131 +176,42 @@ pub fn rotated(
     rotated_cells(w, n, p, q, first, second)
 }
 
-// The left side of the rotation test.
-pub fn squared(m: [[Marked; 6]; 6], p: usize, q: usize) -> Marked
-    requires { ⌜ (p < 6) × (q < 6) ⌝ }
-    ensures { λ r. ⌜ r ≡ squared marks p q m ⌝ }
+// Whether a pair rotates, from its three cells: document 01's "Where A_ab ≠ 0, rotate if A_ab² > 2^-100 × (A_aa × A_bb)". The test's products are counted in
+// `inside` whether or not it rotates; where the cell is zero no test is made.
+pub fn rotates(pp: Marked, qq: Marked, pq: Marked, limit: f64, inside: &mut bool) -> bool
+    ensures { λ r. ⌜ (r ≡ rotates marks limit pp qq pq) × (marked plusZero (now (inside .exit)) ≡ seenAfter marks limit pp qq pq (marked plusZero (now (inside .entry)))) ⌝ }
 {
-    mul(m[p][q], m[p][q])
-}
-
-// The right side of the rotation test.
-pub fn bound(m: [[Marked; 6]; 6], p: usize, q: usize, limit: f64) -> Marked
-    requires { ⌜ (p < 6) × (q < 6) ⌝ }
-    ensures { λ r. ⌜ r ≡ bound marks limit p q m ⌝ }
-{
-    mul(given(limit), mul(m[p][p], m[q][q]))
-}
-
-// The tangent of the rotation that clears cell (p, q).
-fn tangent_at(m: [[Marked; 6]; 6], p: usize, q: usize) -> Marked
-    requires { ⌜ (p < 6) × (q < 6) ⌝ }
-    ensures { λ r. ⌜ r ≡ tangent marks (ratio marks (at marks m p p) (at marks m q q) (at marks m p q)) ⌝ }
-{
-    tangent(ratio(m[p][p], m[q][q], m[p][q]))
-}
-
-// Two matrices as one value, so that a function can return both.
-fn both_of(first: [[Marked; 6]; 6], second: [[Marked; 6]; 6]) -> [[[Marked; 6]; 6]; 2]
-    ensures { λ r. ⌜ r ≡ (first ∷ second ∷ []) ⌝ }
-{
-    let mut out = [first; 2];
-    out[1] = second;
-    out
-}
-
-// The pair (p, q), whose cell is not zero: rotated if the test says so. The test's products are counted either way.
-pub fn rotate_tested(
-    both: [[[Marked; 6]; 6]; 2],
-    n: usize,
-    p: usize,
-    q: usize,
-    limit: f64,
-    count: &mut usize,
-    inside: &mut bool,
-) -> [[[Marked; 6]; 6]; 2]
-    requires { ⌜ (n ≤ 6) × (p < 6) × (q < 6) × (now count ≤ 3000) ⌝ }
-    ensures { λ r. ⌜ markedState r (now (count .exit)) (now (inside .exit)) ≡ rotateTested marks limit 6 6 n p q (markedState both (now (count .entry)) (now (inside .entry))) ⌝ }
-{
-    let m = both[0];
-    let more = *count + 1;
-    let left = squared(m, p, q);
-    let right = bound(m, p, q, limit);
+    if is_zero(pq.value) {
+        return false;
+    }
+    let left = mul(pq, pq);
+    let right = mul(given(limit), mul(pp, qq));
     let tested = also(left, right);
     *inside = *inside & tested.inside;
-    if right.value < left.value {
-        let t = tangent_at(m, p, q);
-        let c = cosine(t);
-        let s = sine(t, c);
-        let b = rotated(m, n, p, q, t, c, s);
-        let u = turn_columns(both[1], n, p, q, c, s);
-        *count = more;
-        return both_of(b, u);
-    }
-    both
+    right.value < left.value
 }
 
-// The pair (p, q): left as it is, with no test, where its cell is zero.
-pub fn rotate(
+// The matrix and the vectors rotated at the pair (p, q).
+pub fn rotated_pair(
     both: [[[Marked; 6]; 6]; 2],
     n: usize,
     p: usize,
     q: usize,
-    limit: f64,
-    count: &mut usize,
-    inside: &mut bool,
 ) -> [[[Marked; 6]; 6]; 2]
-    requires { ⌜ (n ≤ 6) × (p < 6) × (q < 6) × (now count ≤ 3000) ⌝ }
-    ensures { λ r. ⌜ markedState r (now (count .exit)) (now (inside .exit)) ≡ rotate marks limit 6 6 n p q (markedState both (now (count .entry)) (now (inside .entry))) ⌝ }
+    requires { ⌜ (n ≤ 6) × (p < 6) × (q < 6) ⌝ }
+    ensures { λ r. ⌜ r ≡ rotatedPair marks 6 6 n p q both ⌝ }
 {
     let m = both[0];
-    let beside = m[p][q];
-    if is_zero(beside.value) {
-        return both;
-    }
-    rotate_tested(both, n, p, q, limit, count, inside)
+    let t = tangent(ratio(m[p][p], m[q][q], m[p][q]));
+    let c = cosine(t);
+    let s = sine(t, c);
+    let a = rotated(m, n, p, q, t, c, s);
+    let v = turn_columns(both[1], n, p, q, c, s);
+    [a, v]
 }
 
-// The pairs of row p.
-pub fn row(
-    both: [[[Marked; 6]; 6]; 2],
-    n: usize,
-    p: usize,
-    limit: f64,
-    count: &mut usize,
-    inside: &mut bool,
-) -> [[[Marked; 6]; 6]; 2]
-    requires { ⌜ (n ≤ 6) × (p < n) × (now count ≤ 2000) ⌝ }
-    ensures { λ r. ⌜ markedState r (now (count .exit)) (now (inside .exit)) ≡ rowTo marks n limit 6 6 n p (markedState both (now (count .entry)) (now (inside .entry))) ⌝ }
-{
-    let mut out = both;
-    for q in p + 1..n {
-        let next = rotate(out, n, p, q, limit, count, inside);
-        out = next;
-    }
-    out
-}
-
-// A sweep: row by row.
-pub fn sweep(
-    both: [[[Marked; 6]; 6]; 2],
-    n: usize,
-    limit: f64,
-    count: &mut usize,
-    inside: &mut bool,
-) -> [[[Marked; 6]; 6]; 2]
-    requires { ⌜ (n ≤ 6) × (now count ≤ 1000) ⌝ }
-    ensures { λ r. ⌜ markedState r (now (count .exit)) (now (inside .exit)) ≡ sweepTo marks n limit 6 6 n (markedState both (now (count .entry)) (now (inside .entry))) ⌝ }
-{
-    let mut out = both;
-    for p in 0..n {
-        let next = row(out, n, p, limit, count, inside);
-        out = next;
-    }
-    out
-}
-
-// The 30 sweeps, whether or not the last ones still rotate.
+// The 30 sweeps, whether or not the last ones still rotate: over the pairs, row by row. A pair is tested on its three cells where they stand, so that nothing is
+// copied for one that stays as it is. `count` becomes the number of rotations made, and `inside` says whether every product of the rotation tests was inside.
 pub fn sweeps(
     both: [[[Marked; 6]; 6]; 2],
     n: usize,
@@ -305,13 +219,22 @@ pub fn sweeps(
     count: &mut usize,
     inside: &mut bool,
 ) -> [[[Marked; 6]; 6]; 2]
-    requires { ⌜ (n ≤ 6) × (now count ≤ 500) ⌝ }
-    ensures { λ r. ⌜ markedState r (now (count .exit)) (now (inside .exit)) ≡ sweepsTo marks 30 limit 6 6 n (markedState both (now (count .entry)) (now (inside .entry))) ⌝ }
+    requires { ⌜ n ≤ 6 ⌝ }
+    ensures { λ r. ⌜ markedState r (now (count .exit)) (now (inside .exit)) ≡ sweepsTo marks 30 limit 6 6 n (markedState both 0 true) ⌝ }
 {
+    *count = 0;
+    *inside = true;
     let mut out = both;
     for i in 0..30usize {
-        let next = sweep(out, n, limit, count, inside);
-        out = next;
+        for p in 0..n {
+            for q in p + 1..n {
+                if rotates(out[0][p][p], out[0][q][q], out[0][p][q], limit, inside) {
+                    let next = rotated_pair(out, n, p, q);
+                    out = next;
+                    *count = *count + 1;
+                }
+            }
+        }
     }
     out
 }
@@ -384,7 +307,5 @@ pub fn jacobi(
 {
     let start = mirrored(m, n);
     let unit = identity(n);
-    *count = 0;
-    *inside = true;
-    sweeps(both_of(start, unit), n, limit, count, inside)
+    sweeps([start, unit], n, limit, count, inside)
 }

@@ -1,22 +1,23 @@
 -- `algebra_jacobi::jacobi` meets its contract.
-use mathlib.Core.Path.{ap, _∙_}
-use mathlib.Core.List.{List}
-use lib.Ieee.{Float}
-use Rattle.algebra_jacobi.specs.joints.States.{plainState}
+use Rattle.algebra.specs.Kind.{floats}
+use Rattle.algebra_jacobi.proofs.Counts.{jacobi-is}
 use borrow.Author.Needs.{needs}
 use Rattle.algebra_jacobi.proofs.jacobi.Statement.{statement}
 use Rattle.algebra_jacobi.proofs.jacobi.Tie as tie
 
-jacobi-in-place-requires : tie.Need-jacobi-in-place-requires
-jacobi-in-place-requires c κs = search needs
+mirrored-requires : tie.Need-mirrored-requires
+mirrored-requires c κs = search needs
 
-both-of-requires : tie.Need-both-of-requires
-both-of-requires c κs = search needs
+identity-requires : tie.Need-identity-requires
+identity-requires c κs = search needs
+
+sweeps-requires : tie.Need-sweeps-requires
+sweeps-requires c κs = search needs
 
 returns : tie.Need-returns
 returns c =
-    let made = c .before .jacobi-in-place in
-    (ap (λ (b : List (List (List Float))). plainState b (made .result)) (c .both-of .ensures) ∙ made .ensures .0, made .ensures .1)
+    let d = c .before .before in
+    jacobi-is floats _ _ _ _ _ _ _ _ (d .before .mirrored .ensures) (d .identity .ensures) (c .sweeps .ensures) (d .before .before .pre)
 
 pub jacobi-spec : {M : Type 1} → statement M
-jacobi-spec = tie.close (tie.spec jacobi-in-place-requires both-of-requires returns)
+jacobi-spec = tie.close (tie.spec mirrored-requires identity-requires sweeps-requires returns)

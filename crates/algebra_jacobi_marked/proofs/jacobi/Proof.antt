@@ -11,18 +11,13 @@ mirrored-requires c κs = search needs
 identity-requires : tie.Need-identity-requires
 identity-requires c κs = search needs
 
-both-of-requires : tie.Need-both-of-requires
-both-of-requires c κs = search needs
-
 sweeps-requires : tie.Need-sweeps-requires
 sweeps-requires c κs = search needs
 
 returns : tie.Need-returns
 returns c =
     let d = c .before .before .before in
-    jacobi-is marks _ _ _ _ _ _ _ _ (d .before .before .mirrored .ensures) (d .before .identity .ensures) (rw (d .both-of .ensures) at (c .sweeps .ensures)) (d .before .before .before .pre)
+    jacobi-is marks _ _ _ _ _ _ _ _ (d .before .mirrored .ensures) (d .identity .ensures) (c .sweeps .ensures) (d .before .before .pre)
 
 pub jacobi-spec : {M : Type 1} → statement M
-jacobi-spec =
-    tie.close
-    (tie.spec mirrored-requires identity-requires both-of-requires sweeps-requires returns)
+jacobi-spec = tie.close (tie.spec mirrored-requires identity-requires sweeps-requires returns)
