@@ -12,15 +12,12 @@ ghost use Rattle.algebra.specs.Product.{trace, likeCells, transpose};
 ghost use Rattle.tests.specs.declared.Number.the-variants.{Is};
 ghost use Rattle.tests.specs.Answer.{numberOf};
 ghost use Rattle.tests.specs.Moments.{weight, a1Of, a2Of, bOf, gOf, dOf, c1Of, c2Of, c3Of, leadingOf, v0Of, v1Of, v2Of, divOf, lessA2, rhoOf, positive, generalDf, rankOne, dfOf, scalingAt, scalingOf, fOf};
-use crate::rho::rho_from;
 use arithmetic::plain::magnitude;
 use arithmetic::plain::of_count;
 use arithmetic_cutoffs::Cutoffs;
 use tests::Number;
 use tests::both::is_positive;
 use tests::number_of;
-
-pub mod rho;
 
 // W_ij counts once on the diagonal and twice off it, since only i ≤ j is summed.
 pub fn weight(w: &[[f64; 6]; 6], i: usize, j: usize) -> f64
@@ -239,14 +236,14 @@ pub fn rho_factor(c: Cutoffs, q: usize, a1: f64, a2: f64) -> f64
     div_zero(c, v0_of(c, q, a1, a2), v2_of(c, q, a1, a2))
 }
 
-// ρ.
+// ρ: (1/q)·root²·factor, multiplied from the left.
 pub fn rho_of(c: Cutoffs, q: usize, a1: f64, a2: f64) -> f64
     requires { ⌜ q ≤ 6 ⌝ }
     ensures { λ r. ⌜ r ≡ rhoOf c q a1 a2 ⌝ }
 {
     let root = rho_root(c, q, a1, a2);
     let factor = rho_factor(c, q, a1, a2);
-    rho_from(q, root, factor)
+    (1.0 / of_count(q)) * (root * root) * factor
 }
 
 // A df that is positive; zero, a negative number and a NaN are none.

@@ -1,4 +1,5 @@
 -- `tests_moments::rho_of` meets its contract.
+use lib.Ieee.{ofBits}
 use Rattle.tests.specs.Moments.{rhoOf}
 use borrow.Author.Needs.{needs}
 use Rattle.tests_moments.proofs.rho_of.Statement.{statement}
@@ -10,12 +11,12 @@ rho-root-requires c κs = search needs
 rho-factor-requires : tie.Need-rho-factor-requires
 rho-factor-requires c κs = search needs
 
-rho-from-requires : tie.Need-rho-from-requires
-rho-from-requires c κs = search needs
+of-count-requires : tie.Need-of-count-requires
+of-count-requires c κs = search needs
 
 returns : tie.Need-returns
-unfolding rhoOf
-returns c = rw (← (c .before .before .rho-root .ensures), ← (c .before .rho-factor .ensures)) (c .rho-from .ensures)
+unfolding rhoOf ofBits
+returns c = rw (← (c .before .before .rho-root .ensures), ← (c .before .rho-factor .ensures), ← (c .of-count .ensures))
 
 pub rho-of-spec : {M : Type 1} → statement M
-rho-of-spec = tie.close (tie.spec rho-root-requires rho-factor-requires rho-from-requires returns)
+rho-of-spec = tie.close (tie.spec rho-root-requires rho-factor-requires of-count-requires returns)
