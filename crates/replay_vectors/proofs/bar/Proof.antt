@@ -1,10 +1,10 @@
--- `replay_kenward_roger::bar` meets its contract.
+-- `replay_vectors::bar` meets its contract.
 use Prim.Native.Nat.{_≤_, _-_}
 use mathlib.Core.Path.{_≡_}
 use lib.ListN.{length}
 use borrow.Author.Needs.{needs}
-use Rattle.replay_kenward_roger.proofs.bar.Statement.{statement}
-use Rattle.replay_kenward_roger.proofs.bar.Tie as tie
+use Rattle.replay_vectors.proofs.bar.Statement.{statement}
+use Rattle.replay_vectors.proofs.bar.Tie as tie
 
 abbrev Inv-loop : tie.InvT-loop
 Inv-loop out₀ n i₀ out i = (i ≤ n) × (length out ≡ length out₀)

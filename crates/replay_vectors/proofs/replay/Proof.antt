@@ -1,14 +1,14 @@
--- `replay_kenward_roger::main` meets its contract.
+-- `replay_vectors::replay` meets its contract.
 use Prim.Native.Nat.{_≤_, _-_}
 use borrow.Author.Needs.{needs}
-use Rattle.replay_kenward_roger.proofs.main.Statement.{statement}
-use Rattle.replay_kenward_roger.proofs.main.Tie as tie
+use Rattle.replay_vectors.proofs.replay.Statement.{statement}
+use Rattle.replay_vectors.proofs.replay.Tie as tie
 
 abbrev Inv-loop : tie.InvT-loop
-Inv-loop digits₀ held₀ k₀ digits held k = (k ≤ 256) × (held ≤ 26721)
+Inv-loop satterthwaite digits₀ held₀ k₀ digits held k = (k ≤ 256) × (held ≤ 26721)
 
 abbrev μ-loop : tie.MeasureT-loop
-μ-loop digits₀ held₀ k₀ digits held k = 256 - k
+μ-loop satterthwaite digits₀ held₀ k₀ digits held k = 256 - k
 
 loop-holds : tie.Need-loop-holds Inv-loop μ-loop
 loop-holds c = search needs
@@ -28,7 +28,7 @@ loop-again c = search needs
 returns : tie.Need-returns Inv-loop μ-loop
 returns c = search needs
 
-pub main-spec : {M : Type 1} → statement M
-main-spec =
+pub replay-spec : {M : Type 1} → statement M
+replay-spec =
     tie.close
     (tie.spec Inv-loop μ-loop loop-holds next-part-requires add-k loop-less loop-again returns)

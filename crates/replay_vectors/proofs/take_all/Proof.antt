@@ -1,14 +1,14 @@
--- `replay_kenward_roger::take_all` meets its contract.
+-- `replay_vectors::take_all` meets its contract.
 use Prim.Native.Nat.{_≤_, _-_}
 use borrow.Author.Needs.{needs}
-use Rattle.replay_kenward_roger.proofs.take_all.Statement.{statement}
-use Rattle.replay_kenward_roger.proofs.take_all.Tie as tie
+use Rattle.replay_vectors.proofs.take_all.Statement.{statement}
+use Rattle.replay_vectors.proofs.take_all.Tie as tie
 
 abbrev Inv-loop : tie.InvT-loop
-Inv-loop part digits₀ start held₀ i₀ i-end digits held i = (i ≤ i-end) × (held ≤ 26721)
+Inv-loop satterthwaite part digits₀ start held₀ i₀ i-end digits held i = (i ≤ i-end) × (held ≤ 26721)
 
 abbrev μ-loop : tie.MeasureT-loop
-μ-loop part digits₀ start held₀ i₀ i-end digits held i = i-end - i
+μ-loop satterthwaite part digits₀ start held₀ i₀ i-end digits held i = i-end - i
 
 loop-holds : tie.Need-loop-holds Inv-loop μ-loop
 loop-holds c = search needs

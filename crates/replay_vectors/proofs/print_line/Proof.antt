@@ -1,9 +1,9 @@
--- `replay_kenward_roger::print_line` meets its contract.
+-- `replay_vectors::print_line` meets its contract.
 use mathlib.Core.Path.{sym}
 use lib.Seq.{length-take-le}
 use borrow.Author.Needs.{needs}
-use Rattle.replay_kenward_roger.proofs.print_line.Statement.{statement}
-use Rattle.replay_kenward_roger.proofs.print_line.Tie as tie
+use Rattle.replay_vectors.proofs.print_line.Statement.{statement}
+use Rattle.replay_vectors.proofs.print_line.Tie as tie
 
 slice-aggregate-spell : tie.Need-slice-aggregate-spell
 slice-aggregate-spell c = search needs

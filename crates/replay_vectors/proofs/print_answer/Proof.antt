@@ -1,9 +1,9 @@
--- `replay_kenward_roger::print_answer` meets its contract.
+-- `replay_vectors::print_answer` meets its contract.
 use mathlib.Core.Path.{sym}
 use lib.Seq.{length-take-le}
 use borrow.Author.Needs.{needs}
-use Rattle.replay_kenward_roger.proofs.print_answer.Statement.{statement}
-use Rattle.replay_kenward_roger.proofs.print_answer.Tie as tie
+use Rattle.replay_vectors.proofs.print_answer.Statement.{statement}
+use Rattle.replay_vectors.proofs.print_answer.Tie as tie
 
 slice-aggregate-text : tie.Need-slice-aggregate-text
 slice-aggregate-text c = search needs

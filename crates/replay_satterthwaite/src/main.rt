@@ -1,0 +1,4 @@
+// Replays the Satterthwaite vectors (vectors/satterthwaite.txt).
+fn main() {
+    replay_vectors::replay(true);
+}
