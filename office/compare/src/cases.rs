@@ -27,14 +27,7 @@ pub fn seeds(seed: u64, family: usize) -> impl Iterator<Item = u64> {
     std::iter::repeat_with(move || random.bits())
 }
 
-/// The calls that this build has.
-pub fn calls() -> Vec<Call> {
-    vec![
-        Call::KenwardRoger,
-        #[cfg(feature = "satterthwaite")]
-        Call::Satterthwaite,
-    ]
-}
+pub const CALLS: [Call; 2] = [Call::KenwardRoger, Call::Satterthwaite];
 
 pub fn name(call: Call) -> &'static str {
     match call {

@@ -26,10 +26,7 @@ pub fn panel(call: Call, file: &[u8]) -> Outcome {
     let mut answer = vec![UNTOUCHED; answer_length(call)];
     let number = match call {
         Call::KenwardRoger => pull::kenward_roger_fill(file, &mut answer),
-        #[cfg(feature = "satterthwaite")]
         Call::Satterthwaite => pull::satterthwaite_fill(file, &mut answer),
-        #[cfg(not(feature = "satterthwaite"))]
-        Call::Satterthwaite => panic!("this build is without the feature `satterthwaite`"),
     };
     Outcome { number, answer }
 }

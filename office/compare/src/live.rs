@@ -73,7 +73,7 @@ impl Tally {
 /// Runs a plan, and prints each difference as it is met.
 pub fn run(plan: &Plan) -> Summary {
     let mut summary = Summary::default();
-    for call in cases::calls() {
+    for call in cases::CALLS {
         let all = families(call);
         let chosen = |f: &str| plan.family.as_deref().is_none_or(|only| only == f);
         let share = plan.files.div_ceil(all.iter().filter(|f| chosen(f)).count().max(1));

@@ -1,6 +1,6 @@
 //! The command `compare`: see the usage text.
 
-use compare::cases::{calls, families, file, name};
+use compare::cases::{families, file, name, CALLS};
 use compare::judge::{describe, manner};
 use compare::live::{report, run, Plan};
 use reader::tries::Call;
@@ -100,9 +100,7 @@ fn flags(mut words: impl Iterator<Item = String>) -> Option<Flags> {
                 flags.case = Some((known_family(words.next()?)?, words.next()?.parse().ok()?))
             }
             "--file" => flags.file = Some(words.next()?.into()),
-            "--satterthwaite" if calls().contains(&Call::Satterthwaite) => {
-                flags.call = Call::Satterthwaite
-            }
+            "--satterthwaite" => flags.call = Call::Satterthwaite,
             _ => return None,
         }
     }
@@ -111,6 +109,6 @@ fn flags(mut words: impl Iterator<Item = String>) -> Option<Flags> {
 
 /// A name that some call has a family of.
 fn known_family(name: String) -> Option<String> {
-    let known = calls().into_iter().any(|call| families(call).contains(&name.as_str()));
+    let known = CALLS.into_iter().any(|call| families(call).contains(&name.as_str()));
     known.then_some(name)
 }

@@ -260,7 +260,7 @@ fn shifted(
     1
 }
 
-/// DIFFERENCES-found.md, 1: where document 01 refuses late with 4, lme-rs
+/// docs/DIFFERENCES.md, "The late refusal 4 is document 01's own": there lme-rs
 /// answers none, or a df without F, or has a zero pivot.
 #[test]
 fn late_refusal_is_not_in_lme_rs() {
@@ -279,8 +279,8 @@ fn late_refusal_is_not_in_lme_rs() {
     assert_eq!(first(&zero_phi).err(), Some(10));
 }
 
-/// DIFFERENCES-found.md, 3: a cell of IE that is -0 in lme-rs and +0 by
-/// document 01, and no other number that shows it.
+/// docs/DIFFERENCES.md, "Sums that start at -0 in the Rust": a cell of IE that
+/// is -0 in lme-rs and +0 by document 01, and no other number that shows it.
 #[test]
 fn sums_from_minus_zero() {
     let series = known::minus_zero_series();

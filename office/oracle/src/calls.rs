@@ -26,7 +26,7 @@ fn verdicts_differ(rust: &Verdict, marked: &Entry) -> bool {
 }
 
 /// Equal bits in every cell; zeros of either sign count as equal, as no verdict shows it
-/// (DIFFERENCES-found.md, "Iterator::sum starts at -0").
+/// (docs/DIFFERENCES.md, "Sums that start at -0 in the Rust").
 fn cells_agree(a: &Matrix, b: &Matrix) -> bool {
     let like = |x: f64, y: f64| same(x, y) || (x == 0.0 && y == 0.0);
     let pairs = || a.cells.iter().zip(&b.cells);

@@ -49,7 +49,8 @@ pub fn identity_series(phi: Matrix) -> Series {
     }
 }
 
-/// A cell of IE is -0 in lme-rs and +0 by document 01 (DIFFERENCES-found.md, 3).
+/// A cell of IE is -0 in lme-rs and +0 by document 01 (docs/DIFFERENCES.md,
+/// "Sums that start at -0 in the Rust").
 pub fn minus_zero_series() -> Series {
     Series {
         x: rows(&[[1.0, 1.0]]),

@@ -148,8 +148,8 @@ pub fn each_step_once(series: &Series) -> Result<(Vec<Verdict>, Option<Verdict>)
     Ok((coefficients, contrast))
 }
 
-/// The run that lme-rs makes where document 01 has its late refusal 4, for
-/// DIFFERENCES-found.md.
+/// The run that lme-rs makes where document 01 has its late refusal 4
+/// (docs/DIFFERENCES.md, "The late refusal 4 is document 01's own").
 pub fn run_without_late_4(series: &Series) -> Result<Run, Refusal> {
     tests(series, adjust_unchecked(series)?)
 }

@@ -15,7 +15,6 @@ fn kenward_roger_as_pbkrtest() {
     outside::kenward_roger_as_pbkrtest(kenward_roger);
 }
 
-#[cfg(feature = "satterthwaite")]
 #[test]
 fn satterthwaite_as_lmertest() {
     outside::satterthwaite_as_lmertest(|file| {

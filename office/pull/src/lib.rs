@@ -43,7 +43,6 @@ mod c {
             answer_length: usize,
         ) -> u32;
 
-        #[cfg(feature = "satterthwaite")]
         pub fn pull_satterthwaite(
             records: *const u8,
             records_length: usize,
@@ -76,7 +75,6 @@ pub fn kenward_roger_fill(records: &[u8], answer: &mut [u8]) -> u32 {
 
 /// Tests a contrast by Satterthwaite, with the covariance of β, its Jacobians
 /// and the covariance of the parameters from the file.
-#[cfg(feature = "satterthwaite")]
 pub fn satterthwaite(records: &[u8]) -> Result<Test, Refusal> {
     let mut answer = [0; ENTRY_BYTES];
     match satterthwaite_fill(records, &mut answer) {
@@ -87,7 +85,6 @@ pub fn satterthwaite(records: &[u8]) -> Result<Test, Refusal> {
 
 /// The C function `pull_satterthwaite` on two slices: as
 /// [`kenward_roger_fill`], with [`ENTRY_BYTES`].
-#[cfg(feature = "satterthwaite")]
 pub fn satterthwaite_fill(records: &[u8], answer: &mut [u8]) -> u32 {
     // SAFETY: as for the other function.
     unsafe {

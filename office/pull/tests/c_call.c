@@ -70,7 +70,6 @@ static int kenward_roger(void)
     return 0;
 }
 
-#ifndef WITHOUT_SATTERTHWAITE
 /* Example (i): L identity, v = diag(4, 1), one Jacobian equal to v, A 0.5, beta (4, 1). */
 static int satterthwaite(void)
 {
@@ -116,16 +115,13 @@ static int satterthwaite(void)
             return failed("rank 2, given, given, inside, four zeros");
     return 0;
 }
-#endif
 
 int main(void)
 {
     if (kenward_roger() != 0)
         return 1;
-#ifndef WITHOUT_SATTERTHWAITE
     if (satterthwaite() != 0)
         return 1;
-#endif
     printf("C calls: ok\n");
     return 0;
 }

@@ -8,9 +8,7 @@ use std::process::Command;
 fn header_and_library_from_c() {
     let here = Path::new(env!("CARGO_MANIFEST_DIR"));
     let program = Path::new(env!("CARGO_TARGET_TMPDIR")).join("c_call");
-    let without = cfg!(not(feature = "satterthwaite")).then_some("-DWITHOUT_SATTERTHWAITE");
     let compiled = Command::new("cc")
-        .args(without)
         .args(["-std=c99", "-Wall", "-Wextra", "-Werror", "-pedantic", "-I"])
         .arg(here.join(".."))
         .arg(here.join("tests/c_call.c"))

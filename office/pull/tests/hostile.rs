@@ -35,7 +35,6 @@ fn functions() -> Vec<Function> {
             fill: pull::kenward_roger_fill,
             answer_length: pull::KENWARD_ROGER_BYTES,
         },
-        #[cfg(feature = "satterthwaite")]
         Function {
             name: "pull_satterthwaite",
             call: Call::Satterthwaite,

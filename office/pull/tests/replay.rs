@@ -47,7 +47,6 @@ fn kenward_roger() {
     replay("kenward-roger.txt", pull::kenward_roger_fill, vectors::Vector::kenward_roger_answer);
 }
 
-#[cfg(feature = "satterthwaite")]
 #[test]
 fn satterthwaite() {
     replay("satterthwaite.txt", pull::satterthwaite_fill, vectors::Vector::satterthwaite_answer);

@@ -157,7 +157,6 @@ fn kenward_roger() {
     function.run();
 }
 
-#[cfg(feature = "satterthwaite")]
 #[test]
 fn satterthwaite() {
     let function = Function {

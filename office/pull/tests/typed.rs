@@ -69,7 +69,6 @@ fn threads() {
 
 /// Example (i) of the Satterthwaite call: L identity, v = diag(4, 1), one
 /// Jacobian equal to v, A 0.5, β (4, 1).
-#[cfg(feature = "satterthwaite")]
 fn example_i() -> Vec<u8> {
     let mut file = Vec::new();
     for (i, j) in [(0, 0), (0, 1), (1, 0), (1, 1)] {
@@ -84,7 +83,6 @@ fn example_i() -> Vec<u8> {
     file
 }
 
-#[cfg(feature = "satterthwaite")]
 #[test]
 fn satterthwaite() {
     let test = Test { f: Some(2.5), df: Some(4.0), rank: 2, inside: true };
