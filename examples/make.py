@@ -88,6 +88,42 @@ OPERATORS = series(
     hypothesis=[40.0, 2.0],
 )
 
-for name, data in (("pull", PULL), ("batches", BATCHES), ("operators", OPERATORS)):
+
+# Four recipes, two batches of each, three specimens of a batch: are the recipes alike? Three rows whose exact df is 8 - 4 = 4, so df is none (../docs/CHEMIST.md).
+RECIPES = series(
+    x=[[1.0] + [float(i // 6 == r) for r in (1, 2, 3)] for i in range(24)],
+    z=[[float(i // 3 == g) for g in range(8)] for i in range(24)],
+    blocks=[(1, 8)],
+    theta=[0.75],
+    sigma2=4.0,
+    beta=[41.5, 3.0, 4.0, 5.0],
+    contrast=[[0.0, 1.0, 0.0, 0.0], [0.0, 0.0, 1.0, 0.0], [0.0, 0.0, 0.0, 1.0]],
+)
+
+
+def fitted(name):
+    """A fit of ../vectors/r, by its name there; pbkrtest's F and df stand beside it (../docs/CHEMIST.md reads them)."""
+    with open("../vectors/r/kenward-roger.txt", encoding="utf-8") as f:
+        return next(bytes.fromhex(words[2]) for words in map(str.split, f) if words[0] == name)
+
+
+# Strength of a paste, three casks of each of five batches; batch and sample are random effects. Is the second cask 1 above the first, and the third equal to it?
+PASTES = fitted("pastes-cask-nested")
+
+# Six groups with a random intercept and slope, time in days; intercept and slope tested together, whose exact df is 4.
+TWO_ROWS = fitted("sleepstudy-rows-df-4")
+
+# The same groups with the time in decades, so that the df of the slope is far too large.
+DECADES = fitted("units-seconds-decades")
+
+for name, data in (
+    ("pull", PULL),
+    ("batches", BATCHES),
+    ("operators", OPERATORS),
+    ("recipes", RECIPES),
+    ("pastes", PASTES),
+    ("two-rows", TWO_ROWS),
+    ("decades", DECADES),
+):
     with open(f"{name}.rec", "wb") as f:
         f.write(data)
