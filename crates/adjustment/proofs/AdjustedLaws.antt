@@ -1,32 +1,26 @@
 -- How the calls of the adjustment's functions make up its definitions.
 use Prim.Native.Nat.{ℕ}
 use mathlib.Core.Path.{_≡_}
-use mathlib.Core.Bool.{Bool, not, _||_}
+use mathlib.Core.Bool.{Bool, false, not, _||_}
 use mathlib.Core.List.{List}
 use lib.Ieee.{Float}
 use Rattle.arithmetic.specs.declared.Marked.{Marked}
 use Rattle.arithmetic.specs.Numbers.{isFinite}
+use Rattle.algebra.specs.Fold.{fold}
 use Rattle.algebra.specs.Kind.{floats, marks}
 use Rattle.algebra.specs.Product.{at, product, transpose, plusCells, timesNumber}
 use Rattle.algebra.specs.Jacobi.{two}
 use Rattle.algebra.specs.Small.{Rows}
-use Rattle.adjustment.specs.Information.{packed}
-use Rattle.adjustment.specs.Adjusted.{Stack, matrixAt, uTerm, uTermAt, uAbove, uDiagonalTo, uRows, phiARows, scaledUp, scaledDown, notAllFinite, notAllFiniteMarked, psNotFiniteTo, outputNotFinite}
+use Rattle.adjustment.specs.Adjusted.{Stack, matrixAt, uTermAt, uAbove, uRows, phiARows, scaledUp, scaledDown, notAllFinite, notAllFiniteMarked, outputNotFinite}
 
 -- u with a term added, t by its definition x
 pub plus-is : (p : ℕ) (u t x y : Rows) → t ≡ x → y ≡ plusCells floats 6 6 p p u t → y ≡ plusCells floats 6 6 p p u x
 plus-is p u t x y e d = rw (← e) d
 
--- the term of r and s, whose Q is at the place k
-pub uTermAt-is : (p N : ℕ) (phi : Rows) (ps qs : Stack) (w : Rows) (r s k : ℕ) (u : Rows) → k ≡ packed N r s
-    → u ≡ uTerm p phi (matrixAt qs k) (matrixAt ps r) (matrixAt ps s) (at floats w r s) → u ≡ uTermAt p N phi ps qs w r s
-unfolding uTermAt
-uTermAt-is p N phi ps qs w r s k u e d = rw (← e) d
-
 -- U from its three parts
 pub uRows-is : (p N : ℕ) (phi : Rows) (ps qs : Stack) (w above below both out : Rows) → above ≡ uAbove p N phi ps qs w N → below ≡ transpose floats 6 6 p p above
-    → both ≡ plusCells floats 6 6 p p above below → out ≡ uDiagonalTo p N phi ps qs w N both → out ≡ uRows p N phi ps qs w
-unfolding uRows uDiagonalTo
+    → both ≡ plusCells floats 6 6 p p above below → out ≡ fold 0 N (λ r u. plusCells floats 6 6 p p u (uTermAt p N phi ps qs w r r)) both → out ≡ uRows p N phi ps qs w
+unfolding uRows
 uRows-is p N phi ps qs w above below both out e f g h = rw (← e, ← f, ← g) h
 
 -- Φ_A from its products
@@ -50,7 +44,7 @@ ps-step p m sigma2 z plain scaled down e f g = rw (g, e, f)
 -- what is not finite in the output, from its five parts
 pub output-is : (p N : ℕ) (phi : Rows) (sigma2 : Float) (phiA : Rows) (ps : Stack) (w : Rows) (k : ℕ) (plain inverse before after each : Bool)
     → plain ≡ notAllFinite p p phiA → inverse ≡ notAllFinite N N w → before ≡ notAllFiniteMarked p p (scaledUp p phi sigma2)
-    → after ≡ notAllFiniteMarked p p (scaledUp p phiA sigma2) → each ≡ psNotFiniteTo p ps sigma2 N
+    → after ≡ notAllFiniteMarked p p (scaledUp p phiA sigma2) → each ≡ fold 0 N (λ r z. z || notAllFinite p p (matrixAt ps r) || notAllFiniteMarked p p (scaledDown p (matrixAt ps r) sigma2)) false
     → plain || inverse || before || after || each ≡ outputNotFinite p N phi sigma2 (record { phiA = phiA; ps = ps; w = w; rotations = k })
-unfolding outputNotFinite psNotFiniteTo
+unfolding outputNotFinite
 output-is p N phi sigma2 phiA ps w k plain inverse before after each e f g h l = rw (e, f, g, h, l)

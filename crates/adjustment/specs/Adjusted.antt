@@ -52,13 +52,6 @@ module _ (p N : ℕ) (phi : Rows) (ps qs : Stack) (w : Rows) where
       let u : Rows = uAbove N in
       fold 0 N (λ r u. plusCells floats 6 6 p p u (uTermAt r r)) (plusCells floats 6 6 p p u (transpose floats 6 6 p p u))
 
-  -- the loops of U by their upper bound: the terms of r with s up to k, and those with r = s up to k, added to u
-  unfoldable pub uRowTo : ℕ → ℕ → Rows → Rows
-  uRowTo r k u = fold (r + 1) k (λ s u. plusCells floats 6 6 p p u (uTermAt r s)) u
-
-  unfoldable pub uDiagonalTo : ℕ → Rows → Rows
-  uDiagonalTo k u = fold 0 k (λ r u. plusCells floats 6 6 p p u (uTermAt r r)) u
-
 -- Φ_A = Φ + ((ΦU)Φ) × 2
 unfoldable pub phiARows : ℕ → Rows → Rows → Rows
 phiARows p phi u = plusCells floats 6 6 p p phi (timesNumber floats 6 6 p p (product floats 6 6 p p p (product floats 6 6 p p p phi u) phi) two)
@@ -88,7 +81,7 @@ unfoldable pub ieRows : Design → Rows → Stack → Stack → Stack → Rows
 ieRows d phi hs ps qs =
     mirror (matrices d) (λ r s. ieCell (d .p) (kCell (d .n) (matrixAt hs r) (matrixAt hs s)) phi (matrixAt qs (packed (matrices d) r s)) (matrixAt ps r) (matrixAt ps s))
 
--- the matrix that is inverted for W, and the rotations that found its eigenvalues
+-- Jacobi's last state on IE: its diagonal has IE's eigenvalues, and its count the rotations that were made
 unfoldable pub eigen : Cutoffs → Design → Rows → State Float
 eigen c d ie = jacobi floats (c .rotation) 6 6 (matrices d) ie
 
@@ -136,11 +129,6 @@ unfoldable pub outputNotFinite : ℕ → ℕ → Rows → Float → Adjustment �
 outputNotFinite p N phi sigma2 a =
     notAllFinite p p (a .phiA) || notAllFinite N N (a .w) || notAllFiniteMarked p p (scaledUp p phi sigma2) || notAllFiniteMarked p p (scaledUp p (a .phiA) sigma2)
     || fold 0 N (λ r z. z || notAllFinite p p (matrixAt (a .ps) r) || notAllFiniteMarked p p (scaledDown p (matrixAt (a .ps) r) sigma2)) false
-
--- its loop over the Ps, up to k
-unfoldable pub psNotFiniteTo : ℕ → Stack → Float → ℕ → Bool
-psNotFiniteTo p ps sigma2 k =
-    fold 0 k (λ r z. z || notAllFinite p p (matrixAt ps r) || notAllFiniteMarked p p (scaledDown p (matrixAt ps r) sigma2)) false
 
 -- what refuses the adjustment, in document 01's order: 9 (a Cholesky diagonal of Σ not > 0), 10 (a zero pivot, of L or of the matrix that is inverted for W), then 4
 unfoldable pub adjustmentReasons : Cutoffs → Design → Rows → Float → List (ℕ × Bool)

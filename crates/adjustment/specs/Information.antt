@@ -69,13 +69,3 @@ wRows N m = let v : Rows = inverse floats 6 12 6 N m in table plusZero 6 6 N N (
 
 unfoldable pub wRefused : ℕ → Rows → Bool
 wRefused N m = inverseRefused floats 6 12 6 N m
-
--- ---- what one turn of a loop gives: the smaller of two numbers, v's NaN passed over; a cell of the ridged matrix; each cell times 2
-abbrev pub smaller : Float → Float → Float
-smaller v s = cond (lt v s) v s
-
-abbrev pub ridgedCell : Float → Rows → ℕ → ℕ → Float
-ridgedCell x ie i j = cond (eqb i j) (add binary64 (at floats ie i j) x) (at floats ie i j)
-
-unfoldable pub doubled : ℕ → Rows → Rows
-doubled N v = table plusZero 6 6 N N (λ i j. mul binary64 two (at floats v i j))

@@ -1,7 +1,10 @@
 // U, the sum of its terms, and Φ_A.
 ghost use mathlib.Core.Path.{_≡_};
-ghost use Prim.Native.Nat.{_<_, _≤_};
-ghost use Rattle.adjustment.specs.Adjusted.{uRowTo, uAbove, uDiagonalTo, uRows, phiARows};
+ghost use Prim.Native.Nat.{_+_, _<_, _≤_};
+ghost use Rattle.algebra.specs.Fold.{fold};
+ghost use Rattle.algebra.specs.Kind.{floats};
+ghost use Rattle.algebra.specs.Product.{plusCells};
+ghost use Rattle.adjustment.specs.Adjusted.{uTermAt, uAbove, uRows, phiARows};
 use crate::u_terms::u_term_at;
 use algebra_products::plus_cells;
 use algebra_products::product;
@@ -9,7 +12,7 @@ use algebra_products::times_number;
 use algebra_products::transpose;
 use algebra_products::zeros;
 
-// The terms of r with each s above it, added to u.
+// The terms of r with each s above it, added to u: W_rs is read above the diagonal.
 pub fn u_row(
     p: usize,
     n: usize,
@@ -21,11 +24,12 @@ pub fn u_row(
     u: [[f64; 6]; 6],
 ) -> [[f64; 6]; 6]
     requires { ⌜ (p ≤ 6) × (n ≤ 4) × (r < n) ⌝ }
-    ensures { λ v. ⌜ v ≡ uRowTo p n phi ps qs w r n u ⌝ }
+    ensures { λ v. ⌜ v ≡ fold (r + 1) n (λ s u. plusCells floats 6 6 p p u (uTermAt p n phi ps qs w r s)) u ⌝ }
 {
     let mut out = u;
     for s in r + 1..n {
-        let term = u_term_at(p, n, phi, ps, qs, w, r, s);
+        let weight = w[r][s];
+        let term = u_term_at(p, n, phi, ps, qs, weight, r, s);
         let next = plus_cells(out, term, p, p);
         out = next;
     }
@@ -52,7 +56,7 @@ pub fn u_above(
     out
 }
 
-// The terms with r = s, added to u once each.
+// The terms with r = s, added to u once each and whole.
 pub fn u_diagonal(
     p: usize,
     n: usize,
@@ -63,11 +67,12 @@ pub fn u_diagonal(
     u: [[f64; 6]; 6],
 ) -> [[f64; 6]; 6]
     requires { ⌜ (p ≤ 6) × (n ≤ 4) ⌝ }
-    ensures { λ v. ⌜ v ≡ uDiagonalTo p n phi ps qs w n u ⌝ }
+    ensures { λ v. ⌜ v ≡ fold 0 n (λ r u. plusCells floats 6 6 p p u (uTermAt p n phi ps qs w r r)) u ⌝ }
 {
     let mut out = u;
     for r in 0..n {
-        let term = u_term_at(p, n, phi, ps, qs, w, r, r);
+        let weight = w[r][r];
+        let term = u_term_at(p, n, phi, ps, qs, weight, r, r);
         let next = plus_cells(out, term, p, p);
         out = next;
     }

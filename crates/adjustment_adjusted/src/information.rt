@@ -1,7 +1,13 @@
 // The cells of IE, the expected information of the variance parameters, and W, twice its inverse: n matrices, n at most 4.
 ghost use mathlib.Core.Path.{_≡_};
 ghost use Prim.Native.Nat.{_≤_};
-ghost use Rattle.adjustment.specs.Information.{ieCell, doubled, wRows, wRefused};
+ghost use lib.Ieee.{binary64, mul};
+ghost use Rattle.arithmetic.specs.Numbers.{plusZero};
+ghost use Rattle.algebra.specs.Table.{table};
+ghost use Rattle.algebra.specs.Kind.{floats};
+ghost use Rattle.algebra.specs.Product.{at};
+ghost use Rattle.algebra.specs.Jacobi.{two};
+ghost use Rattle.adjustment.specs.Information.{ieCell, wRows, wRefused};
 use algebra_elimination::inverse;
 use algebra_products::like_cells;
 use algebra_products::product;
@@ -29,7 +35,7 @@ pub fn ie_cell(
 // 2 times each cell.
 fn doubled(n: usize, v: [[f64; 6]; 6]) -> [[f64; 6]; 6]
     requires { ⌜ n ≤ 6 ⌝ }
-    ensures { λ r. ⌜ r ≡ doubled n v ⌝ }
+    ensures { λ r. ⌜ r ≡ table plusZero 6 6 n n (λ i j. mul binary64 two (at floats v i j)) ⌝ }
 {
     let mut out = zeros();
     for i in 0..n {

@@ -1,14 +1,19 @@
 // The matrix that is inverted for W: IE, with a ridge on its diagonal where its smallest eigenvalue is next to zero.
 ghost use mathlib.Core.Path.{_≡_};
+ghost use mathlib.Core.Bool.{cond};
 ghost use Prim.Native.Nat.{_<_, _≤_};
-ghost use Rattle.adjustment.specs.Information.{smallest, smaller, ridgedCell, ridged, inverted};
+ghost use lib.Dec.{eqb};
+ghost use lib.Ieee.{binary64, add, lt};
+ghost use Rattle.algebra.specs.Kind.{floats};
+ghost use Rattle.algebra.specs.Product.{at};
+ghost use Rattle.adjustment.specs.Information.{smallest, ridged, inverted};
 use algebra_products::zeros;
 use arithmetic::plain::magnitude;
 use arithmetic_cutoffs::Cutoffs;
 
 // v in place of s where it is smaller. A NaN is not smaller.
 fn smaller(v: f64, s: f64) -> f64
-    ensures { λ r. ⌜ r ≡ smaller v s ⌝ }
+    ensures { λ r. ⌜ r ≡ cond (lt v s) v s ⌝ }
 {
     if v < s { v } else { s }
 }
@@ -29,7 +34,7 @@ pub fn smallest(n: usize, m: [[f64; 6]; 6]) -> f64
 // A cell of IE, with x joined to it on the diagonal.
 fn ridged_cell(x: f64, ie: [[f64; 6]; 6], i: usize, j: usize) -> f64
     requires { ⌜ (i < 6) × (j < 6) ⌝ }
-    ensures { λ r. ⌜ r ≡ ridgedCell x ie i j ⌝ }
+    ensures { λ r. ⌜ r ≡ cond (eqb i j) (add binary64 (at floats ie i j) x) (at floats ie i j) ⌝ }
 {
     if i == j { ie[i][j] + x } else { ie[i][j] }
 }

@@ -1,7 +1,8 @@
 // The terms of U, from the Ps, the packed Qs and W.
 ghost use mathlib.Core.Path.{_≡_};
 ghost use Prim.Native.Nat.{_<_, _≤_};
-ghost use Rattle.adjustment.specs.Adjusted.{uTerm, uTermAt};
+ghost use Rattle.adjustment.specs.Information.{packed};
+ghost use Rattle.adjustment.specs.Adjusted.{matrixAt, uTerm};
 use adjustment::packing::index_symmat2vec;
 use algebra_products::minus_cells;
 use algebra_products::product;
@@ -25,24 +26,23 @@ pub fn u_term(
     times_number(rest, w, p, p)
 }
 
-// The term of r and s, r ≤ s: it reads the upper half of W.
+// The term of r and s, by their Ps, their packed Q and their weight.
 pub fn u_term_at(
     p: usize,
     n: usize,
     phi: [[f64; 6]; 6],
     ps: [[[f64; 6]; 6]; 4],
     qs: [[[f64; 6]; 6]; 10],
-    w: [[f64; 6]; 6],
+    weight: f64,
     r: usize,
     s: usize,
 ) -> [[f64; 6]; 6]
     requires { ⌜ (p ≤ 6) × (n ≤ 4) × (r < n) × (s < n) ⌝ }
-    ensures { λ u. ⌜ u ≡ uTermAt p n phi ps qs w r s ⌝ }
+    ensures { λ u. ⌜ u ≡ uTerm p phi (matrixAt qs (packed n r s)) (matrixAt ps r) (matrixAt ps s) weight ⌝ }
 {
     let at = index_symmat2vec(r, s, n);
     let q = qs[at];
     let first = ps[r];
     let second = ps[s];
-    let weight = w[r][s];
     u_term(p, phi, q, first, second, weight)
 }

@@ -1,7 +1,9 @@
 // The matrices of the adjustment in response units, times sigma2 or over it; and the search for a number that is not finite.
 ghost use mathlib.Core.Path.{_≡_};
+ghost use mathlib.Core.Bool.{false, _||_};
 ghost use Prim.Native.Nat.{ℕ, _≤_};
-ghost use Rattle.adjustment.specs.Adjusted.{scaledUp, scaledDown, notAllFinite, notAllFiniteMarked, psNotFiniteTo, outputNotFinite};
+ghost use Rattle.algebra.specs.Fold.{fold};
+ghost use Rattle.adjustment.specs.Adjusted.{scaledUp, scaledDown, notAllFinite, notAllFiniteMarked, matrixAt, outputNotFinite};
 use arithmetic::Marked;
 use arithmetic::plain::is_finite;
 use arithmetic_steps::given;
@@ -58,7 +60,7 @@ pub fn not_all_finite_marked(rows: usize, cols: usize, m: [[Marked; 6]; 6]) -> b
 // Whether some cell of a P, or of it over sigma2, is not finite.
 pub fn ps_not_finite(p: usize, n: usize, ps: [[[f64; 6]; 6]; 4], sigma2: f64) -> bool
     requires { ⌜ (p ≤ 6) × (n ≤ 4) ⌝ }
-    ensures { λ r. ⌜ r ≡ psNotFiniteTo p ps sigma2 n ⌝ }
+    ensures { λ r. ⌜ r ≡ fold 0 n (λ r z. z || notAllFinite p p (matrixAt ps r) || notAllFiniteMarked p p (scaledDown p (matrixAt ps r) sigma2)) false ⌝ }
 {
     let mut found = false;
     for r in 0..n {

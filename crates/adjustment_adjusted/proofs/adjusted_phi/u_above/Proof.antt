@@ -2,7 +2,7 @@
 use Prim.Native.Nat.{_≤_, _-_}
 use mathlib.Core.Path.{_≡_, _∙_}
 use Rattle.algebra.proofs.FoldLaws.{fold-start, fold-next, fold-end}
-use Rattle.adjustment.specs.Adjusted.{uRowTo, uAbove}
+use Rattle.adjustment.specs.Adjusted.{uAbove}
 use borrow.Author.Needs.{needs}
 use native.Mathlib.Omega.{arith}
 use Rattle.adjustment_adjusted.proofs.adjusted_phi.u_above.Statement.{statement}
@@ -31,7 +31,7 @@ loop-less : tie.Need-loop-less Inv-loop μ-loop
 loop-less c = omega arith
 
 loop-again : tie.Need-loop-again Inv-loop μ-loop
-unfolding uAbove uRowTo
+unfolding uAbove
 loop-again c = (omega arith, fold-next _ _ _ _ _ _ (omega arith) (c .before .before .loop .inv .1) (c .u-row .ensures))
 
 returns : tie.Need-returns Inv-loop μ-loop

@@ -8,7 +8,6 @@ use Rattle.algebra.specs.Product.{at}
 use Rattle.algebra.specs.Jacobi.{two}
 use Rattle.algebra.proofs.TableLaws.{table-none, Filling, filling-none, filling-more, filling-row}
 use Rattle.algebra_products.proofs.LoopLaws.{table-end}
-use Rattle.adjustment.specs.Information.{doubled}
 use borrow.Author.Needs.{needs}
 use native.Mathlib.Omega.{arith}
 use Rattle.adjustment_adjusted.proofs.information.doubled.Statement.{statement}
@@ -79,7 +78,6 @@ loop-again : tie.Need-loop-again Inv-loop2 μ-loop2 Inv-loop μ-loop
 loop-again c = (omega arith, filling-row (c .before .loop2 .inv .2) (c .before .loop2 .inv .1) (c .loop2-test .left))
 
 returns : tie.Need-returns Inv-loop2 μ-loop2 Inv-loop μ-loop
-unfolding doubled
 returns c = table-end _ _ _ _ _ _ _ _ (c .before .loop .inv .0) (c .loop-test .left) (c .before .loop .inv .1)
 
 pub doubled-spec : {M : Type 1} → statement M

@@ -1,24 +1,28 @@
 -- `adjustment_adjusted::ridge::ridged` meets its contract.
 use Prim.Native.Nat.{_≤_, _<_, _-_}
 use mathlib.Core.Path.{_≡_}
+use mathlib.Core.Bool.{cond}
+use lib.Dec.{eqb}
+use lib.Ieee.{binary64, add}
 use Rattle.algebra.specs.Table.{table}
 use Rattle.algebra.specs.Kind.{floats, zeroOf}
+use Rattle.algebra.specs.Product.{at}
 use Rattle.algebra.proofs.TableLaws.{table-none, Filling, filling-none, filling-more, filling-row}
 use Rattle.algebra_products.proofs.LoopLaws.{table-end}
-use Rattle.adjustment.specs.Information.{ridgedCell, ridged}
+use Rattle.adjustment.specs.Information.{ridged}
 use borrow.Author.Needs.{needs}
 use native.Mathlib.Omega.{arith}
 use Rattle.adjustment_adjusted.proofs.ridge.ridged.Statement.{statement}
 use Rattle.adjustment_adjusted.proofs.ridge.ridged.Tie as tie
 
 abbrev Inv-loop2 : tie.InvT-loop2
-Inv-loop2 x n ie out₀ i j₀ out j = (i < n) × (j ≤ n) × Filling (zeroOf floats) 6 6 (ridgedCell x ie) n i j out₀ out
+Inv-loop2 x n ie out₀ i j₀ out j = (i < n) × (j ≤ n) × Filling (zeroOf floats) 6 6 (λ i j. cond (eqb i j) (add binary64 (at floats ie i j) x) (at floats ie i j)) n i j out₀ out
 
 abbrev μ-loop2 : tie.MeasureT-loop2
 μ-loop2 x n ie out₀ i j₀ out j = n - j
 
 abbrev Inv-loop : tie.InvT-loop
-Inv-loop x n ie out₀ i₀ out i = (i ≤ n) × (out ≡ table (zeroOf floats) 6 6 i n (ridgedCell x ie))
+Inv-loop x n ie out₀ i₀ out i = (i ≤ n) × (out ≡ table (zeroOf floats) 6 6 i n (λ i j. cond (eqb i j) (add binary64 (at floats ie i j) x) (at floats ie i j)))
 
 abbrev μ-loop : tie.MeasureT-loop
 μ-loop x n ie out₀ i₀ out i = n - i

@@ -1,5 +1,4 @@
 -- `adjustment_adjusted::u_terms::u_term_at` meets its contract.
-use Rattle.adjustment.proofs.AdjustedLaws.{uTermAt-is}
 use borrow.Author.Needs.{needs}
 use Rattle.adjustment_adjusted.proofs.u_terms.u_term_at.Statement.{statement}
 use Rattle.adjustment_adjusted.proofs.u_terms.u_term_at.Tie as tie
@@ -25,23 +24,11 @@ mul-second c = search needs
 array-copy-out-second : tie.Need-array-copy-out-second
 array-copy-out-second c = search needs
 
-mul-weight : tie.Need-mul-weight
-mul-weight c = search needs
-
-mul-weight-2 : tie.Need-mul-weight-2
-mul-weight-2 c = search needs
-
-index-1-weight : tie.Need-index-1-weight
-index-1-weight c = search needs
-
-index-2-weight : tie.Need-index-2-weight
-index-2-weight c = search needs
-
 u-term-requires : tie.Need-u-term-requires
 u-term-requires c κs = search needs
 
 returns : tie.Need-returns
-returns c = uTermAt-is _ _ _ _ _ _ _ _ _ _ (c .before .before .before .before .before .index-symmat2vec .ensures .0) (c .u-term .ensures)
+returns c = rw (← c .before .before .before .before .index-symmat2vec .ensures .0) (c .u-term .ensures)
 
 pub u-term-at-spec : {M : Type 1} → statement M
 u-term-at-spec =
@@ -54,9 +41,5 @@ u-term-at-spec =
     array-copy-out-first
     mul-second
     array-copy-out-second
-    mul-weight
-    mul-weight-2
-    index-1-weight
-    index-2-weight
     u-term-requires
     returns)
