@@ -6,7 +6,7 @@ use mathlib.Core.Path.{_≡_, refl, sym, ap, ap₂, _∙_, subst}
 use mathlib.Core.Logic.{_≢_}
 use mathlib.Core.Bool.{Bool, true, false, not, cond}
 use mathlib.Core.List.{List, [], _∷_, _++_, map}
-use lib.Dec.{T, eqb, eqb-refl, ltb, ltb→lt, nltb→le}
+use lib.Dec.{T, eqb, ltb, ltb→lt, nltb→le}
 use lib.ListN.{length, getD, set, length-append, List·getD-append}
 use lib.Seq.{getD-set-other, getD-append-add}
 use Rattle.tests.specs.declared.Number.{Number}
@@ -67,27 +67,15 @@ answer-same (x ∷ xs) [] e = let z : _≡_ {A = ℕ} 0 1 = cc in absurd (omega 
 answer-same (x ∷ xs) (y ∷ ys) e =
     after (entryBytes x) (entryBytes y) (answerBytes xs) (answerBytes ys) (long-entry x) (entry-same x y (cc)) (answer-same xs ys (cc))
 
--- what a call returns and writes for lent bytes, of its stated length, its number and an accepted file's bytes
-abbrev pub returnedBy : ℕ → ℕ → List ℕ → ℕ
-returnedBy stated number answer = cond (eqb (length answer) stated) number 1
+-- either call on two files that it accepts, so that it returns 0 for any bytes of the stated length, with the same bytes but for the marks
+module _ (stated : ℕ) (returned returned' : List ℕ → ℕ) (bytes bytes' : List ℕ) (zero : (answer : List ℕ) → length answer ≡ stated → returned answer ≡ 0)
+    (zero' : (answer : List ℕ) → length answer ≡ stated → returned' answer ≡ 0) (same : SameButMarks bytes bytes') where
+  bytes-written : (r : ℕ) → r ≡ 0 → (b answer : List ℕ) → b ≡ cond (eqb r 0) b answer
+  bytes-written r e b answer = rw e
 
-abbrev pub writtenBy : ℕ → ℕ → List ℕ → List ℕ → List ℕ
-writtenBy stated number bytes answer = cond (eqb (returnedBy stated number answer) 0) bytes answer
-
--- either call, on two accepted files whose entries have the same verdicts
-module _ (stated n n' : ℕ) (bytes bytes' : List ℕ) (e : n ≡ 0) (e' : n' ≡ 0) (same : SameButMarks bytes bytes') where
-  returns-zero : (number : ℕ) → number ≡ 0 → (answer : List ℕ) → length answer ≡ stated → returnedBy stated number answer ≡ 0
-  returns-zero number z answer h = rw h (go (eqb stated stated) (eqb-refl stated))
-    where
-      go : (b : Bool) → T b → cond b number 1 ≡ 0
-      go true t = z
-
-  writes-bytes : (number : ℕ) → number ≡ 0 → (b answer : List ℕ) → length answer ≡ stated → writtenBy stated number b answer ≡ b
-  writes-bytes number z b answer h = rw (returns-zero number z answer h)
-
-  pub same-answer : SameAnswer stated (writtenBy stated n bytes) (returnedBy stated n') (writtenBy stated n' bytes')
+  pub same-answer : SameAnswer stated (λ answer. cond (eqb (returned answer) 0) bytes answer) returned' (λ answer. cond (eqb (returned' answer) 0) bytes' answer)
   same-answer = record {
-    returns = returns-zero n' e';
-    writes = λ answer h. subst (λ (t : List ℕ). SameButMarks t (writtenBy stated n' bytes' answer)) (sym (writes-bytes n e bytes answer h))
-        (subst (λ (t : List ℕ). SameButMarks bytes t) (sym (writes-bytes n' e' bytes' answer h)) same);
+    returns = zero';
+    writes = λ answer h. subst (λ (t : List ℕ). SameButMarks t (cond (eqb (returned' answer) 0) bytes' answer)) (bytes-written (returned answer) (zero answer h) bytes answer)
+        (subst (λ (t : List ℕ). SameButMarks bytes t) (bytes-written (returned' answer) (zero' answer h) bytes' answer) same);
   }

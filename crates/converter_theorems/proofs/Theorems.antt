@@ -2,6 +2,7 @@
 use Prim.Native.Nat.{ℕ}
 use mathlib.Core.Path.{_≡_}
 use mathlib.Core.List.{List}
+use lib.ListN.{length}
 use Rattle.records.specs.Layout.{entryBytes, answerBytes}
 use Rattle.records.specs.KenwardRogerCall as kenwardRoger
 use Rattle.records.specs.SatterthwaiteCall as satterthwaite
@@ -29,18 +30,27 @@ converter-satterthwaite = (
 )
 
 -- ---- in answer bytes: files with the same verdicts have the same bytes but for the marks
-module _ (c : Cutoffs) (s s' : List ℕ) where
-  series-answer : kenwardRoger.number c s ≡ 0 → SameVerdicts c s s' → SameAnswer 168 (kenwardRoger.written c s) (kenwardRoger.returned c s') (kenwardRoger.written c s')
-  unfolding kenwardRoger.returned kenwardRoger.written
-  series-answer e v =
-      same-answer 168 (kenwardRoger.number c s) (kenwardRoger.number c s') (answerBytes (kenwardRoger.entries c s)) (answerBytes (kenwardRoger.entries c s')) e (v .accepted)
-      (answer-same (kenwardRoger.entries c s) (kenwardRoger.entries c s') (v .verdicts))
+module _ (c : Cutoffs) where
+  -- an accepted file and bytes of the stated length: the call returns 0
+  series-returns : (s : List ℕ) → kenwardRoger.number c s ≡ 0 → (answer : List ℕ) → length answer ≡ 168 → kenwardRoger.returned c s answer ≡ 0
+  unfolding kenwardRoger.returned
+  series-returns s e answer h = rw h e
 
-  parameters-answer : satterthwaite.number c s ≡ 0 → SameVerdict c s s' → SameAnswer 24 (satterthwaite.written c s) (satterthwaite.returned c s') (satterthwaite.written c s')
-  unfolding satterthwaite.returned satterthwaite.written
-  parameters-answer e v =
-      same-answer 24 (satterthwaite.number c s) (satterthwaite.number c s') (entryBytes (satterthwaite.entry c s)) (entryBytes (satterthwaite.entry c s')) e (v .accepted)
-      (entry-same (satterthwaite.entry c s) (satterthwaite.entry c s') (v .same))
+  parameters-returns : (s : List ℕ) → satterthwaite.number c s ≡ 0 → (answer : List ℕ) → length answer ≡ 24 → satterthwaite.returned c s answer ≡ 0
+  unfolding satterthwaite.returned
+  parameters-returns s e answer h = rw h e
+
+  series-answer : (s s' : List ℕ) → kenwardRoger.number c s ≡ 0 → SameVerdicts c s s' → SameAnswer 168 (kenwardRoger.written c s) (kenwardRoger.returned c s') (kenwardRoger.written c s')
+  unfolding kenwardRoger.written
+  series-answer s s' e v =
+      same-answer 168 (kenwardRoger.returned c s) (kenwardRoger.returned c s') (answerBytes (kenwardRoger.entries c s)) (answerBytes (kenwardRoger.entries c s')) (series-returns s e)
+      (series-returns s' (v .accepted)) (answer-same (kenwardRoger.entries c s) (kenwardRoger.entries c s') (v .verdicts))
+
+  parameters-answer : (s s' : List ℕ) → satterthwaite.number c s ≡ 0 → SameVerdict c s s' → SameAnswer 24 (satterthwaite.written c s) (satterthwaite.returned c s') (satterthwaite.written c s')
+  unfolding satterthwaite.written
+  parameters-answer s s' e v =
+      same-answer 24 (satterthwaite.returned c s) (satterthwaite.returned c s') (entryBytes (satterthwaite.entry c s)) (entryBytes (satterthwaite.entry c s')) (parameters-returns s e)
+      (parameters-returns s' (v .accepted)) (entry-same (satterthwaite.entry c s) (satterthwaite.entry c s') (v .same))
 
 -- Every file that the Kenward–Roger call accepts with all entries inside: lent any 168 bytes, it returns 0 for the converted file too, and writes every byte that it writes for the
 -- file itself, but byte 19 of each entry, the mark.
