@@ -1,15 +1,14 @@
 -- Entries with the same verdicts have the same answer bytes but for the marks: the bytes of two such entries differ at most in byte 19, and each entry has 24 bytes.
 use Prim.Native.Nat.{ℕ, _+_, _-_, _%_, _<_, _≤_}
-use native.Mathlib.Nat.{add-mod-left, mod-eq-of-lt}
+use native.Mathlib.Nat.{add-mod-left}
 use native.Mathlib.Omega.{arith}
-use mathlib.Core.Path.{_≡_, refl, sym, ap, ap₂, _∙_, subst}
+use mathlib.Core.Path.{_≡_, refl, sym, ap, _∙_, subst}
 use mathlib.Core.Logic.{_≢_}
 use mathlib.Core.Bool.{Bool, true, false, not, cond}
 use mathlib.Core.List.{List, [], _∷_, _++_, map}
 use lib.Dec.{T, eqb, ltb, ltb→lt, nltb→le}
-use lib.ListN.{length, getD, set, length-append, List·getD-append}
+use lib.ListN.{length, set, length-append, List·getD-append}
 use lib.Seq.{getD-set-other, getD-append-add}
-use Rattle.tests.specs.declared.Number.{Number}
 use Rattle.tests.specs.declared.Entry.{Entry}
 use Rattle.tests.specs.Verdict.{Verdict, verdict}
 use Rattle.records.specs.Bytes.{byte, bytesOf}

@@ -2,13 +2,12 @@
 use mathlib.Core.Path.{_≡_, refl, ap₂, _∙_}
 use lib.Ieee.{toBits}
 use Rattle.records.specs.Text.{codes, digit, hexadecimal, decimal, numberText, markText, fieldsText, coefficientLine, testLine, coefficientLines, refusalText, linesText, textOf}
-use Rattle.tests.specs.KenwardRoger.{Run}
 use Rattle.tests.proofs.KenwardRogerBench as series
 use Rattle.tests.proofs.DdfBench as parameters
 use Rattle.records.specs.Bench.{BenchExamples}
-use Rattle.converter_theorems.proofs.PullExample.{pullRun, pull-accepted, pull-entries}
+use Rattle.converter_theorems.proofs.PullExample.{pullEntries, pull-accepted, pull-entries}
 
-lines : textOf 0 (pullRun .entries) ≡ codes "coef 0 rank 1 F 4022000000000000 df 3ff0000000000000 inside\ntest rank 1 F 4022000000000000 df 3ff0000000000000 inside\n"
+lines : textOf 0 pullEntries ≡ codes "coef 0 rank 1 F 4022000000000000 df 3ff0000000000000 inside\ntest rank 1 F 4022000000000000 df 3ff0000000000000 inside\n"
 unfolding codes digit hexadecimal decimal numberText markText fieldsText coefficientLine testLine coefficientLines refusalText linesText textOf toBits
 lines = refl
 

@@ -1,9 +1,9 @@
 -- The third demand at work: document 01's `pulltest` example as a file of bytes is accepted with all entries inside, and with other powers of two its verdicts are the same.
 use Prim.Native.Nat.{ℕ, _<_, _≤_}
 use native.Mathlib.Omega.{arith}
-use mathlib.Core.Path.{_≡_, refl, ap, _∙_, subst}
+use mathlib.Core.Path.{_≡_, refl, ap, subst}
 use mathlib.Core.Bool.{true, false}
-use mathlib.Core.List.{List, [], _∷_, _++_, map}
+use mathlib.Core.List.{List, [], _∷_, map}
 use lib.Dec.{lit≤}
 use lib.IntN.{pos, negsuc}
 use lib.ListN.{getD, replicate}
@@ -20,31 +20,30 @@ use Rattle.arithmetic_cutoffs.specs.Cutoffs.{decimal, documentCutoffs}
 use Rattle.adjustment.specs.Information.{hRows, oRows, pRows, qRows, packed, kCell, ieCell, mirror, smallest, ridged, inverted, wRows, wRefused}
 use Rattle.adjustment.specs.Blocks.{columnsBefore, placesBefore, blockOf, placeOf, thetaCell, factorOf, direction}
 use Rattle.adjustment.specs.Covariance.{Design, directedCell, groupCell, blockCell, residualCell, gCell, factor as factorOfMatrix, gRows, sigmaCell, sigmaRows, cholesky, inverseFactor, inverseFactorRefused, precision}
-use Rattle.adjustment.specs.Adjusted.{stack, qStack, uTerm, uTermAt, uAbove, uRows, phiARows, hStack, oStack, pStack, qStackOf, ieRows, eigen, fromPrecision, informationRefused, precisionOf, adjustment, scaledUp, scaledDown, notAllFinite, notAllFiniteMarked, outputNotFinite, adjustmentReasons, adjustmentRefusal}
+use Rattle.adjustment.specs.Adjusted.{stack, qStack, uTerm, uTermAt, uAbove, uRows, phiARows, hStack, oStack, pStack, qStackOf, ieRows, eigen, fromPrecision, informationRefused, precisionOf, adjustment, scaledUp, scaledDown, notAllFinite, notAllFiniteMarked, outputNotFinite, adjustmentRefusal, adjustmentReasons}
 use Rattle.algebra.specs.Cholesky.{put, lessDot, belowDiagonal, choleskyColumn, choleskyTo, notPositive, choleskyRefused, lower}
 use Rattle.algebra.specs.Jacobi.{ratio, tangent, cosine, sine, turnedFirst, turnedSecond, turnRow, turnColumns, rotatedCell, rotated, squared, bound, rotateTested, rotate, rowTo, sweepTo, sweepsTo, mirrored, jacobi}
 use Rattle.tests.specs.Basis.{largest, dividedCell, divided, contrastBasis}
 use Rattle.tests.specs.Moments.{weight, a1Of, a2Of, bOf, gOf, dOf, c1Of, c2Of, c3Of, leadingOf, v0Of, v1Of, v2Of, divOf, lessA2, rhoOf, positive, generalDf, rankOne, dfOf, scalingAt, scalingOf, fOf}
-use Rattle.tests.specs.KenwardRoger.{Run, unitRow, coefficientTest, contrastTest, scaledPs, scaledBy, scalingSeen, difference, thetaOf, uOf, uStack, uValues, waldMany, aRows, xRows, thetaPhi, us, ldRows, vRows, yRows, waldMarked, waldNumber, testSeen, a1, a2, tested, withTest, coefficientsTo, runOf}
-use Rattle.tests.specs.Both.{squareOne, isPositive, stackSeen}
+use Rattle.tests.specs.KenwardRoger.{unitRow, coefficientTest, contrastTest, scaledPs, scaledBy, scalingSeen, difference, thetaOf, uOf, uStack, uValues, waldMany, aRows, xRows, thetaPhi, us, ldRows, vRows, yRows, waldMarked, waldNumber, testSeen, a1, a2, tested, withTest, coefficientsTo, runOf}
 use Rattle.adjustment.specs.Blocks.{noBlock}
 use Rattle.tests.specs.declared.Number.the-variants.{Is, None}
 use Rattle.tests.specs.declared.Entry.{Entry}
 use Rattle.tests.specs.Answer.{noEntry, numberOf}
 use Rattle.records.specs.Bytes.{word, long, bytesOf}
-use Rattle.algebra.specs.Reasons.{first}
 use Rattle.records.specs.Scan.{any, most, last, total}
 use Rattle.records.specs.Kinds.{kindAt, kenwardRoger}
 use Rattle.records.specs.File.{outOf, badRecord, isCell, again, has, cell as cellOf, rows, columns, beyond, missing, notFinite}
-use Rattle.records.specs.Series.{coefficients, contrastRows, sizes, blockOf as blockAt, incomplete, badSize, badWeight, misfit, zeroContrast, reasons, design, phi, beta, betaH, contrast, sigma2}
+use Rattle.records.specs.Series.{coefficients, sizes, blockOf as blockAt, incomplete, badSize, badWeight, misfit, zeroContrast, reasons, design, phi, beta, betaH, contrast, sigma2}
 use Rattle.records.specs.Bench.{pullBytes, pullFile}
 use Rattle.records.specs.KenwardRogerCall.{run, number, entries}
 use Rattle.tests.specs.Verdict.{Verdict, verdict}
 use Rattle.converter_run.specs.joints.ConvertedInput.{Input}
 use Rattle.converter.specs.Converted.{kenwardRogerShift, kenwardRogerChange, newBits, newByte, converted}
-use Rattle.converter.specs.SeriesDemand.{AllInside, SameVerdicts}
-use Rattle.converter_theorems.proofs.SeriesCall.{inputOf, whole, listed, run-is, number-is, entries-are}
-use Rattle.converter_theorems.proofs.Theorems.{converter-kenward-roger}
+use Rattle.converter.specs.SeriesDemand.{AllInside}
+use Rattle.converter_theorems.proofs.ReadCall.{Reads, Runs, Witness, read-accepted, read-entries, read-inside, witness}
+use Rattle.tests.specs.Both.{stackSeen, squareOne, isPositive}
+use Rattle.algebra.specs.Reasons.{first}
 
 -- ---- what the file says
 abbrev pullDesign : Design
@@ -70,66 +69,37 @@ pullPhi = single (fin false 1 (negsuc 0))
 abbrev pullInput : Input
 pullInput = record { sigma2 = fin false 1 (pos 3); beta = fin false 3 (pos 1) ∷ replicate 5 plusZero; betaH = replicate 6 plusZero; contrast = single one }
 
-record Says : Type 0 where
-  pub design : Rattle.records.specs.Series.design pullFile ≡ pullDesign
-  pub phi : Rattle.records.specs.Series.phi pullFile ≡ pullPhi
-  pub input : inputOf pullFile ≡ pullInput
-  pub coefficients : Rattle.records.specs.Series.coefficients pullFile ≡ 1
-  pub rows : contrastRows pullFile ≡ 1
-  pub passes : first (listed (reasons pullFile) 0 false) ≡ 0
-
-says : Says
+reads : Reads pullFile pullDesign pullPhi 1 pullInput
 unfolding design phi beta betaH contrast table row blank fold reasons first sizes incomplete badSize badWeight misfit zeroContrast blockAt outOf badRecord isCell again has cellOf rows columns beyond missing notFinite kindAt kenwardRoger any most last total word long bytesOf isFinite isZero ofBits le eq
-says = record { design = refl; phi = refl; input = refl; coefficients = refl; rows = refl; passes = refl }
+reads = record { design = refl; phi = refl; input = refl; contrast = refl; passes = refl }
+
+one-coefficient : coefficients pullFile ≡ 1
+unfolding columns most bytesOf
+one-coefficient = refl
 
 -- ---- what the run makes of it
 abbrev nineAndOne : Entry
 nineAndOne = record { f = Is (fin false 9 (pos 0)); df = Is one; rank = 1; inside = true }
 
-abbrev pub pullRun : Run
-pullRun = record { refused = false; entries = nineAndOne ∷ noEntry ∷ noEntry ∷ noEntry ∷ noEntry ∷ noEntry ∷ nineAndOne ∷ [] }
+abbrev pub pullEntries : List Entry
+pullEntries = nineAndOne ∷ noEntry ∷ noEntry ∷ noEntry ∷ noEntry ∷ noEntry ∷ nineAndOne ∷ []
 
-record Runs : Type 0 where
-  pub adjustment : adjustmentRefusal documentCutoffs pullDesign pullPhi (fin false 1 (pos 3)) ≡ 0
-  pub run : whole documentCutoffs pullDesign pullPhi 1 pullInput ≡ pullRun
-
-runs : Runs
-unfolding adjustmentRefusal adjustmentReasons first outputNotFinite notAllFiniteMarked notAllFinite scaledDown scaledUp precisionOf informationRefused fromPrecision eigen ieRows qStackOf pStack oStack hStack phiARows uRows uAbove uTermAt uTerm qStack stack precision inverseFactorRefused inverseFactor cholesky sigmaRows sigmaCell gRows factorOfMatrix gCell residualCell blockCell groupCell directedCell direction factorOf thetaCell placeOf blockOf placesBefore columnsBefore wRefused wRows inverted ridged smallest mirror ieCell kCell packed qRows pRows oRows hRows lower choleskyRefused notPositive choleskyTo choleskyColumn belowDiagonal lessDot put jacobi mirrored sweepsTo sweepTo rowTo rotate rotateTested bound squared rotated rotatedCell turnColumns turnRow turnedSecond turnedFirst sine cosine tangent ratio identity plusCells minusCells timesNumber overNumber documentCutoffs decimal allMarks values givenCells sandwich solution refused joined backTo backCell backSum stopping columnOrStop zeroPivot eliminateTo eliminateColumn cleared lessBy factor swapRows pivotRow larger trace likeCells sumCells transpose product cell sum table blank row fold markedRoot markedDiv markedMul markedSub markedAdd also lostQuotient lostProduct stepMark inRange squareRoot wholeRoot ofCount isLarger isFinite isZero magnitude sign round add sub mul div neg lt eq le ofInt lib.Ieee.isNan tested testSeen a1 a2 waldNumber waldMarked yRows vRows ldRows us thetaPhi xRows aRows waldMany uValues uStack uOf thetaOf difference scalingSeen fOf scalingOf scalingAt dfOf rankOne generalDf positive rhoOf lessA2 divOf v2Of v1Of v0Of leadingOf c3Of c2Of c1Of dOf gOf bOf a2Of a1Of weight contrastBasis divided dividedCell largest numberOf unitRow coefficientTest contrastTest scaledPs scaledBy runOf withTest coefficientsTo isPositive squareOne stackSeen
-runs = record { adjustment = refl; run = refl }
+runs : Runs pullDesign pullPhi 1 pullInput (adjustment documentCutoffs pullDesign pullPhi) pullEntries
+unfolding adjustmentRefusal adjustmentReasons first outputNotFinite notAllFiniteMarked notAllFinite scaledDown scaledUp precisionOf informationRefused fromPrecision eigen ieRows qStackOf pStack oStack hStack phiARows uRows uAbove uTermAt uTerm qStack stack precision inverseFactorRefused inverseFactor cholesky sigmaRows sigmaCell gRows factorOfMatrix gCell residualCell blockCell groupCell directedCell direction factorOf thetaCell placeOf blockOf placesBefore columnsBefore wRefused wRows inverted ridged smallest mirror ieCell kCell packed qRows pRows oRows hRows lower choleskyRefused notPositive choleskyTo choleskyColumn belowDiagonal lessDot put jacobi mirrored sweepsTo sweepTo rowTo rotate rotateTested bound squared rotated rotatedCell turnColumns turnRow turnedSecond turnedFirst sine cosine tangent ratio identity plusCells minusCells timesNumber overNumber documentCutoffs decimal allMarks values givenCells sandwich solution refused joined backTo backCell backSum stopping columnOrStop zeroPivot eliminateTo eliminateColumn cleared lessBy factor swapRows pivotRow larger trace likeCells sumCells transpose product cell sum table blank row fold markedRoot markedDiv markedMul markedSub markedAdd also lostQuotient lostProduct stepMark inRange squareRoot wholeRoot ofCount isLarger isFinite isZero magnitude sign round add sub mul div neg lt eq le ofInt lib.Ieee.isNan tested testSeen a1 a2 waldNumber waldMarked yRows vRows ldRows us thetaPhi xRows aRows waldMany isPositive squareOne stackSeen uValues uStack uOf thetaOf difference scalingSeen fOf scalingOf scalingAt dfOf rankOne generalDf positive rhoOf lessA2 divOf v2Of v1Of v0Of leadingOf c3Of c2Of c1Of dOf gOf bOf a2Of a1Of weight contrastBasis divided dividedCell largest numberOf unitRow coefficientTest contrastTest scaledPs scaledBy runOf withTest coefficientsTo
+runs = record { refusal = refl; adjusted = refl; run = refl }
 
 -- ---- together
-pull-run : run documentCutoffs pullFile ≡ pullRun
-pull-run =
-    run-is documentCutoffs pullFile
-    ∙ ap (λ (d : Design). whole documentCutoffs d (phi pullFile) (contrastRows pullFile) (inputOf pullFile)) (says .design)
-    ∙ ap (λ (f : Rows). whole documentCutoffs pullDesign f (contrastRows pullFile) (inputOf pullFile)) (says .phi)
-    ∙ ap (λ (n : ℕ). whole documentCutoffs pullDesign pullPhi n (inputOf pullFile)) (says .rows)
-    ∙ ap (λ (x : Input). whole documentCutoffs pullDesign pullPhi 1 x) (says .input)
-    ∙ runs .run
-
 pub pull-accepted : number documentCutoffs pullFile ≡ 0
-pull-accepted =
-    number-is documentCutoffs pullFile
-    ∙ ap (λ (n : ℕ). first (listed (reasons pullFile) n (run documentCutoffs pullFile .refused)))
-    (ap (λ (d : Design). adjustmentRefusal documentCutoffs d (phi pullFile) (sigma2 pullFile)) (says .design)
-    ∙ ap (λ (f : Rows). adjustmentRefusal documentCutoffs pullDesign f (sigma2 pullFile)) (says .phi)
-    ∙ ap (λ (x : Input). adjustmentRefusal documentCutoffs pullDesign pullPhi (x .sigma2)) (says .input)
-    ∙ runs .adjustment)
-    ∙ ap (λ (r : Run). first (listed (reasons pullFile) 0 (r .refused))) pull-run
-    ∙ says .passes
+pull-accepted = read-accepted reads runs
 
-pub pull-entries : entries documentCutoffs pullFile ≡ pullRun .entries
-pull-entries = entries-are documentCutoffs pullFile pull-accepted ∙ ap (λ (r : Run). r .entries) pull-run
+pub pull-entries : entries documentCutoffs pullFile ≡ pullEntries
+pull-entries = read-entries reads runs
 
-first-only : (i : ℕ) → i < 1 → i ≡ 0
+first-only : (i : ℕ) → i < 1 → 0 ≡ i
 first-only i h = omega arith
 
 pull-inside : AllInside documentCutoffs pullFile
-pull-inside = record {
-  coefficient = λ i h. ap (λ (es : List Entry). getD es i noEntry .inside) pull-entries
-      ∙ ap (λ (j : ℕ). getD (pullRun .entries) j noEntry .inside) (first-only i (subst (λ (n : ℕ). i < n) (says .coefficients) h));
-  contrast = λ h. ap (λ (es : List Entry). getD es 6 noEntry .inside) pull-entries;
-}
+pull-inside = read-inside reads runs 1 one-coefficient (λ i h. subst (λ (j : ℕ). getD pullEntries j noEntry .inside ≡ true) (first-only i h) refl) refl
 
 -- rank 1, F 9, df 1; and no verdict in an entry that is not in use
 abbrev pub nineOne : Verdict
@@ -149,20 +119,6 @@ shifted : converted (kenwardRogerChange (pos 5) (λ r. negsuc 2)) pullFile ≡ p
 unfolding converted newByte newBits kenwardRogerShift row fold word long bytesOf mul ofBits toBits
 shifted = refl
 
-pub record PullExample : Type 0 where
-  -- the theorem's premises hold of the file
-  pub accepted : number documentCutoffs pullFile ≡ 0
-  pub inside : AllInside documentCutoffs pullFile
-  pub verdicts : map verdict (entries documentCutoffs pullFile) ≡ pullVerdicts
-  -- the converted file is another file, accepted with the same verdicts
-  pub other : converted (kenwardRogerChange (pos 5) (λ r. negsuc 2)) pullFile ≡ pullShifted
-  pub acceptedAgain : number documentCutoffs pullShifted ≡ 0
-  pub sameVerdicts : map verdict (entries documentCutoffs pullShifted) ≡ pullVerdicts
-
-pub pull-example : PullExample
+pub pull-example : Witness pullFile (pos 5) (λ r. negsuc 2) pullShifted pullVerdicts
 pull-example =
-    let v : map verdict (entries documentCutoffs pullFile) ≡ pullVerdicts = ap (map verdict) pull-entries in
-    let e : SameVerdicts documentCutoffs pullFile pullShifted =
-    subst (λ (t : List ℕ). SameVerdicts documentCutoffs pullFile t) shifted
-    (converter-kenward-roger documentCutoffs pullFile (pos 5) (λ r. negsuc 2) (lit≤ tt) (λ r h. lit≤ tt) pull-accepted pull-inside) in
-    record { accepted = pull-accepted; inside = pull-inside; verdicts = v; other = shifted; acceptedAgain = e .accepted; sameVerdicts = e .verdicts ∙ v }
+    witness pullFile (pos 5) (λ r. negsuc 2) pullShifted pullVerdicts (lit≤ tt) (λ r. lit≤ tt) pull-accepted pull-inside (ap (map verdict) pull-entries) shifted

@@ -2,7 +2,7 @@
 -- statement.
 use Prim.Native.Nat.{ℕ}
 use mathlib.Core.Path.{_≡_}
-use mathlib.Core.Bool.{Bool, true, false}
+use mathlib.Core.Bool.{true, false}
 use mathlib.Core.List.{List, [], _∷_, _++_}
 use lib.IntN.{pos, negsuc}
 use lib.ListN.{replicate}
@@ -13,13 +13,10 @@ use Rattle.arithmetic.specs.Marks.{given}
 use Rattle.arithmetic_cutoffs.specs.Cutoffs.{decimal, documentCutoffs}
 use Rattle.algebra.specs.Kind.{floats}
 use Rattle.algebra.specs.Product.{at}
-use Rattle.adjustment.specs.declared.Block.{Block}
 use Rattle.adjustment.specs.Information.{packed}
 use Rattle.adjustment.specs.Covariance.{Design}
 use Rattle.adjustment.specs.Adjusted.{adjustment, adjustmentRefusal}
-use Rattle.tests.specs.declared.Number.{Number}
 use Rattle.tests.specs.declared.Number.the-variants.{Is, None}
-use Rattle.tests.specs.declared.Entry.{Entry}
 use Rattle.tests.specs.Basis.{contrastBasis}
 use Rattle.tests.specs.KenwardRoger.{Scaled, Tested, tested}
 use Rattle.tests.specs.VarianceDf.{varianceDf}
