@@ -33,7 +33,7 @@ loop-again : tie.Need-loop-again Inv-loop μ-loop
 unfolding placeIn
 loop-again c =
     let v = c .before .before .before .loop .inv in
-    (omega arith, omega arith, fold-next _ _ _ _ _ _ (omega arith) (v .2) (cc))
+    (omega arith, omega arith, fold-next _ _ _ _ _ _ (omega arith) (v .2) (rw (← (c .before .comes-before .ensures)) (c .counted .ensures .0)))
 
 returns : tie.Need-returns Inv-loop μ-loop
 unfolding placeIn
