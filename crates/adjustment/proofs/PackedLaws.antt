@@ -1,6 +1,7 @@
 -- Where Q_rs is packed. Document 01: "r ≤ s, packed at a·N − a(a+1)/2 + b, a the smaller index."
 use Prim.Native.Nat.{ℕ, zero, suc, _+_, _-_, _*_, _/_, _≤_, _<_}
 use native.Mathlib.Omega.{arith}
+use native.Mathlib.Nat.{mul-le-mul}
 use native.Mathlib.Numerals.{add-one}
 use native.Mathlib.Decide.{decLe, decLt}
 use mathlib.Core.Path.{_≡_, refl, sym, ap, _∙_}
@@ -29,20 +30,6 @@ packed-mirror N r s = go (decLt r s) (decLt s r)
     go (no h) (yes l) = packed-down N r s l ∙ sym (packed-up N s r (omega arith))
     go (no h) (no l) = let e : r ≡ s = omega arith in rw e
 
--- what a place is made of, for N up to 4: no part wraps, nothing falls below 0, and it is below 10
-pub record Placed (N a b : ℕ) : Type 0 where
-  pub rows : a * N ≤ 16
-  pub corner : a * (a + 1) ≤ 20
-  pub fits : a * (a + 1) / 2 ≤ a * N
-  pub small : place N a b < 10
-
-pub placed : (N a b : ℕ) → N ≤ 4 → a ≤ b → b < N → Placed N a b
-placed N zero b h l m = record { rows = omega arith; corner = omega arith; fits = omega arith; small = omega arith }
-placed N (suc zero) b h l m = record { rows = omega arith; corner = omega arith; fits = omega arith; small = omega arith }
-placed N (suc (suc zero)) b h l m = record { rows = omega arith; corner = omega arith; fits = omega arith; small = omega arith }
-placed N (suc (suc (suc zero))) b h l m = record { rows = omega arith; corner = omega arith; fits = omega arith; small = omega arith }
-placed N (suc (suc (suc (suc a)))) b h l m = absurd (omega arith)
-
 -- ---- every N: the places of the unordered pairs are the numbers below N (N + 1) / 2, each once
 even : (a : ℕ) → a * (a + 1) ≡ 2 * (a * (a + 1) / 2)
 even zero = refl
@@ -54,6 +41,23 @@ place-below-at a d b h = omega (arith, even a, even d)
 
 place-below : (N a b : ℕ) → a ≤ b → b < N → place N a b < N * (N + 1) / 2
 place-below N a b h l = let e : N ≡ a + 1 + (N - 1 - a) = omega arith in rw e (place-below-at a (N - 1 - a) b (omega arith))
+
+-- what a place is made of: nothing falls below 0, and for N up to M no part is above what M rows of M have
+pub record Placed (M N a b : ℕ) : Type 0 where
+  pub rows : a * N ≤ M * M
+  pub corner : a * (a + 1) ≤ M * M
+  pub fits : a * (a + 1) / 2 ≤ a * N
+  pub below : place N a b < N * (N + 1) / 2
+  pub small : place N a b < M * (M + 1) / 2
+
+pub placed : (M N a b : ℕ) → N ≤ M → a ≤ b → b < N → Placed M N a b
+placed M N a b h l m =
+    let rows : a * N ≤ M * M = mul-le-mul (omega arith) h in
+    let corner : a * (a + 1) ≤ M * M = mul-le-mul (omega arith) (omega arith) in
+    let inner : a * (a + 1) ≤ a * N = mul-le-mul (omega arith) (omega arith) in
+    let whole : N * (N + 1) ≤ M * (M + 1) = mul-le-mul h (omega arith) in
+    let below : place N a b < N * (N + 1) / 2 = place-below N a b l m in
+    record { rows = rows; corner = corner; fits = omega (arith, inner); below = below; small = omega (arith, below, whole) }
 
 -- after a row's last place comes the first of the next row, and after the last row's comes N (N + 1) / 2
 next-row-at : (a d : ℕ) → place (a + 1 + d + 1) (a + 1) (a + 1) ≡ place (a + 1 + d + 1) a (a + d + 1) + 1
@@ -73,6 +77,17 @@ last-row N a b h l m =
     let e : N ≡ a + 1 = omega arith in
     let f : b ≡ a = omega arith in
     rw (e, f) (last-row-at a)
+
+-- the first places of two rows that follow each other are as far apart as the upper one is long
+pub diagonal-none : (N : ℕ) → packed N 0 0 ≡ 0
+diagonal-none N = let e : place N 0 0 ≡ 0 = omega arith in packed-up N 0 0 (omega arith) ∙ e
+
+pub diagonal-next : (N a : ℕ) → a + 1 < N → packed N (a + 1) (a + 1) + a ≡ packed N a a + N
+diagonal-next N a h =
+    rw (packed-up N (a + 1) (a + 1) (omega arith), packed-up N a a (omega arith)) (omega (arith, next-row N a (N - 1) (omega arith) (omega arith) h))
+
+pub diagonal-last : (N a : ℕ) → a < N → N ≤ a + 1 → packed N a a + 1 ≡ N * (N + 1) / 2
+diagonal-last N a h l = rw (packed-up N a a (omega arith)) (last-row N a a (omega arith) h l)
 
 in-row : (N a b y : ℕ) → b ≤ y → place N a b ≤ place N a y
 in-row N a b y h = omega arith

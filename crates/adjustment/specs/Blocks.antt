@@ -12,6 +12,7 @@ use Rattle.algebra.specs.Kind.{floats}
 use Rattle.algebra.specs.Product.{sum}
 use Rattle.adjustment.specs.declared.Block.{Block}
 use Rattle.adjustment.specs.declared.Place.{Place}
+use Rattle.adjustment.specs.Information.{packed}
 
 -- what stands past the last block: no effect, no group
 abbrev pub noBlock : Block
@@ -35,12 +36,13 @@ placesBefore blocks b = fold 0 b (λ i s. s + places (blockAt blocks i)) 0
 unfoldable pub blockOf : List Block → ℕ → ℕ → ℕ
 blockOf blocks count r = fold 0 count (λ b found. cond (leb (placesBefore blocks b) r) b found) 0
 
--- place q of a lower triangle by columns, for one or two effects: (0,0), (1,0), (1,1)
-abbrev pub rowOf : ℕ → ℕ
-rowOf q = cond (eqb q 0) 0 1
+-- The places of a lower triangle of k effects, by columns: a column goes from its diagonal down, so that (i, c), c ≤ i, is place c·k − c(c+1)/2 + i, as the Qs are packed. Place q's
+-- column is the last whose diagonal is not above q, and its row is as far below the diagonal as q is beyond it.
+abbrev pub triangleColumn : ℕ → ℕ → ℕ
+triangleColumn k q = fold 0 k (λ c found. cond (leb (packed k c c) q) c found) 0
 
-abbrev pub columnOf : ℕ → ℕ
-columnOf q = cond (eqb q 2) 1 0
+abbrev pub triangleRow : ℕ → ℕ → ℕ
+triangleRow k q = triangleColumn k q + (q - packed k (triangleColumn k q) (triangleColumn k q))
 
 unfoldable pub placeOf : List Block → ℕ → ℕ → Place
 placeOf blocks count r =
@@ -51,13 +53,13 @@ placeOf blocks count r =
       effects = blockAt blocks b .effects;
       groups = blockAt blocks b .groups;
       first = first;
-      row = rowOf (r - first);
-      column = columnOf (r - first);
+      row = triangleRow (blockAt blocks b .effects) (r - first);
+      column = triangleColumn (blockAt blocks b .effects) (r - first);
     }
 
--- T_ic: the thetas by columns, for one or two effects at i + c from the block's first; +0 above the diagonal
+-- T_ic: the block's theta of that place; +0 above the diagonal
 unfoldable pub thetaCell : List Float → Place → ℕ → ℕ → Float
-thetaCell theta t i c = cond (leb c i) (getD theta (t .first + (i + c)) nan) plusZero
+thetaCell theta t i c = cond (leb c i) (getD theta (t .first + packed (t .effects) c i) nan) plusZero
 
 -- the place's entry of TTᵀ
 unfoldable pub factorOf : List Float → Place → Float

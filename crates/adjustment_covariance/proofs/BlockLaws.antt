@@ -3,6 +3,7 @@ use Prim.Native.Nat.{ℕ, zero, suc, _+_, _-_, _*_, _/_, _≤_, _<_}
 use native.Mathlib.Omega.{arith}
 use native.Mathlib.Numerals.{add-one}
 use native.Mathlib.Decide.{decLe, decLt}
+use native.Mathlib.Nat.{mul-le-mul}
 use mathlib.Core.Path.{_≡_, refl, ap, _∙_}
 use mathlib.Core.Bool.{cond}
 use mathlib.Core.List.{List}
@@ -12,7 +13,9 @@ use Rattle.algebra.specs.Fold.{fold}
 use Rattle.algebra.proofs.FoldLaws.{fold-more, fold-steps}
 use Rattle.adjustment.specs.declared.Block.{Block}
 use Rattle.adjustment.specs.declared.Place.{Place}
-use Rattle.adjustment.specs.Blocks.{blockAt, places, columnsBefore, placesBefore, blockOf, rowOf, columnOf, placeOf}
+use Rattle.adjustment.specs.Blocks.{blockAt, places, columnsBefore, placesBefore, blockOf, triangleColumn, triangleRow, placeOf}
+use Rattle.adjustment.specs.Information.{packed}
+use Rattle.adjustment.proofs.PackedLaws.{diagonal-none, diagonal-next, diagonal-last}
 use Rattle.adjustment_covariance.specs.joints.Bounds.{Sound, Placed}
 
 -- sums of f, block by block, grow
@@ -66,57 +69,63 @@ columns-room {blocks} {count} b s h = omega (arith, s .counted, columns-more blo
 pub places-room : {blocks : List Block} {count : ℕ} (b : ℕ) → Sound blocks count → b < count → placesBefore blocks b + places (blockAt blocks b) ≤ 3
 places-room {blocks} {count} b s h = omega (arith, s .thetas, places-more blocks b, places-grow blocks (b + 1) count (omega arith))
 
--- the triangle of at most two effects
-pub square-small : (k : ℕ) → k ≤ 2 → k * (k + 1) ≤ 6
-square-small zero h = omega arith
-square-small (suc zero) h = omega arith
-square-small (suc (suc zero)) h = omega arith
-square-small (suc (suc (suc k))) h = absurd (omega arith)
+-- a block of at most m effects
+pub square-small : (m k : ℕ) → k ≤ m → k * (k + 1) ≤ m * (m + 1)
+square-small m k h = mul-le-mul h (omega arith)
 
-theta-room : (k first : ℕ) → k ≤ 2 → first + k * (k + 1) / 2 ≤ 3 → first + 2 * k ≤ 4
-theta-room zero first h l = omega arith
-theta-room (suc zero) first h l = omega arith
-theta-room (suc (suc zero)) first h l = omega arith
-theta-room (suc (suc (suc k))) first h l = absurd (omega arith)
-
-in-triangle : (k q : ℕ) → k ≤ 2 → q < k * (k + 1) / 2 → (rowOf q < k) × (columnOf q < k)
-in-triangle zero q h l = absurd (omega arith)
-in-triangle (suc zero) zero h l = (omega arith, omega arith)
-in-triangle (suc zero) (suc q) h l = absurd (omega arith)
-in-triangle (suc (suc zero)) zero h l = (omega arith, omega arith)
-in-triangle (suc (suc zero)) (suc zero) h l = (omega arith, omega arith)
-in-triangle (suc (suc zero)) (suc (suc zero)) h l = (omega arith, omega arith)
-in-triangle (suc (suc zero)) (suc (suc (suc q))) h l = absurd (omega arith)
-in-triangle (suc (suc (suc k))) q h l = absurd (omega arith)
-
--- the found block holds r
-pub record Found (blocks : List Block) (r k found : ℕ) : Type 0 where
+-- The last of k whose start is not above r: a parameter's block, and a place's column. The first starts at 0.
+pub record Found (start : ℕ → ℕ) (r k found : ℕ) : Type 0 where
   pub before : 1 ≤ k → found < k
-  pub first : 1 ≤ k → placesBefore blocks found ≤ r
-  pub last : (b : ℕ) → found < b → b < k → r < placesBefore blocks b
+  pub first : 1 ≤ k → start found ≤ r
+  pub last : (b : ℕ) → found < b → b < k → r < start b
 
-found-more : (blocks : List Block) (r b found : ℕ) → Found blocks r b found → Dec (placesBefore blocks b ≤ r)
-    → Found blocks r (b + 1) (cond (leb (placesBefore blocks b) r) b found)
-found-more blocks r b found p (yes h) =
-    rw (le-leb (placesBefore blocks b) r h) (record { before = λ x. omega arith; first = λ x. h; last = λ c x y. absurd (omega arith) })
-found-more blocks r b found p (no h) =
-    rw (lt-leb (placesBefore blocks b) r (omega arith))
-    (record { before = λ x. omega (arith, p .before (some (decLe 1 b))); first = λ x. p .first (some (decLe 1 b)); last = λ c x y. latest c x y (decLt c b) })
-  where
-    some : Dec (1 ≤ b) → 1 ≤ b
-    some (yes l) = l
-    some (no l) = let e : b ≡ 0 = omega arith in absurd (omega (arith, ap (placesBefore blocks) e, places-none blocks))
+module _ (start : ℕ → ℕ) (none : start 0 ≡ 0) (r : ℕ) where
+  found-more : (b found : ℕ) → Found start r b found → Dec (start b ≤ r) → Found start r (b + 1) (cond (leb (start b) r) b found)
+  found-more b found p (yes h) = rw (le-leb (start b) r h) (record { before = λ x. omega arith; first = λ x. h; last = λ c x y. absurd (omega arith) })
+  found-more b found p (no h) =
+      rw (lt-leb (start b) r (omega arith))
+      (record { before = λ x. omega (arith, p .before (some (decLe 1 b))); first = λ x. p .first (some (decLe 1 b)); last = λ c x y. latest c x y (decLt c b) })
+    where
+      some : Dec (1 ≤ b) → 1 ≤ b
+      some (yes l) = l
+      some (no l) = let e : b ≡ 0 = omega arith in absurd (omega (arith, ap start e, none))
 
-    latest : (c : ℕ) → found < c → c < b + 1 → Dec (c < b) → r < placesBefore blocks c
-    latest c x y (yes l) = p .last c x l
-    latest c x y (no l) = let e : c ≡ b = omega arith in rw e (omega arith)
+      latest : (c : ℕ) → found < c → c < b + 1 → Dec (c < b) → r < start c
+      latest c x y (yes l) = p .last c x l
+      latest c x y (no l) = let e : c ≡ b = omega arith in rw e (omega arith)
 
-pub block-found : (blocks : List Block) (count r : ℕ) → Found blocks r count (blockOf blocks count r)
+  pub last-found : (k : ℕ) → Found start r k (fold 0 k (λ b found. cond (leb (start b) r) b found) 0)
+  last-found k =
+      fold-steps (Found start r) 0 k (λ b found. cond (leb (start b) r) b found) 0 (omega arith)
+      (record { before = λ h. omega arith; first = λ h. absurd (omega arith); last = λ b h l. absurd (omega arith) })
+      (λ b h l found p. found-more b found p (decLe (start b) r))
+
+pub block-found : (blocks : List Block) (count r : ℕ) → Found (placesBefore blocks) r count (blockOf blocks count r)
 unfolding blockOf
-block-found blocks count r =
-    fold-steps (Found blocks r) 0 count (λ b found. cond (leb (placesBefore blocks b) r) b found) 0 (omega arith)
-    (record { before = λ h. omega arith; first = λ h. absurd (omega arith); last = λ b h l. absurd (omega arith) })
-    (λ b h l found p. found-more blocks r b found p (decLe (placesBefore blocks b) r))
+block-found blocks count r = last-found (placesBefore blocks) (places-none blocks) r count
+
+-- place q of a triangle of k effects stands in it: its column, whose diagonal is not above q, and its row
+pub record InTriangle (k q : ℕ) : Type 0 where
+  pub column : triangleColumn k q < k
+  pub diagonal : packed k (triangleColumn k q) (triangleColumn k q) ≤ q
+  pub row : triangleRow k q < k
+
+pub in-triangle : (k q : ℕ) → q < k * (k + 1) / 2 → InTriangle k q
+in-triangle k q h = go (triangleColumn k q) (last-found (λ c. packed k c c) (diagonal-none k) q k) (some (decLe 1 k))
+  where
+    some : Dec (1 ≤ k) → 1 ≤ k
+    some (yes l) = l
+    some (no l) = let e : k ≡ 0 = omega arith in absurd (let x : q < 0 * (0 + 1) / 2 = rw e at h in omega arith)
+
+    below : (c : ℕ) → Found (λ c. packed k c c) q k c → c < k → packed k c c ≤ q → Dec (c + 1 < k) → c + (q - packed k c c) < k
+    below c f l d (yes m) = omega (arith, f .last (c + 1) (omega arith) m, diagonal-next k c m)
+    below c f l d (no m) = omega (arith, diagonal-last k c l (omega arith))
+
+    go : (c : ℕ) → Found (λ c. packed k c c) q k (triangleColumn k q) → 1 ≤ k → InTriangle k q
+    go c f l =
+        let inside : triangleColumn k q < k = f .before l in
+        let over : packed k (triangleColumn k q) (triangleColumn k q) ≤ q = f .first l in
+        record { column = inside; diagonal = over; row = below (triangleColumn k q) f inside over (decLt (triangleColumn k q + 1) k) }
 
 -- the block of a parameter is one of the blocks, and the parameter is one of its own
 pub record Holding (blocks : List Block) (count r b : ℕ) : Type 0 where
@@ -126,7 +135,7 @@ pub record Holding (blocks : List Block) (count r b : ℕ) : Type 0 where
 
 pub block-holds : (blocks : List Block) (count r b : ℕ) → r < placesBefore blocks count → b ≡ blockOf blocks count r → Holding blocks count r b
 block-holds blocks count r b h e =
-    let p : Found blocks r count b = rw e (block-found blocks count r) in
+    let p : Found (placesBefore blocks) r count b = rw e (block-found blocks count r) in
     let some : 1 ≤ count = atLeast (decLe 1 count) in
     let l : b < count = p .before some in
     record { before = l; first = p .first some; own = rw (← places-more blocks b) (next p l (decLt (b + 1) count)) }
@@ -135,35 +144,35 @@ block-holds blocks count r b h e =
     atLeast (yes l) = l
     atLeast (no l) = let e : count ≡ 0 = omega arith in absurd (omega (arith, ap (placesBefore blocks) e, places-none blocks))
 
-    next : Found blocks r count b → b < count → Dec (b + 1 < count) → r < placesBefore blocks (b + 1)
+    next : Found (placesBefore blocks) r count b → b < count → Dec (b + 1 < count) → r < placesBefore blocks (b + 1)
     next p l (yes x) = p .last (b + 1) (omega arith) x
     next p l (no x) = let e : b + 1 ≡ count = omega arith in rw e h
 
+-- the parameter's place in its block's triangle
+pub own-place : (blocks : List Block) (count r b first : ℕ) → r < placesBefore blocks count → b ≡ blockOf blocks count r → first ≡ placesBefore blocks b
+    → r - first < blockAt blocks b .effects * (blockAt blocks b .effects + 1) / 2
+own-place blocks count r b first h eb ef = let g = block-holds blocks count r b h eb in omega (arith, g .own, g .first, ef)
+
 -- the place of a parameter of a block that holds it
 pub placed : (blocks : List Block) (count r b : ℕ) → Sound blocks count → Holding blocks count r b → (t : Place) → t .start ≡ columnsBefore blocks b
-    → t .effects ≡ blockAt blocks b .effects → t .groups ≡ blockAt blocks b .groups → t .first ≡ placesBefore blocks b → t .row ≡ rowOf (r - placesBefore blocks b)
-    → t .column ≡ columnOf (r - placesBefore blocks b) → Placed t (columnsBefore blocks count)
+    → t .effects ≡ blockAt blocks b .effects → t .groups ≡ blockAt blocks b .groups → t .first ≡ placesBefore blocks b
+    → t .row ≡ triangleRow (blockAt blocks b .effects) (r - placesBefore blocks b) → t .column ≡ triangleColumn (blockAt blocks b .effects) (r - placesBefore blocks b) → Placed t (columnsBefore blocks count)
 placed blocks count r b s h t es ee eg ef er ec =
     let k : ℕ = blockAt blocks b .effects in
     let m : k ≤ 2 = s .small b (h .before) in
     let below : placesBefore blocks b + k * (k + 1) / 2 ≤ 3 = places-room b s (h .before) in
-    let i : (rowOf (r - placesBefore blocks b) < k) × (columnOf (r - placesBefore blocks b) < k) =
-    in-triangle k (r - placesBefore blocks b) m (omega (arith, h .own, h .first)) in
+    let i : InTriangle k (r - placesBefore blocks b) = in-triangle k (r - placesBefore blocks b) (omega (arith, h .own, h .first)) in
     record {
       small = rw ee m;
-      high = rw (ee, er) (i .0);
-      wide = rw (ee, ec) (i .1);
-      thetas = rw (ee, ef) (theta-room k (placesBefore blocks b) m below);
+      high = rw (ee, er) (i .row);
+      wide = rw (ee, ec) (i .column);
+      thetas = rw (ee, ef) below;
       ends = rw (es, eg, ee) (omega (arith, columns-more blocks b, columns-grow blocks (b + 1) count (omega (arith, h .before))));
     }
 
--- a Z of more columns
-pub placed-within : {t : Place} {a b : ℕ} → Placed t a → a ≤ b → Placed t b
-placed-within p h = record { small = p .small; high = p .high; wide = p .wide; thetas = p .thetas; ends = omega (arith, p .ends) }
-
 -- a place that is made of its parts
 module _ (blocks : List Block) (count r b first start row column : ℕ) (eb : b ≡ blockOf blocks count r) (ef : first ≡ placesBefore blocks b)
-    (es : start ≡ columnsBefore blocks b) (er : row ≡ rowOf (r - first)) (ec : column ≡ columnOf (r - first)) where
+    (es : start ≡ columnsBefore blocks b) (er : row ≡ triangleRow (blockAt blocks b .effects) (r - first)) (ec : column ≡ triangleColumn (blockAt blocks b .effects) (r - first)) where
   abbrev pub made : Place
   made = record { start = start; effects = blockAt blocks b .effects; groups = blockAt blocks b .groups; first = first; row = row; column = column }
 
@@ -173,4 +182,5 @@ module _ (blocks : List Block) (count r b first start row column : ℕ) (eb : b 
 
   pub made-placed : Sound blocks count → r < placesBefore blocks count → Placed made (columnsBefore blocks count)
   made-placed s h =
-      placed blocks count r b s (block-holds blocks count r b h eb) made es refl refl ef (er ∙ ap (λ (x : ℕ). rowOf (r - x)) ef) (ec ∙ ap (λ (x : ℕ). columnOf (r - x)) ef)
+      placed blocks count r b s (block-holds blocks count r b h eb) made es refl refl ef (er ∙ ap (λ (x : ℕ). triangleRow (blockAt blocks b .effects) (r - x)) ef)
+      (ec ∙ ap (λ (x : ℕ). triangleColumn (blockAt blocks b .effects) (r - x)) ef)

@@ -57,11 +57,7 @@ module _ (n : ℕ) (z : Rows) (weighted : Bool) (weights : List Float) (blocks :
   abbrev pub whole : ℕ → Rows → Design
   whole p x = record { n = n; p = p; x = x; z = z; weighted = weighted; weights = weights; blocks = blocks; count = count; theta = theta }
 
-  -- Σ and the Gs are those of the whole design
+  -- Σ is that of the whole design
   pub sigma-whole : (p : ℕ) (x : Rows) → sigmaRows (design n z weighted weights blocks count theta) ≡ sigmaRows (whole p x)
   unfolding sigmaRows sigmaCell factor gCell
   sigma-whole p x = refl
-
-  pub g-whole : (p : ℕ) (x : Rows) (r : ℕ) → gRows (design n z weighted weights blocks count []) r ≡ gRows (whole p x) r
-  unfolding gRows gCell
-  g-whole p x r = refl

@@ -1,12 +1,14 @@
 // The blocks of random effects: where a variance parameter stands, and its factor.
 ghost use mathlib.Core.Path.{_≡_};
 ghost use mathlib.Core.Bool.{cond};
-ghost use Prim.Native.Nat.{_+_, _*_, _≤_, _<_};
+ghost use Prim.Native.Nat.{_+_, _-_, _*_, _/_, _≤_, _<_};
 ghost use lib.Dec.{leb};
-ghost use Rattle.adjustment.specs.Blocks.{places, blockAt, columnsBefore, placesBefore, blockOf, rowOf, columnOf, placeOf, thetaCell, factorOf, direction};
+ghost use Rattle.adjustment.specs.Blocks.{places, blockAt, columnsBefore, placesBefore, blockOf, triangleColumn, triangleRow, placeOf, thetaCell, factorOf, direction};
+ghost use Rattle.adjustment.specs.Information.{packed};
 ghost use Rattle.adjustment_covariance.specs.joints.Bounds.{Sound, Placed};
 use adjustment::Block;
 use adjustment::Place;
+use adjustment::packing::index_symmat2vec;
 
 // The places of a block's lower triangle.
 pub fn places(b: Block) -> usize
@@ -65,24 +67,26 @@ pub fn block_of(blocks: [Block; 3], count: usize, r: usize) -> usize
     found
 }
 
-// The row of place q of a lower triangle by columns: (0, 0), (1, 0), (1, 1).
-pub fn row_of(q: usize) -> usize
-    ensures { λ x. ⌜ x ≡ rowOf q ⌝ }
+// The column of place q of a lower triangle of k effects, by columns: the last whose diagonal is not above q.
+pub fn triangle_column(k: usize, q: usize) -> usize
+    requires { ⌜ k ≤ 4 ⌝ }
+    ensures { λ x. ⌜ x ≡ triangleColumn k q ⌝ }
 {
-    if q == 0 {
-        return 0;
+    let mut found = 0;
+    for c in 0..k {
+        let diagonal = index_symmat2vec(c, c, k);
+        found = later(diagonal, q, c, found);
     }
-    1
+    found
 }
 
-// Its column.
-pub fn column_of(q: usize) -> usize
-    ensures { λ x. ⌜ x ≡ columnOf q ⌝ }
+// Its row, c being its column.
+pub fn triangle_row(k: usize, q: usize, c: usize) -> usize
+    requires { ⌜ (k ≤ 4) × (q < k * (k + 1) / 2) × (c ≡ triangleColumn k q) ⌝ }
+    ensures { λ x. ⌜ x ≡ triangleRow k q ⌝ }
 {
-    if q == 2 {
-        return 1;
-    }
-    0
+    let diagonal = index_symmat2vec(c, c, k);
+    c + (q - diagonal)
 }
 
 // Where parameter r stands.
@@ -94,23 +98,24 @@ pub fn place_of(blocks: [Block; 3], count: usize, r: usize) -> Place
     let first = places_before(blocks, b);
     let start = columns_before(blocks, b);
     let block = blocks[b];
+    let column = triangle_column(block.effects, r - first);
     Place {
         start: start,
         effects: block.effects,
         groups: block.groups,
         first: first,
-        row: row_of(r - first),
-        column: column_of(r - first),
+        row: triangle_row(block.effects, r - first, column),
+        column: column,
     }
 }
 
 // Cell (i, c) of T: the thetas fill it by columns, and zeros stand above its diagonal.
 pub fn theta_cell(theta: [f64; 3], t: Place, i: usize, c: usize) -> f64
-    requires { ⌜ (t .first + 2 * t .effects ≤ 4) × (i < t .effects) × (c < t .effects) ⌝ }
+    requires { ⌜ (t .effects ≤ 2) × (t .first + t .effects * (t .effects + 1) / 2 ≤ 3) × (i < t .effects) × (c < t .effects) ⌝ }
     ensures { λ x. ⌜ x ≡ thetaCell theta t i c ⌝ }
 {
     if c <= i {
-        let at = t.first + (i + c);
+        let at = t.first + index_symmat2vec(c, i, t.effects);
         return theta[at];
     }
     0.0
@@ -118,7 +123,7 @@ pub fn theta_cell(theta: [f64; 3], t: Place, i: usize, c: usize) -> f64
 
 // The place's entry of TTᵀ.
 pub fn factor_of(theta: [f64; 3], t: Place) -> f64
-    requires { ⌜ (t .first + 2 * t .effects ≤ 4) × (t .row < t .effects) × (t .column < t .effects) ⌝ }
+    requires { ⌜ (t .effects ≤ 2) × (t .first + t .effects * (t .effects + 1) / 2 ≤ 3) × (t .row < t .effects) × (t .column < t .effects) ⌝ }
     ensures { λ x. ⌜ x ≡ factorOf theta t ⌝ }
 {
     let mut total = 0.0;

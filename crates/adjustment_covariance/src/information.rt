@@ -1,4 +1,4 @@
-// What the Hs give: O and S X, narrow matrices of n rows with stride 6 in a slice of their own, and the small P, K and Q.
+// What the Hs give: O and S X, narrow matrices of n rows with stride 6 in a slice of their own, the small P and K, and what the Qs are made of.
 ghost use mathlib.Core.Path.{_≡_};
 ghost use Prim.Native.Nat.{_+_, _*_, _≤_, _<_};
 ghost use lib.ListN.{length, getD};
@@ -7,7 +7,7 @@ ghost use Rattle.arithmetic.specs.Numbers.{plusZero};
 ghost use Rattle.algebra.specs.Kind.{floats};
 ghost use Rattle.algebra.specs.Product.{cell, product, transpose};
 ghost use Rattle.algebra_large.specs.joints.Slab.{rowsAt, putRow, putRows, Holds, Apart};
-ghost use Rattle.adjustment.specs.Information.{oRows, pRows, qRows, kCell};
+ghost use Rattle.adjustment.specs.Information.{oRows, pRows, kCell};
 ghost use Rattle.adjustment_covariance.specs.joints.Lent.{gainedWith};
 use algebra_large::rows::start;
 
@@ -153,25 +153,4 @@ pub fn wide_product(narrow: &[f64], e: usize, o: usize, n: usize, p: usize) -> [
         }
     }
     out
-}
-
-// Q_rs, with O_r at o and O_s at t, and S at q of the work slice; the p rows of n at e become O_rᵀS.
-pub fn q_of(
-    narrow: &mut [f64],
-    e: usize,
-    o: usize,
-    t: usize,
-    work: &[f64],
-    q: usize,
-    s: usize,
-    n: usize,
-    p: usize,
-) -> [[f64; 6]; 6]
-    requires { ⌜ Holds n e p n (length (now narrow)) × Holds 6 o n p (length (now narrow)) × Holds 6 t n p (length (now narrow)) ⌝ }
-    requires { ⌜ Apart e (p * n) o (n * 6) × Apart e (p * n) t (n * 6) × Holds s q n n (length (now work)) ⌝ }
-    ensures { λ m. ⌜ m ≡ qRows n p (rowsAt 6 o n p (now (narrow .entry))) (rowsAt s q n n (now (work .entry))) (rowsAt 6 t n p (now (narrow .entry))) ⌝ }
-    ensures { λ m. ⌜ now (narrow .exit) ≡ putRows n e p n (product floats p n p n n (transpose floats p n n p (rowsAt 6 o n p (now (narrow .entry)))) (rowsAt s q n n (now (work .entry)))) (now (narrow .entry)) ⌝ }
-{
-    fill_turned(narrow, e, o, work, q, s, n, p);
-    wide_product(narrow, e, t, n, p)
 }

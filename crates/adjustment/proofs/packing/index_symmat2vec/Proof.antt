@@ -9,13 +9,13 @@ place-requires : tie.Need-place-requires
 place-requires c κs = search needs
 
 returns : tie.Need-returns
-returns c = (c .place .ensures .0 ∙ sym (packed-up _ _ _ (c .before .if1 .taken)), c .place .ensures .1)
+returns c = (c .place .ensures .0 ∙ sym (packed-up _ _ _ (c .before .if1 .taken)), c .place .ensures .1, c .place .ensures .2)
 
 place-requires-2 : tie.Need-place-requires-2
 place-requires-2 c κs = search needs
 
 returns-2 : tie.Need-returns-2
-returns-2 c = (c .place2 .ensures .0 ∙ sym (packed-down _ _ _ (c .before .if1 .left)), c .place2 .ensures .1)
+returns-2 c = (c .place2 .ensures .0 ∙ sym (packed-down _ _ _ (c .before .if1 .left)), c .place2 .ensures .1, c .place2 .ensures .2)
 
 pub index-symmat2vec-spec : {M : Type 1} → statement M
 index-symmat2vec-spec = tie.close (tie.spec place-requires returns place-requires-2 returns-2)

@@ -7,22 +7,22 @@ use Rattle.adjustment.proofs.packing.place.Statement.{statement}
 use Rattle.adjustment.proofs.packing.place.Tie as tie
 
 mul-result : tie.Need-mul-result
-mul-result c = omega (arith, placed _ _ _ (c .pre .0) (c .pre .1) (c .pre .2) .rows)
+mul-result c = omega (arith, placed 4 _ _ _ (c .pre .0) (c .pre .1) (c .pre .2) .rows)
 
 add-result : tie.Need-add-result
 add-result c = search needs
 
 mul-result-2 : tie.Need-mul-result-2
-mul-result-2 c = omega (arith, placed _ _ _ (c .pre .0) (c .pre .1) (c .pre .2) .corner)
+mul-result-2 c = omega (arith, placed 4 _ _ _ (c .pre .0) (c .pre .1) (c .pre .2) .corner)
 
 sub-result : tie.Need-sub-result
-sub-result c = placed _ _ _ (c .pre .0) (c .pre .1) (c .pre .2) .fits
+sub-result c = placed 4 _ _ _ (c .pre .0) (c .pre .1) (c .pre .2) .fits
 
 add-result-2 : tie.Need-add-result-2
-add-result-2 c = omega (arith, placed _ _ _ (c .pre .0) (c .pre .1) (c .pre .2) .small)
+add-result-2 c = omega (arith, placed 4 _ _ _ (c .pre .0) (c .pre .1) (c .pre .2) .small)
 
 returns : tie.Need-returns
-returns c = (refl, placed _ _ _ (c .pre .0) (c .pre .1) (c .pre .2) .small)
+returns c = (refl, placed 4 _ _ _ (c .pre .0) (c .pre .1) (c .pre .2) .small, placed 4 _ _ _ (c .pre .0) (c .pre .1) (c .pre .2) .below)
 
 pub place-spec : {M : Type 1} → statement M
 place-spec =

@@ -1,5 +1,5 @@
 -- `adjustment_covariance::blocks::place_of` meets its contract.
-use Rattle.adjustment_covariance.proofs.BlockLaws.{sound-less, block-holds, made-is, made-placed}
+use Rattle.adjustment_covariance.proofs.BlockLaws.{sound-less, block-holds, own-place, made-is, made-placed}
 use native.Mathlib.Omega.{arith}
 use borrow.Author.Needs.{needs}
 use Rattle.adjustment_covariance.proofs.blocks.place_of.Statement.{statement}
@@ -20,22 +20,29 @@ mul-block c = omega (arith, c .before .before .before .pre .0 .few, block-holds 
 array-copy-out-block : tie.Need-array-copy-out-block
 array-copy-out-block c = omega (arith, c .before .before .before .pre .0 .few, block-holds _ _ _ _ (c .before .before .before .pre .1) (c .before .before .block-of .ensures) .before)
 
-sub-row-of : tie.Need-sub-row-of
-sub-row-of c = omega (arith, c .before .before .places-before .ensures, block-holds _ _ _ _ (c .before .before .before .before .pre .1) (c .before .before .before .block-of .ensures) .first)
+sub-triangle-column : tie.Need-sub-triangle-column
+sub-triangle-column c = omega (arith, c .before .before .places-before .ensures, block-holds _ _ _ _ (c .before .before .before .before .pre .1) (c .before .before .before .block-of .ensures) .first)
 
-row-of-requires : tie.Need-row-of-requires
-row-of-requires c κs = search needs
+triangle-column-requires : tie.Need-triangle-column-requires
+triangle-column-requires c κs =
+    let h = block-holds _ _ _ _ (c .before .before .before .before .pre .1) (c .before .before .before .block-of .ensures) in
+    let m = c .before .before .before .before .pre .0 .small _ (h .before) in
+    omega (arith, m)
 
-sub-column-of : tie.Need-sub-column-of
-sub-column-of c = omega (arith, c .before .before .before .places-before .ensures, block-holds _ _ _ _ (c .before .before .before .before .before .pre .1) (c .before .before .before .before .block-of .ensures) .first)
+sub-triangle-row : tie.Need-sub-triangle-row
+sub-triangle-row c = omega (arith, c .before .before .before .places-before .ensures, block-holds _ _ _ _ (c .before .before .before .before .before .pre .1) (c .before .before .before .before .block-of .ensures) .first)
 
-column-of-requires : tie.Need-column-of-requires
-column-of-requires c κs = search needs
+triangle-row-requires : tie.Need-triangle-row-requires
+triangle-row-requires c κs =
+    let g = c .before .before .before .before .before .pre in
+    let b = c .before .before .before .before .block-of .ensures in
+    let m = g .0 .small _ (block-holds _ _ _ _ (g .1) b .before) in
+    (omega (arith, m), own-place _ _ _ _ _ (g .1) b (c .before .before .before .places-before .ensures), c .triangle-column .ensures)
 
 returns : tie.Need-returns
 returns c = (
-  made-is _ _ _ _ _ _ _ _ (c .before .before .before .before .before .block-of .ensures) (c .before .before .before .before .places-before .ensures) (c .before .before .before .columns-before .ensures) (c .before .row-of .ensures) (c .column-of .ensures),
-  made-placed _ _ _ _ _ _ _ _ (c .before .before .before .before .before .block-of .ensures) (c .before .before .before .before .places-before .ensures) (c .before .before .before .columns-before .ensures) (c .before .row-of .ensures) (c .column-of .ensures) (c .before .before .before .before .before .before .pre .0) (c .before .before .before .before .before .before .pre .1),
+  made-is _ _ _ _ _ _ _ _ (c .before .before .before .before .before .block-of .ensures) (c .before .before .before .before .places-before .ensures) (c .before .before .before .columns-before .ensures) (c .triangle-row .ensures) (c .before .triangle-column .ensures),
+  made-placed _ _ _ _ _ _ _ _ (c .before .before .before .before .before .block-of .ensures) (c .before .before .before .before .places-before .ensures) (c .before .before .before .columns-before .ensures) (c .triangle-row .ensures) (c .before .triangle-column .ensures) (c .before .before .before .before .before .before .pre .0) (c .before .before .before .before .before .before .pre .1),
 )
 
 pub place-of-spec : {M : Type 1} → statement M
@@ -47,8 +54,8 @@ place-of-spec =
     columns-before-requires
     mul-block
     array-copy-out-block
-    sub-row-of
-    row-of-requires
-    sub-column-of
-    column-of-requires
+    sub-triangle-column
+    triangle-column-requires
+    sub-triangle-row
+    triangle-row-requires
     returns)

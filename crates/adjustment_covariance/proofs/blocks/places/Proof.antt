@@ -9,7 +9,7 @@ add-result : tie.Need-add-result
 add-result c = search needs
 
 mul-result : tie.Need-mul-result
-mul-result c = omega (arith, square-small _ ((c .before .before .pre)))
+mul-result c = omega (arith, square-small 2 _ ((c .before .before .pre)))
 
 returns : tie.Need-returns
 returns c = search needs
