@@ -2,18 +2,15 @@
 use Prim.Native.Nat.{ℕ}
 use mathlib.Core.Path.{_≡_, refl}
 use mathlib.Core.Bool.{cond}
-use mathlib.Core.List.{List, _∷_, _++_}
+use mathlib.Core.List.{List, _++_}
 use lib.Dec.{eqb}
 use lib.IntN.{ℤ, pos, negsuc}
 use lib.Ieee.{mul, ofBits, toBits}
 use Rattle.algebra.specs.Fold.{fold}
 use Rattle.algebra.specs.Table.{row}
 use Rattle.records.specs.Bytes.{word, long, bytesOf}
+use Rattle.records.specs.Bench.{recordOf}
 use Rattle.converter.specs.Converted.{kenwardRogerShift, kenwardRogerChange, satterthwaiteShift, satterthwaiteChange, newBits, newByte, converted}
-
--- kind, row and value bits; column, unused byte and count 0
-abbrev one-record : ℕ → ℕ → ℕ → List ℕ
-one-record k r b = k ∷ r ∷ 0 ∷ 0 ∷ (bytesOf 4 0 ++ bytesOf 8 b)
 
 -- two contrast rows, each with a power of its own
 abbrev by : ℤ → ℤ → ℕ → ℤ
@@ -22,15 +19,15 @@ by m0 m1 r = cond (eqb r 0) m0 m1
 -- X 1,1, Φ 0.5, and sigma2, β, the two contrast rows and β_H
 abbrev series : ℕ → ℕ → ℕ → ℕ → ℕ → List ℕ
 series v b l0 l1 h =
-    one-record 1 0 0x3ff0000000000000
-    ++ (one-record 1 1 0x3ff0000000000000
-    ++ (one-record 6 0 0x3fe0000000000000 ++ (one-record 7 0 v ++ (one-record 8 0 b ++ (one-record 9 0 l0 ++ (one-record 9 1 l1 ++ one-record 10 0 h))))))
+    recordOf 1 0 0 0 0x3ff0000000000000
+    ++ (recordOf 1 1 0 0 0x3ff0000000000000
+    ++ (recordOf 6 0 0 0 0x3fe0000000000000 ++ (recordOf 7 0 0 0 v ++ (recordOf 8 0 0 0 b ++ (recordOf 9 0 0 0 l0 ++ (recordOf 9 1 0 0 l1 ++ recordOf 10 0 0 0 h))))))
 
 -- β, contrast 1, β_H, v, the Jacobian, A 0.5
 abbrev other : ℕ → ℕ → ℕ → ℕ → List ℕ
 other b h v j =
-    one-record 8 0 b
-    ++ (one-record 9 0 0x3ff0000000000000 ++ (one-record 10 0 h ++ (one-record 30 0 v ++ (one-record 31 0 j ++ one-record 32 0 0x3fe0000000000000))))
+    recordOf 8 0 0 0 b
+    ++ (recordOf 9 0 0 0 0x3ff0000000000000 ++ (recordOf 10 0 0 0 h ++ (recordOf 30 0 0 0 v ++ (recordOf 31 0 0 0 j ++ recordOf 32 0 0 0 0x3fe0000000000000))))
 
 pub record Computed : Type 0 where
   -- k = 1, m 0 = -1, m 1 = 3: sigma2 8 becomes 32, β 6 becomes 12, contrast row 0 becomes 1/2 and row 1 becomes 8, β_H 2 becomes 4

@@ -10,7 +10,6 @@ use lib.Ieee.{Float, le}
 use Rattle.arithmetic.specs.Numbers.{plusZero, isZero}
 use Rattle.arithmetic.proofs.PlainLaws.{clash, zero-scale}
 use Rattle.arithmetic.proofs.ScaleLaws.{le-scale}
-use Rattle.algebra.specs.Reasons.{first}
 use Rattle.records.specs.Scan.{any}
 use Rattle.records.specs.Kinds.{Table, kindAt, kenwardRoger}
 use Rattle.records.specs.File.{count, badRecord, again, beyond, present, notFinite}
@@ -106,11 +105,3 @@ module _ (k : ℤ) (m : ℕ → ℤ) (s : List ℕ) where
     unfolding reasons
     reasons-same =
         rw (ap (λ (n : ℕ). n % 16) (a .size), anyBad-same g s kenwardRoger (no-blocks k m), anyAgain-same a kenwardRoger, anyBeyondSizes-same, incomplete-same a, badSize-same a, anyNotFinite-same g s h, sigma2-same, badWeight-same, misfit-same a, zeroContrast-same)
-
-    pub refusal-same : refusal (converted g s) ≡ refusal s
-    unfolding refusal
-    refusal-same = ap first reasons-same
-
--- "the call accepts the converted file": of the refusals before any computing none comes
-pub refusal-converted : (k : ℤ) (m : ℕ → ℤ) (s : List ℕ) → Exact (kenwardRogerChange k m) s → refusal s ≡ 0 → refusal (converted (kenwardRogerChange k m) s) ≡ 0
-refusal-converted k m s h e = refusal-same k m s h ∙ e

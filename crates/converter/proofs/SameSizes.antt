@@ -26,7 +26,7 @@ use Rattle.converter.proofs.Cells.{cell-fits}
 use Rattle.converter.proofs.Limits.{or-none, rows-bound, columns-bound}
 use Rattle.converter.proofs.Refusals.{Accepted}
 
-at-least : (x b : ℕ) → 1 ≤ b → x ≤ b → max 1 x ≤ b
+pub at-least : (x b : ℕ) → 1 ≤ b → x ≤ b → max 1 x ≤ b
 at-least x b h k = omega arith
 
 pub record Sized (s : List ℕ) : Type 0 where

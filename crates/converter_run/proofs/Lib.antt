@@ -4,5 +4,4 @@ pub mod MovingBasis
 pub mod MovingTest
 pub mod MovingRun
 pub mod MovingSeries
-pub mod Example
 pub mod MovingInput

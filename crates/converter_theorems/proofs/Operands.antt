@@ -29,12 +29,9 @@ use Rattle.algebra_products.proofs.MovingSmall.{allMarks-first, allMarks-cells}
 use Rattle.tests.proofs.MovingVariance.{gradient-first}
 use Rattle.tests.proofs.MovingComponents.{stack-first, components-first}
 use Rattle.tests.proofs.SatterthwaiteSurvives.{InputSizes}
+use Rattle.converter_run.specs.joints.ConvertedInput.{WrittenCells}
 
--- the cells of r rows and c columns are f64 numbers
-abbrev pub WrittenCells : ℕ → ℕ → Rows → Type 0
-WrittenCells r c a = (i j : ℕ) → i < r → j < c → T (fits binary64 (at floats a i j))
-
--- so are the numbers of a test's input
+-- the numbers of a test's input are f64 numbers
 pub record Written (x : Inputs) : Type 0 where
   pub l : WrittenCells (x .q) (x .p) (x .l)
   pub beta : (i : ℕ) → i < x .p → T (fits binary64 (getD (x .beta) i nan))

@@ -20,6 +20,7 @@ use Rattle.tests.proofs.SatterthwaiteSurvives.{InputSizes}
 use Rattle.records.specs.Parameters.{coefficients, contrastRows, parameters, sizes, incomplete, reasons, refusal, cellValue, jacobians, inputs}
 use Rattle.converter.proofs.Cells.{cell-fits}
 use Rattle.converter.proofs.Limits.{passed, rows-bound, columns-bound}
+use Rattle.converter.proofs.SameSizes.{at-least}
 use Rattle.converter_theorems.proofs.Operands.{Written}
 
 -- what a file that is not refused passes
@@ -41,9 +42,6 @@ accepted s h =
     let e4 = passed 1 _ _ (e3 .1) in
     let e5 = passed 3 _ _ (e4 .1) in
     record { whole = e0 .0; good = e1 .0; once = e2 .0; sized = e3 .0; complete = e4 .0; finite = e5 .0 }
-
-at-least : (x b : ℕ) → 1 ≤ b → x ≤ b → max 1 x ≤ b
-at-least x b h k = omega arith
 
 larger : (x y b : ℕ) → x ≤ b → y ≤ b → max x y ≤ b
 larger x y b h k = omega arith

@@ -1,11 +1,11 @@
 -- The third demand at work: document 01's `pulltest` example as a file of bytes is accepted with all entries inside, and with other powers of two its verdicts are the same.
 use Prim.Native.Nat.{ℕ, _<_, _≤_}
 use native.Mathlib.Omega.{arith}
-use mathlib.Core.Path.{_≡_, refl, ap, subst}
+use mathlib.Core.Path.{_≡_, refl, ap, _∙_, subst}
 use mathlib.Core.Bool.{true, false}
 use mathlib.Core.List.{List, [], _∷_, map}
 use lib.Dec.{lit≤}
-use lib.IntN.{pos, negsuc}
+use lib.IntN.{ℤ, pos, negsuc, natAbs}
 use lib.ListN.{getD, replicate}
 use lib.Ieee.{Float, fin, round, add, sub, mul, div, neg, lt, eq, le, ofInt, ofBits, toBits}
 use Rattle.arithmetic.specs.Numbers.{plusZero, one, magnitude, isZero, isFinite, sign, isLarger, ofCount}
@@ -41,6 +41,7 @@ use Rattle.tests.specs.Verdict.{Verdict, verdict}
 use Rattle.converter_run.specs.joints.ConvertedInput.{Input}
 use Rattle.converter.specs.Converted.{kenwardRogerShift, kenwardRogerChange, newBits, newByte, converted}
 use Rattle.converter.specs.SeriesDemand.{AllInside}
+use Rattle.converter_theorems.proofs.Theorems.{converter-kenward-roger}
 use Rattle.converter_theorems.proofs.ReadCall.{Reads, Runs, Witness, read-accepted, read-entries, read-inside, witness}
 use Rattle.tests.specs.Both.{stackSeen, squareOne, isPositive}
 use Rattle.algebra.specs.Reasons.{first}
@@ -122,3 +123,8 @@ shifted = refl
 pub pull-example : Witness pullFile (pos 5) (λ r. negsuc 2) pullShifted pullVerdicts
 pull-example =
     witness pullFile (pos 5) (λ r. negsuc 2) pullShifted pullVerdicts (lit≤ tt) (λ r. lit≤ tt) pull-accepted pull-inside (ap (map verdict) pull-entries) shifted
+
+-- with every k and m from -32 to 32 the example has rank 1, F 9 and df 1 in both entries
+pub pull-every : (k m : ℤ) → natAbs k ≤ 32 → natAbs m ≤ 32 → map verdict (entries documentCutoffs (converted (kenwardRogerChange k (λ r. m)) pullFile)) ≡ pullVerdicts
+pull-every k m near nearM =
+    converter-kenward-roger documentCutoffs pullFile k (λ r. m) near (λ r h. nearM) pull-accepted pull-inside .verdicts ∙ ap (map verdict) pull-entries

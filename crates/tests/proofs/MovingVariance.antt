@@ -1,14 +1,13 @@
 -- `variance_df` and its mark, on a variance and a gradient that a second run has both scaled by 2 ^ w: g does not move, so df is the same.
 use Prim.Native.Nat.{ℕ, _≤_, _<_}
 use native.Mathlib.Omega.{arith}
-use mathlib.Core.Path.{_≡_, refl, sym, ap, _∙_}
-use mathlib.Core.Bool.{Bool, true, false, cond, _&&_}
+use mathlib.Core.Path.{_≡_, refl, ap}
+use mathlib.Core.Bool.{Bool, true, false, cond}
 use mathlib.Core.List.{List}
 use lib.IntN.{ℤ, pos}
-use lib.Ieee.{Float, binary64, add, mul, lt}
+use lib.Ieee.{Float, binary64, add, mul}
 use Rattle.arithmetic.specs.declared.Marked.{Marked}
-use Rattle.arithmetic.specs.Numbers.{plusZero, isFinite}
-use Rattle.arithmetic.specs.Scale.{scale}
+use Rattle.arithmetic.specs.Numbers.{plusZero}
 use Rattle.arithmetic.specs.Marks.{given, markedDiv, also}
 use Rattle.arithmetic.proofs.Tied.{Tied}
 use Rattle.arithmetic.proofs.ScaleLaws.{lt-scale}
@@ -21,8 +20,7 @@ use Rattle.algebra.specs.Product.{at, sumCells}
 use Rattle.algebra.proofs.FoldLaws.{fold-ext}
 use Rattle.algebra.proofs.TableLaws.{row-at}
 use Rattle.algebra.proofs.MovingCells.{first-bears, step-bears, alike-over, still-value, cond-both}
-use Rattle.tests.specs.declared.Number.{Number}
-use Rattle.tests.specs.declared.Number.the-variants.{Is, None}
+use Rattle.tests.specs.declared.Number.the-variants.{None}
 use Rattle.tests.specs.VarianceDf.{entryAt, relativeGradient, relativeVariance, dfOfRelative, varianceDf, gradientSeen}
 use Rattle.tests.specs.Both.{isPositive}
 
@@ -36,9 +34,6 @@ module _ {t : ℕ} (C c : ℕ) (h : c ≤ C) where
   pub row-moves : (u : ℤ) (f f' : ℕ → Marked) → ((i : ℕ) → i < c → Moves t u (f i) (f' i)) → (i : ℕ) → i < c
       → Moves t u (entryAt (row (given plusZero) C c f) i) (entryAt (row (given plusZero) C c f') i)
   row-moves u f f' p i l = rw (row-at (given plusZero) C c f i (marks .void) l h, row-at (given plusZero) C c f' i (marks .void) l h) (p i l)
-
-  pub row-bears : (f : ℕ → Marked) (i : ℕ) → i < c → Bears t (entryAt (row (given plusZero) C c f) i) → Bears t (f i)
-  row-bears f i l b = rw (row-at (given plusZero) C c f i (marks .void) l h) at b
 
 -- ---- r depends on the values of g alone
 pub relativeVariance-agrees : (n : ℕ) (g g' : List Marked) (a a' : List (List Float)) → ((i : ℕ) → i < n → entryAt g' i .value ≡ entryAt g i .value)

@@ -2,13 +2,13 @@
 -- second is refused or accepted as the first, with the same rank, F and degrees of freedom, bit for bit.
 use Prim.Native.Nat.{ℕ, _+_, _≤_, _<_}
 use native.Mathlib.Omega.{arith}
-use mathlib.Core.Path.{_≡_, refl, sym, ap, _∙_, subst}
+use mathlib.Core.Path.{_≡_, refl, sym, ap, _∙_}
 use mathlib.Core.Bool.{Bool, true, false, cond}
-use mathlib.Core.List.{List, []}
+use mathlib.Core.List.{[]}
 use lib.Dec.{T, eqb}
 use lib.IntN.{ℤ, pos, negsuc, natAbs, _+ℤ_}
 use lib.ListN.{getD}
-use lib.Ieee.{Float, nan, binary64, fits}
+use lib.Ieee.{nan, binary64, fits}
 use Rattle.arithmetic.specs.declared.Marked.{Marked}
 use Rattle.arithmetic.specs.Numbers.{plusZero}
 use Rattle.arithmetic.specs.Marks.{given, also}
@@ -16,15 +16,13 @@ use Rattle.arithmetic.proofs.Tied.{Tied}
 use Rattle.arithmetic.proofs.MarkLaws.{Bears, Moves, inside-bears, also-bears}
 use Rattle.algebra.specs.Kind.{floats, marks}
 use Rattle.algebra.specs.Product.{at}
-use Rattle.algebra.specs.Jacobi.{State, jacobi}
 use Rattle.algebra.proofs.MovingCells.{BearsCells, MovesCells, still-value}
 use Rattle.algebra.proofs.MovingJacobi.{StateBears, StateMoves, jacobi-moves}
-use Rattle.algebra.specs.Small.{MarkedRows, givenCells, allMarks}
+use Rattle.algebra.specs.Small.{allMarks}
 use Rattle.arithmetic_cutoffs.specs.declared.Cutoffs.{Cutoffs}
-use Rattle.arithmetic_cutoffs.specs.Cutoffs.{documentCutoffs}
 use Rattle.tests.specs.Answer.{numberOf}
-use Rattle.tests.specs.VarianceDf.{entryAt, varianceDf, gradientSeen}
-use Rattle.tests.specs.Satterthwaite.{gradientOne, projected, gradientAt, severalDf, componentsSeen, Inputs, Outcome, lRows, ldRows, vRows, jStack, rotatedV, variances, directions, jxStack, fOne, fSeveral, dfOne, dfSeveral, startSeen, seenOne, seenSeveral, oneRow, severalRows, satterthwaite}
+use Rattle.tests.specs.VarianceDf.{entryAt}
+use Rattle.tests.specs.Satterthwaite.{gradientOne, projected, severalDf, Inputs, Outcome, lRows, ldRows, vRows, jStack, rotatedV, variances, directions, jxStack, fOne, fSeveral, dfOne, dfSeveral, startSeen, seenOne, seenSeveral, oneRow, severalRows, satterthwaite}
 use Rattle.algebra_products.proofs.MovingSmall.{given-cells, allMarks-first, allMarks-cells}
 use Rattle.tests.proofs.MovingVariance.{gradient-first, varianceDf-agrees}
 use Rattle.tests.proofs.MovingComponents.{MovesStack, contrastOf-moves, transformed-moves, transformedAll-moves, squareOne-moves, gradientOne-moves, notPositive-agrees, variancesOf-moves, variancesOf-bear, directionsOf-moves, projected-moves, turnedAll-moves, gradientAt-moves, squaresOver-moves, stack-first, components-first, componentDfs-agree}
@@ -61,10 +59,6 @@ pub record SameVerdict (x x' : Outcome) : Type 0 where
 twice-small : (k : ℤ) {a : ℕ} → natAbs k ≤ a → natAbs (k +ℤ k) ≤ a + a
 twice-small (pos m) h = omega arith
 twice-small (negsuc m) h = omega arith
-
-rotation-fits : T (fits binary64 (documentCutoffs .rotation))
-unfolding documentCutoffs fits
-rotation-fits = tt
 
 -- ---- two tests of the same sizes
 -- s with other numbers
@@ -235,8 +229,3 @@ satterthwaite-survives c fine k small s s' z e t = rw same at (numbers-survive c
 
     same : withNumbers s s' ≡ s'
     same = ap (λ (x : ℕ). sized x (s .q) (s .n)) (sym (e .p)) ∙ ap (λ (x : ℕ). sized (s' .p) x (s .n)) (sym (e .q)) ∙ ap (sized (s' .p) (s' .q)) (sym (e .n))
-
--- with document 01's cutoffs
-pub document-survives : (k : ℤ) → natAbs k ≤ 32 → (s s' : Inputs) → InputSizes s → ConvertedInputs k s s'
-    → T (satterthwaite documentCutoffs s .entry .inside) → SameVerdict (satterthwaite documentCutoffs s) (satterthwaite documentCutoffs s')
-document-survives = satterthwaite-survives documentCutoffs rotation-fits
