@@ -31,12 +31,13 @@ use Rattle.records.specs.Kinds.{kindAt, satterthwaite}
 use Rattle.records.specs.File.{outOf, badRecord, isCell, again, has, cell as cellOf, rows, columns, beyond, missing, notFinite}
 use Rattle.records.specs.Bench.{recordOf}
 use Rattle.records.specs.Parameters.{sizes, incomplete, reasons, jacobians, inputs}
-use Rattle.records.specs.SatterthwaiteCall.{number, entry}
+use Rattle.records.specs.SatterthwaiteCall.{number, entry, returned, written}
 use Rattle.tests.specs.Verdict.{Verdict, verdict}
 use Rattle.converter.specs.Converted.{satterthwaiteShift, satterthwaiteChange, newBits, newByte, converted}
+use Rattle.converter.specs.AnswerBytes.{SameAnswer}
 use Rattle.converter.specs.ParametersDemand.{SameVerdict}
 use Rattle.converter_theorems.proofs.ParametersCall.{number-is, entry-is}
-use Rattle.converter_theorems.proofs.Theorems.{converter-satterthwaite}
+use Rattle.converter_theorems.proofs.Theorems.{converter-satterthwaite, answer-satterthwaite}
 
 -- a diagonal of two numbers as the four cells of matrix number 0 of a kind
 abbrev diagonal : ℕ → ℕ → ℕ → List ℕ
@@ -117,10 +118,11 @@ pub record ParameterExample : Type 0 where
   pub accepted : number documentCutoffs parameterFile ≡ 0
   pub inside : entry documentCutoffs parameterFile .inside ≡ true
   pub verdict : Rattle.tests.specs.Verdict.verdict (entry documentCutoffs parameterFile) ≡ twoAndAHalf
-  -- the converted file is another file, accepted with the same verdict
+  -- the converted file is another file, accepted with the same verdict, and its answer has every byte but the mark
   pub other : converted (satterthwaiteChange (negsuc 1)) parameterFile ≡ parameterShifted
   pub acceptedAgain : number documentCutoffs parameterShifted ≡ 0
   pub sameVerdict : Rattle.tests.specs.Verdict.verdict (entry documentCutoffs parameterShifted) ≡ twoAndAHalf
+  pub sameAnswer : SameAnswer 24 (written documentCutoffs parameterFile) (returned documentCutoffs parameterShifted) (written documentCutoffs parameterShifted)
 
 pub parameter-example : ParameterExample
 parameter-example =
@@ -129,4 +131,13 @@ parameter-example =
     let e : SameVerdict documentCutoffs parameterFile parameterShifted =
     subst (λ (t : List ℕ). SameVerdict documentCutoffs parameterFile t) shifted
     (converter-satterthwaite .0 parameterFile (negsuc 1) (lit≤ tt) parameter-accepted i) in
-    record { accepted = parameter-accepted; inside = i; verdict = v; other = shifted; acceptedAgain = e .accepted; sameVerdict = e .same ∙ v }
+    record {
+      accepted = parameter-accepted;
+      inside = i;
+      verdict = v;
+      other = shifted;
+      acceptedAgain = e .accepted;
+      sameVerdict = e .same ∙ v;
+      sameAnswer = subst (λ (t : List ℕ). SameAnswer 24 (written documentCutoffs parameterFile) (returned documentCutoffs t) (written documentCutoffs t)) shifted
+          (answer-satterthwaite .0 parameterFile (negsuc 1) (lit≤ tt) parameter-accepted i);
+    }
