@@ -100,7 +100,7 @@ pub fn tests_of(
     let beta = six_at(sheet, 787, p);
     let beta_h = six_at(sheet, 829, p);
     let l = square_at(sheet, 793, z.contrasts, p);
-    tests_run::run(
+    tests_run::compute_kenward_roger(
         c,
         phi,
         phi_a,

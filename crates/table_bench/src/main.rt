@@ -70,11 +70,11 @@ fn print_variances() {
 fn print_contrast() {
     let phi = scaled_up(1, [[1.0; 6]; 6], 1.0);
     let phi_a = scaled_up(1, [[4.0; 6]; 6], 1.0);
-    let ps = tests_kr_modcomp::kenward_roger::scaled_ps([[[-1.0; 6]; 6]; 4], 1.0, 1, 1);
+    let ps = tests_kr_modcomp::full_rank::scaled_ps([[[-1.0; 6]; 6]; 4], 1.0, 1, 1);
     let w = [[2.0; 6]; 6];
     let none = [0.0; 6];
     let mut refused = false;
-    let e = tests_kr_modcomp::run::contrast_test(
+    let e = tests_kr_modcomp::modcomp::kr_modcomp_test(
         document_cutoffs(),
         phi,
         phi_a,

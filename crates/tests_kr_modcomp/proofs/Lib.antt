@@ -1,3 +1,3 @@
 -- The laws of the tests.
 pub mod Parts
-pub mod RunLaws
+pub mod ByBasis

@@ -1,3 +1,3 @@
-// The contrast tests: the Kenward–Roger test and its per-coefficient run (kr_modcomp, kenward_roger).
-pub mod kenward_roger;
-pub mod run;
+// The Kenward–Roger test of one contrast (kr_modcomp).
+pub mod full_rank;
+pub mod modcomp;

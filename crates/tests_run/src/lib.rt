@@ -9,9 +9,9 @@ use arithmetic::Marked;
 use arithmetic_cutoffs::Cutoffs;
 use tests::Entry;
 use tests_entries::no_entry;
-use tests_kr_modcomp::kenward_roger::scaled_ps;
-use tests_kr_modcomp::run::coefficient_test;
-use tests_kr_modcomp::run::contrast_test;
+use tests_kr_modcomp::full_rank::scaled_ps;
+use tests_kr_modcomp::modcomp::coefficient_test;
+use tests_kr_modcomp::modcomp::kr_modcomp_test;
 
 // The tests of the coefficients, each alone. A zero pivot in any of them refuses the run.
 pub fn coefficients(
@@ -67,14 +67,14 @@ pub fn run_scaled(
         return es;
     }
     let mut last = false;
-    let e = contrast_test(c, phi, phi_a, ps, w, n, p, beta, beta_h, l, rows, &mut last);
+    let e = kr_modcomp_test(c, phi, phi_a, ps, w, n, p, beta, beta_h, l, rows, &mut last);
     es[6] = e;
     *refused = any | last;
     es
 }
 
-// The run, from the adjustment in residual units: the scaling is done once for all the tests.
-pub fn run(
+// The run, from the adjustment in residual units. The scaling, with which the Rust's kenward_roger_modcomp_data ends, is done once for all the tests.
+pub fn compute_kenward_roger(
     c: Cutoffs,
     phi: [[f64; 6]; 6],
     phi_a: [[f64; 6]; 6],

@@ -9,7 +9,6 @@ use Rattle.records_kenward_roger.proofs.tests_of.Tie as tie
 use Rattle.records_kenward_roger.proofs.tests_of.Reads as reads
 use Rattle.records_kenward_roger.proofs.tests_of.Lts as lts
 use Rattle.adjustment_covariance.proofs.blocks.places_before.Reads as places-before-reads
-use Rattle.tests_run.proofs.run.Reads as run-reads
 use Rattle.records_series.proofs.blocks_of.Reads as blocks-of-reads
 use Rattle.records_sheet_parts.proofs.six_at.Reads as six-at-reads
 use Rattle.records_sheet_parts.proofs.square_at.Reads as square-at-reads
@@ -63,11 +62,11 @@ square-at-requires-2 c κs =
     let h = small-is (a .s .now) (g .0 .0) (a .z) (a .sheet .now) (g .0 .1) (g .0 .2) in
     (omega (arith, h .contrasts), h .contrasts, h .coefficients)
 
-element-copy-out-run : tie.Need-element-copy-out-run
-element-copy-out-run c = search needs
+element-copy-out-compute-kenward-roger : tie.Need-element-copy-out-compute-kenward-roger
+element-copy-out-compute-kenward-roger c = search needs
 
-run-requires : tie.Need-run-requires
-run-requires c κs =
+compute-kenward-roger-requires : tie.Need-compute-kenward-roger-requires
+compute-kenward-roger-requires c κs =
     let a = c .before .before .before .before .before .before .before .before .before .args in
     let g = c .before .before .before .before .before .before .before .before .before .pre in
     let h = small-is (a .s .now) (g .0 .0) (a .z) (a .sheet .now) (g .0 .1) (g .0 .2) in
@@ -79,7 +78,7 @@ returns c =
     let g = c .before .before .before .before .before .before .before .before .before .before .pre in
     let eN = matrices-are (a .s .now) (g .0 .0) (a .z) (a .sheet .now) (g .0 .1) (g .0 .2) _ (c .before .before .before .before .before .before .before .before .blocks-of .ensures .0) _ (c .before .before .before .before .before .before .before .places-before .ensures) in
     let e = run-is (a .s .now) (g .0 .0) (a .z) (a .sheet .now) (g .0 .1) (g .0 .2) (a .c) _ _ _ _ _ _ _ _ _ eN (c .before .before .before .before .before .before .square-at .ensures) (c .before .before .before .before .before .six-at .ensures) (c .before .before .before .before .six-at2 .ensures) (c .before .before .before .square-at2 .ensures) refl (g .1 .0) (g .1 .1) (g .1 .2) in
-    (c .run .ensures .0 ∙ ap (λ (r : Run). r .entries) e, c .run .ensures .1 ∙ ap (λ (r : Run). r .refused) e)
+    (c .compute-kenward-roger .ensures .0 ∙ ap (λ (r : Run). r .entries) e, c .compute-kenward-roger .ensures .1 ∙ ap (λ (r : Run). r .refused) e)
 
 pub tests-of-spec : {M : Type 1} → statement M
 tests-of-spec =
@@ -92,6 +91,6 @@ tests-of-spec =
     six-at-requires
     six-at-requires-2
     square-at-requires-2
-    element-copy-out-run
-    run-requires
+    element-copy-out-compute-kenward-roger
+    compute-kenward-roger-requires
     returns)

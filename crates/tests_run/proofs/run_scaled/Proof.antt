@@ -16,8 +16,8 @@ returns c =
     let e = without-contrast _ _ _ _ (c .before .before .before .args .rows) _ _ _ (eq-eqb _ _ (c .if1 .taken)) (a .0) (a .1) in
     (ap (λ (r : Run). r .entries) e, ap (λ (r : Run). r .refused) e)
 
-contrast-test-requires : tie.Need-contrast-test-requires
-contrast-test-requires c κs = search needs
+kr-modcomp-test-requires : tie.Need-kr-modcomp-test-requires
+kr-modcomp-test-requires c κs = search needs
 
 array-set-from-es : tie.Need-array-set-from-es
 array-set-from-es c = search needs
@@ -25,11 +25,11 @@ array-set-from-es c = search needs
 returns-2 : tie.Need-returns-2
 returns-2 c =
     let a = c .before .before .before .coefficients .ensures in
-    let t = c .contrast-test .ensures in
+    let t = c .kr-modcomp-test .ensures in
     let e = with-contrast _ _ _ _ (c .before .before .before .before .before .args .rows) _ _ _ _ _ (ne-eqb _ _ (c .before .before .if1 .left)) (a .0) (a .1) (t .0) (t .1) in
     (ap (λ (r : Run). r .entries) e, ap (λ (r : Run). r .refused) e)
 
 pub run-scaled-spec : {M : Type 1} → statement M
 run-scaled-spec =
     tie.close
-    (tie.spec coefficients-requires returns contrast-test-requires array-set-from-es returns-2)
+    (tie.spec coefficients-requires returns kr-modcomp-test-requires array-set-from-es returns-2)
