@@ -1,4 +1,4 @@
--- Document 01: "Every F and df is a number, or none where the Rust has NaN. The result record holds both, the rank and the mark."
+-- Document 01: "Every F and df is a number, or none where the Rust has NaN. The result record holds both, the rank and the mark".
 use mathlib.Core.Bool.{Bool, true, false, cond}
 use lib.Ieee.{Float, nan, isNan}
 use Rattle.tests.specs.declared.Number.{Number}
@@ -18,6 +18,6 @@ abbrev pub floatOf : Number → Float
 floatOf (Is x) = x
 floatOf None = nan
 
--- an entry that is not in use: no F, no df, rank 0, not inside. A test has a rank of at least 1.
+-- "Unused entries are zero": no F, no df, rank 0, not inside. A test has a rank of at least 1.
 abbrev pub noEntry : Entry
 noEntry = record { f = None; df = None; rank = 0; inside = false }

@@ -20,11 +20,11 @@ use Rattle.algebra.specs.Jacobi.{ratio, tangent, cosine, sine, turnedFirst, tur
 use Rattle.algebra.specs.Small.{Rows, values, allMarks}
 use Rattle.tests.specs.Order.{indexAt}
 
--- the largest magnitude of a row of p cells, from +0
+-- "its largest magnitude": that of a row of p cells, from +0
 unfoldable pub largest : ℕ → List Float → Float
 largest p xs = fold 0 p (λ j s. let v : Float = magnitude (getD xs j nan) in cond (lt s v) v s) plusZero
 
--- cell (i, j) of the contrast, over its row's largest magnitude; a zero row stays
+-- "each nonzero row divided by its largest magnitude": cell (i, j); a zero row stays
 unfoldable pub dividedCell : ℕ → Rows → ℕ → ℕ → Marked
 dividedCell p l i j =
     let scale : Float = largest p (getD l i []) in
@@ -34,16 +34,16 @@ dividedCell p l i j =
 unfoldable pub divided : ℕ → ℕ → Rows → List (List Marked)
 divided rows p l = table (given plusZero) 6 6 rows p (dividedCell p l)
 
--- x·y of rows i and j
+-- "x·y", of rows i and j
 unfoldable pub rowDot : ℕ → Rows → ℕ → ℕ → Float
 rowDot p m i j = sum floats p (λ k. mul binary64 (at floats m i k) (at floats m j k))
 
--- rows i and j turned by c and s; both come from the old two
+-- "x' = cx − sy, y' = sx + cy": rows i and j turned; both come from the old two
 unfoldable pub turnRows : ℕ → ℕ → ℕ → Float → Float → Rows → Rows
 turnRows p i j c s m =
     set (set m i (row plusZero 6 p (λ k. turnedFirst floats c s (at floats m i k) (at floats m j k)))) j (row plusZero 6 p (λ k. turnedSecond floats c s (at floats m i k) (at floats m j k)))
 
--- the pair (i, j): turned unless its dot product is zero
+-- "g = x·y; if g ≠ 0, z = (y·y − x·x)/(2g), t, c, s as above": the pair (i, j)
 unfoldable pub turnPair : ℕ → ℕ → ℕ → Rows → Rows
 turnPair p i j m =
     let g : Float = rowDot p m i j in
@@ -61,23 +61,23 @@ sweepTo k rows p m = fold 0 k (λ i m. pairsTo rows p i m) m
 unfoldable pub sweepsTo : ℕ → ℕ → ℕ → Rows → Rows
 sweepsTo k rows p m = fold 0 k (λ i m. sweepTo rows rows p m) m
 
--- the row norms
+-- "Singular values are row norms"
 unfoldable pub norms : ℕ → ℕ → Rows → List Float
 norms rows p m = row plusZero 6 rows (λ i. squareRoot (rowDot p m i i))
 
--- the singular value in place k, of all `rows`
+-- "falling, ties by index": the one in place k, of all `rows`
 unfoldable pub singular : ℕ → List Float → ℕ → Float
 singular rows ns k = getD ns (indexAt rows ns k) nan
 
--- (2^-52 × max(rows, columns)) × largest
+-- "2^-52 × max(rows, columns) × largest", associated left
 unfoldable pub tolerance : ℕ → ℕ → List Float → Float
 tolerance rows p ns = mul binary64 (mul binary64 (fin false 1 (negsuc 51)) (ofCount (max rows p))) (singular rows ns 0)
 
--- how many of the first min(rows, columns) singular values are above the tolerance
+-- "only the first min(rows, columns) of them; rank counts those >" the tolerance
 unfoldable pub rankOf : ℕ → ℕ → List Float → ℕ
 rankOf rows p ns = fold 0 (min rows p) (λ k s. cond (lt (tolerance rows p ns) (singular rows ns k)) (s + 1) s) 0
 
--- those rows, over their norms
+-- "the basis is those rows divided by their norms"
 unfoldable pub basisRows : ℕ → ℕ → ℕ → Rows → List Float → Rows
 basisRows rows p rank m ns = table plusZero 6 6 rank p (λ k j. div binary64 (at floats m (indexAt rows ns k) j) (singular rows ns k))
 
@@ -87,6 +87,7 @@ pub record Basis : Type 0 where
   pub rank : ℕ
   pub seen : Marked
 
+-- "One row: done. Otherwise 30 sweeps over row pairs (x,y)"
 unfoldable pub contrastBasis : ℕ → ℕ → Rows → Basis
 contrastBasis rows p l =
     let d : List (List Marked) = divided rows p l in

@@ -1,4 +1,4 @@
--- Document 01, "Refusals": a zero pivot in any one test refuses the run with 10, and a refused run has no entry in use. "Each returns its number (accepted: 0)".
+-- Document 01, "Refusals": 10 is "zero pivot", and "Each returns its number (accepted: 0)". A zero pivot in any one test refuses the run, and a refused run has no entry in use.
 use Prim.Native.Nat.{ℕ}
 use mathlib.Core.Bool.{Bool, cond}
 use mathlib.Core.List.{List}

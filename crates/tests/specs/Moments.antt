@@ -1,4 +1,4 @@
--- Document 01, `kr_modcomp_test`, the unmarked part: from a1 and a2 to the degrees of freedom and the scaling of F.
+-- Document 01, `kr_modcomp_test`, what follows "Unmarked": a1 and a2, and from these the degrees of freedom, the scaling of F, and F. The formulas stand beside their definitions.
 use Prim.Native.Nat.{ℕ, _+_}
 use mathlib.Core.Bool.{Bool, true, false, cond, _&&_}
 use mathlib.Core.List.{List, []}
@@ -40,7 +40,7 @@ four = fin false 1 (pos 2)
 abbrev pub six : Float
 six = fin false 3 (pos 1)
 
--- e·W_ij: e is 1 on the diagonal and 2 off it
+-- e·W_ij, "e = 1 or 2 off the diagonal"
 unfoldable pub weight : Rows → ℕ → ℕ → Float
 weight w i j = times (cond (eqb i j) one two) (at floats w i j)
 
@@ -51,16 +51,16 @@ a1Of N p w us = fold 0 N (λ i s. fold i N (λ j s. plus s (times (times (weight
 unfoldable pub a2Of : ℕ → ℕ → Rows → List Rows → Float
 a2Of N p w us = fold 0 N (λ i s. fold i N (λ j s. plus s (times (weight w i j) (likeCells floats p p (getD us i []) (transpose floats 6 6 p p (getD us j []))))) s) plusZero
 
--- ---- with q = rank
+-- ---- "With q = rank":
 -- B = (a1 + 6a2)/(2q)
 unfoldable pub bOf : ℕ → Float → Float → Float
 bOf q a1 a2 = over (plus a1 (times six a2)) (times two (ofCount q))
 
--- 0 below 1e-10 in magnitude
+-- "each 0 below 1e-10 in magnitude": of V0 and V2
 unfoldable pub leadingOf : Cutoffs → Float → Float
 leadingOf c x = cond (lt (magnitude x) (c .leading)) plusZero x
 
--- div: 0 for a denominator below 1e-10 in magnitude
+-- "div is 0 for a denominator below 1e-10 in magnitude"
 unfoldable pub divOf : Cutoffs → Float → Float → Float
 divOf c x y = cond (lt (magnitude y) (c .divisor)) plusZero (over x y)
 

@@ -1,4 +1,4 @@
--- Falling order, ties by index: of singular values, and of eigenvalues.
+-- Document 01: "falling, ties by index", said of the singular values of a contrast ("kr_modcomp.rs") and of the eigenvalues of V ("ddf.rs").
 use Prim.Native.Nat.{ℕ, _+_}
 use mathlib.Core.Bool.{Bool, cond, _&&_, _||_}
 use mathlib.Core.List.{List}

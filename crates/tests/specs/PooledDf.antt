@@ -13,7 +13,7 @@ use Rattle.algebra.specs.Product.{sum}
 use Rattle.algebra.specs.Jacobi.{two}
 use Rattle.arithmetic_cutoffs.specs.Cutoffs.{decimal}
 
--- 1e-8
+-- "tolerance 1e-8"
 unfoldable pub tolerance : Float
 tolerance = decimal 1 8
 
@@ -25,11 +25,11 @@ allWithin n nu tol = fold 0 n (λ i s. s && lt (magnitude (sub binary64 (getD nu
 unfoldable pub anyLow : ℕ → List Float → Bool
 anyLow n nu = fold 0 n (λ i s. s || le (getD nu i nan) two) false
 
--- E = sum of ν/(ν−2)
+-- "E = sum of ν/(ν−2)"
 unfoldable pub expected : ℕ → List Float → Float
 expected n nu = sum floats n (λ i. div binary64 (getD nu i nan) (sub binary64 (getD nu i nan) two))
 
--- (2·E)/(E − q)
+-- "2E/(E−q)"
 unfoldable pub pooled : ℕ → Float → Float
 pooled n e = div binary64 (mul binary64 two e) (sub binary64 e (ofCount n))
 

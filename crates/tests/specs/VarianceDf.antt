@@ -21,18 +21,19 @@ use Rattle.tests.specs.Both.{isPositive}
 abbrev pub entryAt : List Marked → ℕ → Marked
 entryAt xs i = getD xs i (marks .void)
 
--- g = J/V, the last marked steps
+-- "g = J/V (M ends)": the last marked steps
 unfoldable pub relativeGradient : ℕ → Marked → List Marked → List Marked
 relativeGradient n variance gradient = row (given plusZero) 6 n (λ i. markedDiv (entryAt gradient i) variance)
 
--- r = sum over j, k of (g_j A_jk) g_k, on values alone
+-- "r = sum over j, k of (g_j A_jk) g_k", on values alone
 unfoldable pub relativeVariance : ℕ → List Marked → List (List Float) → Float
 relativeVariance n g a = sumCells floats n n (λ j k. mul binary64 (mul binary64 (entryAt g j .value) (at floats a j k)) (entryAt g k .value))
 
--- 2/r if r is finite and > 0, else none
+-- "2/r if r finite and > 0, else none"
 unfoldable pub dfOfRelative : Float → Number
 dfOfRelative r = cond (isPositive r) (Is (div binary64 two r)) None
 
+-- "none unless V finite and > 0"
 unfoldable pub varianceDf : ℕ → List (List Float) → Marked → List Marked → Number
 varianceDf n a variance gradient = cond (isPositive (variance .value)) (dfOfRelative (relativeVariance n (relativeGradient n variance gradient) a)) None
 
