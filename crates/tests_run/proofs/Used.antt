@@ -1,5 +1,5 @@
 -- Which entries of a run are in use: those whose rank is not 0, for a run whose contrast, if one is given, has finite cells that are not all zero.
-use Prim.Native.Nat.{ℕ, zero, suc, _≤_, _<_, min}
+use Prim.Native.Nat.{ℕ, zero, suc, _≤_, _<_}
 use mathlib.Core.Path.{_≡_, refl, sym, ap, _∙_}
 use mathlib.Core.Bool.{Bool, true, false, not, cond, true≢false, _&&_, _||_}
 use mathlib.Core.List.{List}
@@ -18,7 +18,7 @@ use Rattle.algebra.specs.Small.{Rows}
 use Rattle.tests.specs.declared.Entry.{Entry}
 use Rattle.tests.specs.Basis.{contrastBasis}
 use Rattle.tests_basis.proofs.RankStart.{Contrast}
-use Rattle.tests_basis.proofs.Rank.{rank-one, rank-least, rank-most}
+use Rattle.tests_basis.proofs.Rank.{rank-one, rank-least}
 use Rattle.tests.specs.Answer.{noEntry}
 use Rattle.tests.specs.KenwardRoger.{Scaled, tested, unitRow, coefficientTest, contrastTest, Run, withTest, coefficientsTo, runOf}
 use Rattle.tests.specs.Used.{inUse}
@@ -95,16 +95,11 @@ module _ (c : Cutoffs) (s : Scaled) (beta : List Float) where
         go false true false k m n e = absurd (true≢false e)
 
     module _ (P : s .p ≤ 6) (R : rows ≤ 6) (given : (rows ≡ 0 → ⊥) → Contrast rows (s .p) l) where
-      -- the rank of the contrast's entry lies between 1 and the lesser of the rows and the columns
+      -- the contrast's entry has a rank
       pub contrast-least : (rows ≡ 0 → ⊥) → 1 ≤ contrastTest c s beta betaH rows l .entry .rank
       contrast-least h =
           let g = given h in
           rw (contrast-rank betaH rows l) (rank-least rows (s .p) l (omega arith) R (omega (arith, g .inColumns)) P g)
-
-      pub contrast-most : (rows ≡ 0 → ⊥) → contrastTest c s beta betaH rows l .entry .rank ≤ min rows (s .p)
-      contrast-most h =
-          let g = given h in
-          rw (contrast-rank betaH rows l) (rank-most rows (s .p) l (omega arith) (omega (arith, g .inColumns)))
 
       -- an entry in use has a rank
       pub used-rank : (i : ℕ) → inUse (s .p) rows i ≡ true → 1 ≤ getD (runOf c s beta betaH rows l .entries) i noEntry .rank

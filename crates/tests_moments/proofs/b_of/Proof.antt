@@ -10,7 +10,7 @@ of-count-requires c κs = search needs
 
 returns : tie.Need-returns
 unfolding bOf ofBits
-returns c = cc
+returns c = rw (← (c .of-count .ensures))
 
 pub b-of-spec : {M : Type 1} → statement M
 b-of-spec = tie.close (tie.spec of-count-requires returns)

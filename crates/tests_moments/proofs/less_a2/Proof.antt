@@ -10,7 +10,7 @@ of-count-requires c κs = search needs
 
 returns : tie.Need-returns
 unfolding lessA2 ofBits
-returns c = cc
+returns c = rw (← (c .of-count .ensures))
 
 pub less-a2-spec : {M : Type 1} → statement M
 less-a2-spec = tie.close (tie.spec of-count-requires returns)
