@@ -5,8 +5,7 @@ use mathlib.Core.Path.{_≡_, sym, ap, _∙_}
 use mathlib.Core.Bool.{Bool}
 use mathlib.Core.List.{List, []}
 use lib.ListN.{length, getD, set, replicate}
-use borrow.Author.Tests.{lt-ltb, le-ltb, eq-eqb, ne-eqb}
-use Rattle.arithmetic.specs.Numbers.{one}
+use borrow.Author.Tests.{lt-ltb, le-ltb}
 use Rattle.algebra.specs.Fold.{fold}
 use Rattle.algebra.specs.Table.{row}
 use Rattle.algebra.specs.Kind.{Arith, zeroOf}
@@ -14,7 +13,7 @@ use Rattle.algebra.specs.Elimination.{eliminateTo, backTo, joined, solution, re
 use Rattle.algebra.proofs.FoldLaws.{fold-steps, fold-next, fold-end}
 use Rattle.algebra.proofs.TableLaws.{length-table}
 use Rattle.algebra.proofs.EliminationLaws.{refused-diagonal}
-use Rattle.algebra_elimination.specs.joints.Parts.{singular, joinedCell, identityCell}
+use Rattle.algebra_elimination.specs.joints.Parts.{singular, joinedCell}
 
 module _ {A : Type 0} (N : Arith A) where
   -- a row of A and a row of B side by side: one more cell of A
@@ -39,13 +38,6 @@ module _ {A : Type 0} (N : Arith A) where
       (let z : n + 0 ≡ j = omega arith in rw z e)
       (λ k l m y p. let q : n + (k + 1) ≡ n + k + 1 = omega arith in
       rw q (fold-next 0 (n + k) (λ j v. set v j (joinedCell N n a b j)) (replicate W (zeroOf N)) y _ (omega arith) p (ap (λ (v : A). set y (n + k) v) (joined-right n k a b))))
-
-  -- a cell of the identity
-  pub identity-on : (i j : ℕ) → i ≡ j → N .of one ≡ identityCell N i j
-  identity-on i j h = rw (eq-eqb i j h)
-
-  pub identity-off : (i j : ℕ) → (i ≡ j → ⊥) → zeroOf N ≡ identityCell N i j
-  identity-off i j h = rw (ne-eqb i j h)
 
   -- A and B side by side have as many rows as are stored
   length-joined : (R W n cols : ℕ) (a b : List (List A)) → length (joined N R W n cols a b) ≡ R

@@ -3,9 +3,8 @@ ghost use mathlib.Core.Path.{_≡_};
 ghost use Prim.Native.Nat.{_+_, _<_, _≤_};
 ghost use Rattle.algebra.specs.Kind.{floats, zeroOf};
 ghost use Rattle.algebra.specs.Table.{row};
-ghost use Rattle.algebra.specs.Product.{identity};
 ghost use Rattle.algebra.specs.Elimination.{joined, solution, refused, inverse, inverseRefused};
-ghost use Rattle.algebra_elimination.specs.joints.Parts.{singular, joinedCell, identityCell};
+ghost use Rattle.algebra_elimination.specs.joints.Parts.{singular, joinedCell};
 use crate::back_substitution::back;
 use crate::pivoting::eliminate;
 use arithmetic::plain::is_zero;
@@ -53,25 +52,6 @@ fn joined(a: [[f64; 6]; 6], b: [[f64; 6]; 6], n: usize, cols: usize) -> [[f64; 1
     m
 }
 
-fn identity_cell(i: usize, j: usize) -> f64
-    ensures { λ q. ⌜ q ≡ identityCell floats i j ⌝ }
-{
-    if i == j { 1.0 } else { 0.0 }
-}
-
-pub fn identity(n: usize) -> [[f64; 6]; 6]
-    requires { ⌜ n ≤ 6 ⌝ }
-    ensures { λ q. ⌜ q ≡ identity floats 6 6 n ⌝ }
-{
-    let mut m = [[0.0; 6]; 6];
-    for i in 0..n {
-        for j in 0..n {
-            m[i][j] = identity_cell(i, j);
-        }
-    }
-    m
-}
-
 // X of A X = B, for A of n rows and B of cols columns. A zero pivot is told by zero_pivot; X is then of no use.
 pub fn solve(
     a: [[f64; 6]; 6],
@@ -96,6 +76,6 @@ pub fn inverse(a: [[f64; 6]; 6], n: usize, zero_pivot: &mut bool) -> [[f64; 6]; 
     ensures { λ q. ⌜ q ≡ inverse floats 6 12 6 n a ⌝ }
     ensures { λ q. ⌜ now («zero_pivot» .exit) ≡ inverseRefused floats 6 12 6 n a ⌝ }
 {
-    let b = identity(n);
+    let b = algebra_products::identity(n);
     solve(a, b, n, n, zero_pivot)
 }

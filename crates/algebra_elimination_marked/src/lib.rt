@@ -5,15 +5,14 @@ ghost use Prim.Native.Nat.{_+_, _<_, _≤_};
 ghost use Rattle.arithmetic.specs.Numbers.{isLarger};
 ghost use Rattle.algebra.specs.Kind.{marks, zeroOf};
 ghost use Rattle.algebra.specs.Table.{row};
-ghost use Rattle.algebra.specs.Product.{identity};
 ghost use Rattle.algebra.specs.Elimination.{pivotRow, factor, lessBy, cleared, eliminateColumn, eliminateTo, backTo, joined, solution, refused, inverse, inverseRefused};
 ghost use Rattle.algebra_elimination.specs.joints.BackSubstitution.{knownCell};
-ghost use Rattle.algebra_elimination.specs.joints.Parts.{singular, joinedCell, identityCell};
+ghost use Rattle.algebra_elimination.specs.joints.Parts.{singular, joinedCell};
+use algebra_products_marked::cells::identity;
 use arithmetic::Marked;
 use arithmetic::plain::is_larger;
 use arithmetic::plain::is_zero;
 use arithmetic_steps::div;
-use arithmetic_steps::given;
 use arithmetic_steps::mul;
 use arithmetic_steps::sub;
 
@@ -180,30 +179,6 @@ fn joined(a: [[Marked; 6]; 6], b: [[Marked; 6]; 6], n: usize, cols: usize) -> [[
     let mut m = [line; 6];
     for i in 0..n {
         m[i] = joined_row(a[i], b[i], n, cols);
-    }
-    m
-}
-
-fn identity_cell(i: usize, j: usize) -> Marked
-    ensures { λ q. ⌜ q ≡ identityCell marks i j ⌝ }
-{
-    if i == j { given(1.0) } else { given(0.0) }
-}
-
-pub fn identity(n: usize) -> [[Marked; 6]; 6]
-    requires { ⌜ n ≤ 6 ⌝ }
-    ensures { λ q. ⌜ q ≡ identity marks 6 6 n ⌝ }
-{
-    let zero = Marked {
-        value: 0.0,
-        inside: true,
-    };
-    let line = [zero; 6];
-    let mut m = [line; 6];
-    for i in 0..n {
-        for j in 0..n {
-            m[i][j] = identity_cell(i, j);
-        }
     }
     m
 }

@@ -2,8 +2,7 @@
 ghost use mathlib.Core.Path.{_≡_};
 ghost use Prim.Native.Nat.{_+_, _<_, _≤_};
 ghost use Rattle.algebra.specs.Kind.{floats};
-ghost use Rattle.algebra.specs.Product.{identity};
-ghost use Rattle.algebra_jacobi.specs.joints.Starts.{mirroredCell, identityCell};
+ghost use Rattle.algebra_jacobi.specs.joints.Starts.{mirroredCell};
 ghost use Rattle.algebra_jacobi.specs.joints.States.{plainState};
 ghost use Rattle.algebra.specs.Jacobi.{State, sweepsTo, mirrored, jacobi};
 use crate::tested_rotation::rotated_pair;
@@ -62,34 +61,12 @@ pub fn mirrored(m: [[f64; 6]; 6], n: usize) -> [[f64; 6]; 6]
     out
 }
 
-fn identity_cell(i: usize, j: usize) -> f64
-    ensures { λ r. ⌜ r ≡ identityCell floats i j ⌝ }
-{
-    if i == j {
-        return 1.0;
-    }
-    0.0
-}
-
-pub fn identity(n: usize) -> [[f64; 6]; 6]
-    requires { ⌜ n ≤ 6 ⌝ }
-    ensures { λ r. ⌜ r ≡ identity floats 6 6 n ⌝ }
-{
-    let mut out = [[0.0; 6]; 6];
-    for i in 0..n {
-        for j in 0..n {
-            out[i][j] = identity_cell(i, j);
-        }
-    }
-    out
-}
-
 // Returns the rotated matrix, whose diagonal is the answer, and the vectors, in columns. `count` becomes the number of rotations made.
 pub fn jacobi(m: [[f64; 6]; 6], n: usize, limit: f64, count: &mut usize) -> [[[f64; 6]; 6]; 2]
     requires { ⌜ n ≤ 6 ⌝ }
     ensures { λ r. ⌜ (plainState r (now (count .exit)) ≡ jacobi floats limit 6 6 n m) × (now (count .exit) ≤ 450) ⌝ }
 {
     let start = mirrored(m, n);
-    let unit = identity(n);
+    let unit = algebra_products::identity(n);
     sweeps([start, unit], n, limit, count)
 }

@@ -7,12 +7,12 @@ ghost use Rattle.arithmetic.specs.Numbers.{plusZero};
 ghost use Rattle.arithmetic.specs.Marks.{marked};
 ghost use Rattle.algebra.specs.Table.{table};
 ghost use Rattle.algebra.specs.Kind.{marks, zeroOf};
-ghost use Rattle.algebra.specs.Product.{identity};
 ghost use Rattle.algebra_jacobi.specs.joints.Rotated.{chosenCell, mirroringCell};
 ghost use Rattle.algebra_jacobi.specs.joints.States.{markedState};
 ghost use Rattle.algebra_jacobi.specs.joints.Tested.{rotates, seenAfter, rotatedPair};
-ghost use Rattle.algebra_jacobi.specs.joints.Starts.{mirroredCell, identityCell};
+ghost use Rattle.algebra_jacobi.specs.joints.Starts.{mirroredCell};
 ghost use Rattle.algebra.specs.Jacobi.{State, ratio, tangent, cosine, sine, turnedFirst, turnedSecond, turnRow, turnColumns, rotated, sweepsTo, mirrored, jacobi};
+use algebra_products_marked::cells::identity;
 use arithmetic::Marked;
 use arithmetic::plain::is_zero;
 use arithmetic::plain::sign;
@@ -262,32 +262,6 @@ pub fn mirrored(m: [[Marked; 6]; 6], n: usize) -> [[Marked; 6]; 6]
     for i in 0..n {
         for j in 0..n {
             out[i][j] = mirrored_cell(m, i, j);
-        }
-    }
-    out
-}
-
-fn identity_cell(i: usize, j: usize) -> Marked
-    ensures { λ r. ⌜ r ≡ identityCell marks i j ⌝ }
-{
-    if i == j {
-        return given(1.0);
-    }
-    given(0.0)
-}
-
-pub fn identity(n: usize) -> [[Marked; 6]; 6]
-    requires { ⌜ n ≤ 6 ⌝ }
-    ensures { λ r. ⌜ r ≡ identity marks 6 6 n ⌝ }
-{
-    let zero = Marked {
-        value: 0.0,
-        inside: true,
-    };
-    let mut out = [[zero; 6]; 6];
-    for i in 0..n {
-        for j in 0..n {
-            out[i][j] = identity_cell(i, j);
         }
     }
     out

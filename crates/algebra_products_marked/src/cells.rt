@@ -1,8 +1,9 @@
-// Small matrices of marked numbers: zeros alone, cells from inputs, values without their marks, the marks of all cells.
+// Small matrices of marked numbers: zeros alone, cells from inputs, the identity, values without their marks, the marks of all cells.
 ghost use mathlib.Core.Path.{_≡_};
 ghost use Prim.Native.Nat.{_≤_};
 ghost use Rattle.algebra.specs.Table.{blank};
 ghost use Rattle.algebra.specs.Kind.{marks, zeroOf};
+ghost use Rattle.algebra.specs.Product.{identity};
 ghost use Rattle.algebra.specs.Small.{givenCells, values, allMarks};
 use arithmetic::Marked;
 use arithmetic_steps::also;
@@ -32,6 +33,14 @@ pub fn given_cells(a: [[f64; 6]; 6], rows: usize, cols: usize) -> [[Marked; 6]; 
         }
     }
     out
+}
+
+// The identity of n rows: its cells are inputs.
+pub fn identity(n: usize) -> [[Marked; 6]; 6]
+    requires { ⌜ n ≤ 6 ⌝ }
+    ensures { λ r. ⌜ r ≡ identity marks 6 6 n ⌝ }
+{
+    given_cells(algebra_products::identity(n), n, n)
 }
 
 // The values without their marks.

@@ -3,11 +3,11 @@
 use Prim.Native.Nat.{ℕ, _-_}
 use mathlib.Core.Bool.{Bool, false, cond, _||_}
 use mathlib.Core.List.{List}
-use lib.Dec.{ltb, eqb}
+use lib.Dec.{ltb}
 use lib.ListN.{getD}
-use Rattle.arithmetic.specs.Numbers.{one, isZero}
+use Rattle.arithmetic.specs.Numbers.{isZero}
 use Rattle.algebra.specs.Fold.{fold}
-use Rattle.algebra.specs.Kind.{Arith, zeroOf}
+use Rattle.algebra.specs.Kind.{Arith}
 use Rattle.algebra.specs.Product.{at}
 
 module _ {A : Type 0} (N : Arith A) where
@@ -18,7 +18,3 @@ module _ {A : Type 0} (N : Arith A) where
   -- cell j of a row of A and a row of B side by side
   abbrev pub joinedCell : ℕ → List A → List A → ℕ → A
   joinedCell n a b j = cond (ltb j n) (getD a j (N .void)) (getD b (j - n) (N .void))
-
-  -- cell (i, j) of document 01's "B = identity"
-  abbrev pub identityCell : ℕ → ℕ → A
-  identityCell i j = cond (eqb i j) (N .of one) (zeroOf N)
