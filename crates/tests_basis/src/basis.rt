@@ -1,10 +1,10 @@
 // The contrast basis: rows of unit length that span those of the contrast, by rotations of row pairs.
 ghost use mathlib.Core.Path.{_≡_};
-ghost use mathlib.Core.Bool.{false, cond};
+ghost use mathlib.Core.Bool.{cond};
 ghost use Prim.Native.Nat.{_+_, _<_, _≤_, min, max};
 ghost use lib.Ieee.{binary64, mul, div, lt};
 ghost use lib.ListN.{getD};
-ghost use Rattle.arithmetic.specs.Numbers.{plusZero, isZero};
+ghost use Rattle.arithmetic.specs.Numbers.{plusZero};
 ghost use Rattle.arithmetic.specs.Marks.{marked};
 ghost use Rattle.algebra.specs.Fold.{fold};
 ghost use Rattle.algebra.specs.Table.{row};
@@ -12,7 +12,7 @@ ghost use Rattle.algebra.specs.Kind.{floats};
 ghost use Rattle.algebra.specs.Product.{at, sum};
 ghost use Rattle.algebra.specs.Jacobi.{ratio, tangent, turnedFirst, turnedSecond};
 ghost use Rattle.tests.specs.Order.{indexAt};
-ghost use Rattle.tests.specs.Basis.{largest, dividedCell, divided, rowDot, turnPair, pairsTo, sweepTo, sweepsTo, norms, singular, tolerance, rankOf, basisRows, contrastBasis};
+ghost use Rattle.tests.specs.Basis.{largest, dividedCell, divided, pairsTo, sweepTo, sweepsTo, norms, singular, tolerance, rankOf, basisRows, contrastBasis};
 use arithmetic::Marked;
 use arithmetic::plain::is_zero;
 use arithmetic::plain::magnitude;
@@ -117,33 +117,22 @@ fn pair_tangent(p: usize, x: [f64; 6], y: [f64; 6], g: f64) -> f64
     algebra_rotation::tangent(algebra_rotation::ratio(row_dot(p, x, x), row_dot(p, y, y), g))
 }
 
-// Rows i and j of m turned by the rotation that makes them orthogonal, from their dot product g. Both come from the old two.
-pub fn turned_pair(p: usize, i: usize, j: usize, g: f64, m: [[f64; 6]; 6]) -> [[f64; 6]; 6]
-    requires { ⌜ (p ≤ 6) × (i < 6) × (j < 6) × (g ≡ rowDot p m i j) × (isZero g ≡ false) ⌝ }
-    ensures { λ r. ⌜ r ≡ turnPair p i j m ⌝ }
-{
-    let x = m[i];
-    let y = m[j];
-    let t = pair_tangent(p, x, y, g);
-    let c = algebra_rotation::cosine(t);
-    let s = algebra_rotation::sine(t, c);
-    let mut out = m;
-    out[i] = first_turned(p, x, y, c, s);
-    out[j] = second_turned(p, x, y, c, s);
-    out
-}
-
-// The pairs of row i. A pair is tested by its dot product first, so that nothing is copied for one that stays.
+// The pairs of row i. A pair is turned unless its dot product is zero, and both rows come from the old two. Only rows are copied for it.
 pub fn pairs(rows: usize, p: usize, i: usize, m: [[f64; 6]; 6]) -> [[f64; 6]; 6]
     requires { ⌜ (rows ≤ 6) × (p ≤ 6) × (i < rows) ⌝ }
     ensures { λ r. ⌜ r ≡ pairsTo rows p i m ⌝ }
 {
     let mut out = m;
     for j in i + 1..rows {
-        let g = row_dot(p, out[i], out[j]);
+        let x = out[i];
+        let y = out[j];
+        let g = row_dot(p, x, y);
         if !is_zero(g) {
-            let next = turned_pair(p, i, j, g, out);
-            out = next;
+            let t = pair_tangent(p, x, y, g);
+            let c = algebra_rotation::cosine(t);
+            let s = algebra_rotation::sine(t, c);
+            out[i] = first_turned(p, x, y, c, s);
+            out[j] = second_turned(p, x, y, c, s);
         }
     }
     out

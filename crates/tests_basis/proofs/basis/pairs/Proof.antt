@@ -3,7 +3,7 @@ use Prim.Native.Nat.{_≤_, _-_, _+_}
 use mathlib.Core.Path.{_≡_, sym, _∙_}
 use mathlib.Core.Logic.{⊎-elim}
 use Rattle.tests.specs.Basis.{rowDot, turnPair, pairsTo}
-use Rattle.tests_basis.proofs.BasisLaws.{pair-stays}
+use Rattle.tests_basis.proofs.BasisLaws.{turn-rows-is, pair-stays, pair-turned}
 use Rattle.algebra.proofs.FoldLaws.{fold-start, fold-next, fold-end}
 use borrow.Author.Tests.{not-true, not-false}
 use borrow.Author.Needs.{needs}
@@ -24,17 +24,17 @@ loop-holds : tie.Need-loop-holds Inv-loop μ-loop
 unfolding pairsTo
 loop-holds c = (omega arith, omega arith, fold-start _ _ _)
 
-mul-row-dot : tie.Need-mul-row-dot Inv-loop μ-loop
-mul-row-dot c = omega arith
+mul-x : tie.Need-mul-x Inv-loop μ-loop
+mul-x c = omega arith
 
-array-copy-out-row-dot : tie.Need-array-copy-out-row-dot Inv-loop μ-loop
-array-copy-out-row-dot c = omega arith
+array-copy-out-x : tie.Need-array-copy-out-x Inv-loop μ-loop
+array-copy-out-x c = omega arith
 
-mul-row-dot-2 : tie.Need-mul-row-dot-2 Inv-loop μ-loop
-mul-row-dot-2 c = omega arith
+mul-y : tie.Need-mul-y Inv-loop μ-loop
+mul-y c = omega arith
 
-array-copy-out-row-dot-2 : tie.Need-array-copy-out-row-dot-2 Inv-loop μ-loop
-array-copy-out-row-dot-2 c = omega arith
+array-copy-out-y : tie.Need-array-copy-out-y Inv-loop μ-loop
+array-copy-out-y c = omega arith
 
 row-dot-requires : tie.Need-row-dot-requires Inv-loop μ-loop
 row-dot-requires c κs = omega arith
@@ -42,9 +42,32 @@ row-dot-requires c κs = omega arith
 is-zero-requires : tie.Need-is-zero-requires Inv-loop μ-loop
 is-zero-requires c κs = search needs
 
-turned-pair-requires : tie.Need-turned-pair-requires Inv-loop μ-loop
-unfolding rowDot
-turned-pair-requires c κs = (omega arith, omega arith, omega arith, c .before .before .row-dot .ensures, sym (c .before .is-zero .ensures) ∙ not-true _ (c .if1 .taken))
+pair-tangent-requires : tie.Need-pair-tangent-requires Inv-loop μ-loop
+pair-tangent-requires c κs = omega arith
+
+cosine-requires : tie.Need-cosine-requires Inv-loop μ-loop
+cosine-requires c κs = search needs
+
+sine-requires : tie.Need-sine-requires Inv-loop μ-loop
+sine-requires c κs = search needs
+
+first-turned-requires : tie.Need-first-turned-requires Inv-loop μ-loop
+first-turned-requires c κs = omega arith
+
+mul-out : tie.Need-mul-out Inv-loop μ-loop
+mul-out c = omega arith
+
+array-set-from-out : tie.Need-array-set-from-out Inv-loop μ-loop
+array-set-from-out c = omega arith
+
+second-turned-requires : tie.Need-second-turned-requires Inv-loop μ-loop
+second-turned-requires c κs = omega arith
+
+mul-out-2 : tie.Need-mul-out-2 Inv-loop μ-loop
+mul-out-2 c = omega arith
+
+array-set-from-out-2 : tie.Need-array-set-from-out-2 Inv-loop μ-loop
+array-set-from-out-2 c = omega arith
 
 add-j-2 : tie.Need-add-j-2 Inv-loop μ-loop
 add-j-2 c = omega arith
@@ -57,9 +80,13 @@ unfolding pairsTo rowDot
 loop-again c =
     let l = c .before .before .before .before .before .before in
     let v = l .loop .inv in
+    let g = c .before .before .row-dot .ensures in
     let z = sym (c .before .is-zero .ensures) in
     let step : c .if1 .out ≡ turnPair (l .before .args .p) (l .before .args .i) (l .loop .j) (l .loop .out) =
-    ⊎-elim (λ w. w .2 ∙ w .1 .ensures) (λ w. w .1 ∙ pair-stays _ _ _ _ _ (c .before .before .row-dot .ensures) (z ∙ not-false _ (w .0 .left))) (c .if1 .came) in
+    ⊎-elim
+    (λ w. w .6
+    ∙ pair-turned _ _ _ _ _ g _ _ _ _ (z ∙ not-true _ (w .0 .taken)) (w .1 .ensures) (w .2 .ensures) (w .3 .ensures) (turn-rows-is _ _ _ _ _ _ _ _ (w .4 .ensures) (w .5 .ensures)))
+    (λ w. w .1 ∙ pair-stays _ _ _ _ _ g (z ∙ not-false _ (w .0 .left))) (c .if1 .came) in
     (omega arith, omega arith, fold-next _ _ _ _ _ _ (v .0) (v .2) step)
 
 returns : tie.Need-returns Inv-loop μ-loop
@@ -76,13 +103,21 @@ pairs-spec =
     μ-loop
     add-j
     loop-holds
-    mul-row-dot
-    array-copy-out-row-dot
-    mul-row-dot-2
-    array-copy-out-row-dot-2
+    mul-x
+    array-copy-out-x
+    mul-y
+    array-copy-out-y
     row-dot-requires
     is-zero-requires
-    turned-pair-requires
+    pair-tangent-requires
+    cosine-requires
+    sine-requires
+    first-turned-requires
+    mul-out
+    array-set-from-out
+    second-turned-requires
+    mul-out-2
+    array-set-from-out-2
     add-j-2
     loop-less
     loop-again
