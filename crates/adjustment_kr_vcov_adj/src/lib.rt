@@ -1,4 +1,4 @@
-// The Kenward–Roger covariance adjustment as one call, over lent slices. Nothing here knows a size.
+// The Kenward–Roger covariance adjustment as one call, over lent slices, for any number of specimens.
 ghost use mathlib.Core.Path.{_≡_};
 ghost use mathlib.Core.List.{[]};
 ghost use Prim.Native.Nat.{_+_, _*_, _≤_};

@@ -6,7 +6,7 @@ ghost use Rattle.arithmetic.specs.Numbers.{plusZero};
 ghost use Rattle.algebra.specs.Kind.{floats};
 ghost use Rattle.algebra.specs.Product.{identity};
 ghost use Rattle.algebra.specs.Elimination.{eliminateTo, joined};
-ghost use Rattle.algebra_large.specs.joints.Slab.{rowsAt, putRow, putRows};
+ghost use Rattle.algebra_large.specs.joints.Slab.{rowsAt, putRow, putRows, gramOf, Holds, Apart};
 ghost use Rattle.adjustment.specs.Covariance.{cholesky, notDefinite, inverseFactor, inverseFactorRefused, precision, sigmaRows};
 ghost use Rattle.adjustment_covariance.specs.joints.Lent.{design, Lent};
 ghost use Rattle.adjustment_work.specs.joints.Work.{square, zeros, precisionIn};
@@ -43,6 +43,14 @@ pub fn fill_inverse(work: &mut [f64], s: usize, n: usize) -> bool
     algebra_large_inverse::back::invert(work, b, s, a, s + s, l, s, n)
 }
 
+// The matrix at a becomes S = L⁻ᵀL⁻¹, of L⁻¹ at b: the product of its transpose with itself.
+pub fn precision_at(work: &mut [f64], a: usize, b: usize, s: usize, n: usize)
+    requires { ⌜ Holds s a n n (length (now work)) × Holds s b n n (length (now work)) × Apart a (n * s) b (n * s) ⌝ }
+    ensures { λ z. ⌜ now (work .exit) ≡ putRows s a n n (gramOf n n (rowsAt s b n n (now (work .entry)))) (now (work .entry)) ⌝ }
+{
+    algebra_large_products::whole::gram(work, a, s, b, s, n, n);
+}
+
 // Square 1 becomes S = L⁻ᵀL⁻¹, of L⁻¹ in square 3.
 pub fn fill_precision(work: &mut [f64], s: usize, n: usize)
     requires { ⌜ (n ≤ s) × (6 * (s * s) ≤ length (now work)) ⌝ }
@@ -50,7 +58,7 @@ pub fn fill_precision(work: &mut [f64], s: usize, n: usize)
 {
     let a = square_at(s, 1, work.len());
     let b = square_at(s, 3, work.len());
-    algebra_large_products::whole::gram(work, a, s, b, s, n, n);
+    precision_at(work, a, b, s, n);
 }
 
 // Σ in square 0 and S in square 1, of a work slice that is cleared first, and ends as zeros elsewhere. A refusal, 9 or 10, leaves zeros alone.

@@ -31,12 +31,6 @@ module _ (s b o n c : ℕ) (f : ℕ → Rows) (xs : List Float) where
   unfolding putStack
   stack-end k h ys l g e = fold-end 0 k h (λ r ys. putRows s ((o + r) * b) n c (f r) ys) xs ys l g e
 
-  pub length-stack : (k : ℕ) → length (putStack s b o n c k f xs) ≡ length xs
-  unfolding putStack
-  length-stack k =
-      fold-keeps (λ ys. length ys ≡ length xs) 0 k (λ r ys. putRows s ((o + r) * b) n c (f r) ys) xs refl
-      (λ r lo hi ys e. length-putRows s ((o + r) * b) n c (f r) ys ∙ e)
-
   -- a matrix that is apart from all of them reads as before
   pub stack-frame : (k t a q e : ℕ) → c ≤ s → e ≤ t → ((r : ℕ) → r < k → Apart ((o + r) * b) (n * s) a (q * t))
       → rowsAt t a q e (putStack s b o n c k f xs) ≡ rowsAt t a q e xs

@@ -37,9 +37,6 @@ module _ (s n len : ℕ) (hn : n ≤ s) (h : 6 * (s * s) ≤ len) where
   pub square-holds : (k : ℕ) → k < 6 → Holds s (square s k) n n len
   square-holds k l = record { wide = hn; fits = omega (arith, block-in (s * s) k len h l, rows-in n s s hn) }
 
-  pub square-apart : (j k : ℕ) → (j ≡ k → ⊥) → Apart (square s j) (n * s) (square s k) (n * s)
-  square-apart j k o = blocks-apart (s * s) j k (n * s) (n * s) o (rows-in n s s hn) (rows-in n s s hn)
-
   -- the n rows of twice the stride in squares 4 and 5
   pub wide-holds : Holds (s + s) (square s 4) n (n + n) len
   wide-holds = record { wide = omega arith; fits = omega (arith, rows-in n s s hn, h) }

@@ -1,3 +1,3 @@
-// The lent slices of the covariance adjustment: where its matrices stand, and the Hs and the Os in them. Nothing here knows a size.
+// The lent slices of the covariance adjustment: where its matrices stand, and the Hs and the Os in them, for any number of specimens.
 pub mod squares;
 pub mod stacks;

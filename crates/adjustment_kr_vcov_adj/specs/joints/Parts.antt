@@ -1,5 +1,5 @@
 -- Not needed to check document 01: names that join the code to its definitions.
--- The adjustment in parts: up to S, and from S on. Each is a part of `adjustment` and `adjustmentNumber` of crates/adjustment/specs/Adjusted.antt.
+-- The adjustment in parts: up to S, and from S on. Each is a part of `adjustment` and `adjustmentRefusal` of crates/adjustment/specs/Adjusted.antt.
 use Prim.Native.Nat.{ℕ}
 use mathlib.Core.Bool.{cond}
 use lib.Ieee.{Float}

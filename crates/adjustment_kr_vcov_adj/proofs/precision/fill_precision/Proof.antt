@@ -12,8 +12,8 @@ square-at-requires c κs = search needs
 square-at-requires-2 : tie.Need-square-at-requires-2
 square-at-requires-2 c κs = search needs
 
-gram-requires : tie.Need-gram-requires
-gram-requires c κs =
+precision-at-requires : tie.Need-precision-at-requires
+precision-at-requires c κs =
     let g = c .before .before .before .before .pre in
     let a = c .before .before .square-at .ensures .0 in
     let b = c .before .square-at2 .ensures .0 in
@@ -26,8 +26,8 @@ returns : tie.Need-returns
 returns c =
     let a = c .before .before .before .before .before .square-at .ensures .0 in
     let b = c .before .before .before .before .square-at2 .ensures .0 in
-    precision-is _ _ _ _ _ _ a b (c .before .before .gram .ensures)
+    precision-is _ _ _ _ _ _ a b (c .before .before .precision-at .ensures)
 
 pub fill-precision-spec : {M : Type 1} → statement M
 fill-precision-spec =
-    tie.close (tie.spec square-at-requires square-at-requires-2 gram-requires same-length returns)
+    tie.close (tie.spec square-at-requires square-at-requires-2 precision-at-requires same-length returns)
