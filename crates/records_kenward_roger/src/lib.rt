@@ -170,9 +170,8 @@ pub fn call(records: &[u8], answer: &mut [u8]) -> u32
     0
 }
 
-// What `pulltest` prints of a file: its text from the front of `out`, and the text's length.
-pub fn text(records: &[u8], out: &mut [u8]) -> usize
-    requires { ⌜ 512 ≤ length (now out) ⌝ }
+// What `pulltest` prints of a file: its text from the front of `out`, whose other bytes stay, and the text's length.
+pub fn text(records: &[u8], out: &mut [u8; 512]) -> usize
     ensures { λ r. ⌜ (r ≡ length (textOf (number documentCutoffs (now (records .entry))) (entries documentCutoffs (now (records .entry))))) × (r ≤ 512) ⌝ }
     ensures { λ r. ⌜ now (out .exit) ≡ sets (now (out .entry)) 0 (textOf (number documentCutoffs (now (records .entry))) (entries documentCutoffs (now (records .entry)))) ⌝ }
 {

@@ -1,6 +1,8 @@
 -- `pulltest::main` meets its contract.
-use mathlib.Core.Path.{sym}
-use lib.Seq.{length-take-le}
+use mathlib.Core.Path.{_≡_, sym}
+use lib.Seq.{length-sets, length-take-le}
+use lib.ListN.{length}
+use native.Mathlib.Omega.{arith}
 use borrow.Author.Needs.{needs}
 use Rattle.pulltest.proofs.main.Statement.{statement}
 use Rattle.pulltest.proofs.main.Tie as tie
@@ -17,17 +19,16 @@ array-share-prefix-file c = search needs
 slice-aggregate-text : tie.Need-slice-aggregate-text
 slice-aggregate-text c = search needs
 
-slice-aggregate-text-2 : tie.Need-slice-aggregate-text-2
-slice-aggregate-text-2 c = search needs
-
 text-requires : tie.Need-text-requires
 text-requires c κs = search needs
 
 array-share-prefix-out : tie.Need-array-share-prefix-out
-array-share-prefix-out c = search needs
+array-share-prefix-out c = let e : length (c .text .last .1 .0) ≡ 512 = rw (c .text .ensures .1, length-sets) in omega (arith, c .text .ensures .0 .1)
 
 slice-aggregate-write-all : tie.Need-slice-aggregate-write-all
-slice-aggregate-write-all c = sym (length-take-le (c .before .before .text .result) (c .before .before .text .last .1 .0) (search needs))
+slice-aggregate-write-all c =
+    let e : length (c .before .text .last .1 .0) ≡ 512 = rw (c .before .text .ensures .1, length-sets) in
+    sym (length-take-le (c .before .text .result) (c .before .text .last .1 .0) (omega (arith, c .before .text .ensures .0 .1)))
 
 write-all-requires : tie.Need-write-all-requires
 write-all-requires c κs = search needs
@@ -43,7 +44,6 @@ main-spec =
     read-full-requires
     array-share-prefix-file
     slice-aggregate-text
-    slice-aggregate-text-2
     text-requires
     array-share-prefix-out
     slice-aggregate-write-all

@@ -25,20 +25,15 @@ judge-requires c κs = search needs
 text-of-requires : tie.Need-text-of-requires
 text-of-requires c κs = search needs
 
-same-length : tie.Need-same-length
-same-length c = search needs
-
 returns : tie.Need-returns
 returns c =
-    let a = c .before .before .before .before .before .before .before .before .before .args in
-    let e = c .before .before .before .before .before .before .document-cutoffs .ensures in
-    let n = c .before .before .before .before .judge .ensures .1 ∙ ap (λ (x : Cutoffs). number x (a .records .now)) e in
-    let es = c .before .before .before .before .judge .ensures .0 ∙ ap (λ (x : Cutoffs). entries x (a .records .now)) e in
+    let a = c .before .before .before .before .before .before .args in
+    let e = c .before .before .before .before .document-cutoffs .ensures in
+    let n = c .before .before .judge .ensures .1 ∙ ap (λ (x : Cutoffs). number x (a .records .now)) e in
+    let es = c .before .before .judge .ensures .0 ∙ ap (λ (x : Cutoffs). entries x (a .records .now)) e in
     let f = ap₂ textOf n es in
-    let r = c .before .before .text-of .ensures in
+    let r = c .text-of .ensures in
     ((r .0 ∙ ap length f, r .2), r .1 ∙ ap (λ (x : List ℕ). sets (a .out .now) 0 x) f)
 
 pub text-spec : {M : Type 1} → statement M
-text-spec =
-    tie.close
-    (tie.spec document-cutoffs-requires judge-requires text-of-requires same-length returns)
+text-spec = tie.close (tie.spec document-cutoffs-requires judge-requires text-of-requires returns)

@@ -5,9 +5,6 @@ use borrow.Author.Needs.{needs}
 use Rattle.replay_vectors.proofs.print_answer.Statement.{statement}
 use Rattle.replay_vectors.proofs.print_answer.Tie as tie
 
-slice-aggregate-text : tie.Need-slice-aggregate-text
-slice-aggregate-text c = search needs
-
 text-requires : tie.Need-text-requires
 text-requires c κs = search needs
 
@@ -39,7 +36,6 @@ pub print-answer-spec : {M : Type 1} → statement M
 print-answer-spec =
     tie.close
     (tie.spec
-    slice-aggregate-text
     text-requires
     slice-aggregate-bar
     bar-requires

@@ -1,21 +1,22 @@
 -- `table_adjustment::print_tests` meets its contract.
-use mathlib.Core.Path.{sym}
-use lib.Seq.{length-take-le}
+use mathlib.Core.Path.{_≡_, sym}
+use lib.Seq.{length-sets, length-take-le}
+use lib.ListN.{length}
+use native.Mathlib.Omega.{arith}
 use borrow.Author.Needs.{needs}
 use Rattle.table_adjustment.proofs.print_tests.Statement.{statement}
 use Rattle.table_adjustment.proofs.print_tests.Tie as tie
-
-slice-aggregate-text : tie.Need-slice-aggregate-text
-slice-aggregate-text c = search needs
 
 text-requires : tie.Need-text-requires
 text-requires c κs = search needs
 
 array-share-prefix-out : tie.Need-array-share-prefix-out
-array-share-prefix-out c = search needs
+array-share-prefix-out c = let e : length (c .text .last .1 .0) ≡ 512 = rw (c .text .ensures .1, length-sets) in omega (arith, c .text .ensures .0 .1)
 
 slice-aggregate-write-all : tie.Need-slice-aggregate-write-all
-slice-aggregate-write-all c = sym (length-take-le _ (c .before .before .text .last .1 .0) (search needs))
+slice-aggregate-write-all c =
+    let e : length (c .before .text .last .1 .0) ≡ 512 = rw (c .before .text .ensures .1, length-sets) in
+    sym (length-take-le (c .before .text .result) (c .before .text .last .1 .0) (omega (arith, c .before .text .ensures .0 .1)))
 
 write-all-requires : tie.Need-write-all-requires
 write-all-requires c κs = search needs
@@ -30,7 +31,6 @@ pub print-tests-spec : {M : Type 1} → statement M
 print-tests-spec =
     tie.close
     (tie.spec
-    slice-aggregate-text
     text-requires
     array-share-prefix-out
     slice-aggregate-write-all
