@@ -48,13 +48,20 @@ markText inside = cond inside (codes " inside\n") (codes " outside\n")
 unfoldable pub fieldsText : Entry → List ℕ
 fieldsText e = codes "rank " ++ decimal 3 (e .rank) ++ codes " F " ++ numberText (e .f) ++ codes " df " ++ numberText (e .df) ++ markText (e .inside)
 
+-- the line of coefficient i, and that of the contrast
+abbrev pub coefficientText : ℕ → Entry → List ℕ
+coefficientText i e = codes "coef " ++ (digit i ∷ []) ++ codes " " ++ fieldsText e
+
+abbrev pub contrastText : Entry → List ℕ
+contrastText e = codes "test " ++ fieldsText e
+
 -- an entry that is not in use has rank 0, and no line
 unfoldable pub coefficientLine : ℕ → Entry → List ℕ
-coefficientLine i e = cond (eqb (e .rank) 0) [] (codes "coef " ++ (digit i ∷ []) ++ codes " " ++ fieldsText e)
+coefficientLine i e = cond (eqb (e .rank) 0) [] (coefficientText i e)
 
 -- "No contrast, no `test` line."
 unfoldable pub testLine : Entry → List ℕ
-testLine e = cond (eqb (e .rank) 0) [] (codes "test " ++ fieldsText e)
+testLine e = cond (eqb (e .rank) 0) [] (contrastText e)
 
 -- the lines of the first k coefficients
 unfoldable pub coefficientLines : ℕ → List Entry → List ℕ
@@ -72,3 +79,12 @@ linesText es = coefficientLines 6 es ++ testLine (getD es 6 noEntry)
 -- the whole text: an accepted run has the number 0
 unfoldable pub textOf : ℕ → List Entry → List ℕ
 textOf number es = cond (eqb number 0) (linesText es) (refusalText number)
+
+-- What stands there for an accepted series, by its sizes and with no look at a rank: a line for each of its p coefficients, and the contrast's where it has rows
+-- (`text-is`, records_kenward_roger, Answers).
+unfoldable pub coefficientTexts : ℕ → List Entry → List ℕ
+coefficientTexts zero es = []
+coefficientTexts (suc k) es = coefficientTexts k es ++ coefficientText k (getD es k noEntry)
+
+unfoldable pub seriesText : ℕ → ℕ → List Entry → List ℕ
+seriesText p rows es = coefficientTexts p es ++ cond (eqb rows 0) [] (contrastText (getD es 6 noEntry))

@@ -9,12 +9,12 @@ use mathlib.Core.List.{List, [], _∷_, _++_, append-assoc, append-nil}
 use lib.Dec.{T, eqb}
 use lib.ListN.{length, getD, take, drop, replicate, length-append}
 use lib.Seq.{sets, split-at, take-suc, length-take-le}
-use lib.Ieee.{binary64, fits, toBits, ofBits}
+use lib.Ieee.{Float, binary64, fits, isNan, toBits, ofBits}
 use lib.Ieee.Bits.{ofBits-toBits, toBits-lt}
 use Rattle.tests.specs.declared.Number.{Number}
 use Rattle.tests.specs.declared.Number.the-variants.{Is, None}
 use Rattle.tests.specs.declared.Entry.{Entry}
-use Rattle.tests.specs.Answer.{isGiven, noEntry}
+use Rattle.tests.specs.Answer.{numberOf, isGiven, noEntry}
 use Rattle.records.specs.Bytes.{byte, word, long, bytesOf}
 use Rattle.records_little_endian.proofs.StoreLaws.{sets-append}
 use Rattle.records_little_endian.proofs.ReadLaws.{length-bytes, long-back, byte-after, long-after}
@@ -76,6 +76,14 @@ store a es i d h =
 abbrev pub Held : Number → Type 0
 Held (Is x) = T (fits binary64 x)
 Held None = Unit {0}
+
+pub number-held : (x : Float) → T (fits binary64 x) → Held (numberOf x)
+unfolding numberOf
+number-held x h = go (isNan x)
+  where
+    go : (b : Bool) → Held (cond b None (Is x))
+    go true = tt
+    go false = h
 
 bits-lt : (n : Number) → Held n → bitsOf n < 2 ^ 64
 unfolding bitsOf

@@ -2,3 +2,5 @@
 pub mod Blocks
 pub mod Numbers
 pub mod Calls
+pub mod Contrasts
+pub mod Answers

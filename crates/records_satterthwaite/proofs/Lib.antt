@@ -3,4 +3,5 @@ pub mod Gathers
 pub mod Absent
 pub mod Read
 pub mod Judged
+pub mod Answers
 pub mod Bench
