@@ -22,7 +22,7 @@ use Rattle.tests.specs.declared.Number.{Number}
 use Rattle.tests.specs.declared.Entry.{Entry}
 use Rattle.tests.specs.Moments.{a1Of, a2Of, dfOf, scalingOf, fOf}
 use Rattle.tests.specs.KenwardRoger.{scalingSeen, difference, thetaOf, uOf, uStack, uValues, aRows, xRows, thetaPhi, us, ldRows, vRows, yRows, waldMarked, waldNumber, testSeen, a1, a2, tested}
-use Rattle.tests_kr_modcomp.specs.joints.Parts.{scaledOf, basisOf, waldOf, waldNumberOf, thetaSeenOf, waldSeenOf, entryOf, waldEntryOf, thetaEntryOf}
+use Rattle.tests_kr_modcomp.specs.joints.Parts.{scaledOf, basisOf, scalingSeenOf, waldOf, waldNumberOf, thetaSeenOf, waldSeenOf, entryOf, waldEntryOf, thetaEntryOf}
 use Rattle.tests.specs.Both.{stackSeen}
 
 -- a choice between false and z is a conjunction
@@ -43,29 +43,29 @@ module _ (N p : ℕ) (tp : MarkedRows) (ps : List MarkedRows) (phi : MarkedRows)
   u-seen-step all r d = rw u-at at d
 
 -- the entry, from the moments
-pub entry-is : (c : Cutoffs) (N p q : ℕ) (w : Rows) (us : List MarkedRows) (wald : Number) (seen : Marked) (plain : List Rows) (x y : Float) (scaling f df : Number)
-    → plain ≡ uValues N p us → x ≡ a1Of N p w plain → y ≡ a2Of N p w plain → scaling ≡ scalingOf c q x y → f ≡ fOf q scaling wald → df ≡ dfOf c q x y
-    → _≡_ {A = Entry} (record { f = f; df = df; rank = q; inside = seen .inside }) (entryOf c N p q w us wald seen)
+pub entry-is : (c : Cutoffs) (N p q : ℕ) (w : Rows) (plain : List Rows) (wald : Number) (seen : Marked) (x y : Float) (scaling f df : Number)
+    → x ≡ a1Of N p w plain → y ≡ a2Of N p w plain → scaling ≡ scalingOf c q x y → f ≡ fOf q scaling wald → df ≡ dfOf c q x y
+    → _≡_ {A = Entry} (record { f = f; df = df; rank = q; inside = seen .inside }) (entryOf c N p q w plain wald seen)
 unfolding entryOf
-entry-is c N p q w us wald seen plain x y scaling f df e1 e2 e3 e4 e5 e6 = rw (← e1, ← e2, ← e3, ← e4, ← e5, ← e6)
+entry-is c N p q w plain wald seen x y scaling f df e1 e2 e3 e4 e5 = rw (← e1, ← e2, ← e3, ← e4, ← e5)
 
 -- the entry, from A, A⁻¹L, ΘΦ, the marks of these, and the values and the marks of the u_i
 pub theta-entry-is : (c : Cutoffs) (N p q : ℕ) (w : Rows) (phi : MarkedRows) (ps : List MarkedRows) (l d ld v y : MarkedRows) (seen : Marked) (a x tp : MarkedRows) (before all : Marked)
     (plain : List Rows) (r : Entry)
     → a ≡ sandwich marks 6 6 q p l phi → x ≡ solution marks 6 12 6 q p a l → tp ≡ product marks 6 6 p p p (thetaOf p q l x) phi
     → before ≡ thetaSeenOf p q d a x tp seen → all ≡ stackSeen N p (uStack N p tp ps phi) before
-    → plain ≡ uValues N p (uStack N p tp ps phi) → ((us : List MarkedRows) → plain ≡ uValues N p us → r ≡ waldEntryOf c N p q w us ld v y all)
+    → plain ≡ uValues N p (uStack N p tp ps phi) → r ≡ waldEntryOf c N p q w plain ld v y all
     → r ≡ thetaEntryOf c N p q w phi ps l d ld v y seen
 unfolding thetaEntryOf
-theta-entry-is c N p q w phi ps l d ld v y seen a x tp before all plain r e1 e2 e3 e4 e5 e6 e7 = rw (← e1, ← e2, ← e3, ← e4, ← e5) (e7 (uStack N p tp ps phi) e6)
+theta-entry-is c N p q w phi ps l d ld v y seen a x tp before all plain r e1 e2 e3 e4 e5 e6 e7 = rw (← e1, ← e2, ← e3, ← e4, ← e5, ← e6) e7
 
 module _ (c : Cutoffs) (p N : ℕ) (phi phiA : MarkedRows) (ps : List MarkedRows) (w : Rows) (beta betaH : List Float) (rows : Rows) (q : ℕ) (seen : Marked)
     (l d ld v : MarkedRows) (e1 : l ≡ givenCells 6 6 q p rows) (e2 : d ≡ difference p beta betaH) (e3 : ld ≡ product marks 6 6 q p 1 l d)
     (e4 : v ≡ sandwich marks 6 6 q p l phiA) where
   -- the test's entry, from L, D, LD, v and Y
-  pub tested-is : (y : MarkedRows) (all : Marked) (r : Entry) → y ≡ solution marks 6 12 6 q 1 v ld → all ≡ scalingSeen (scaledOf p N phi phiA ps w) seen
+  pub tested-is : (y : MarkedRows) (all : Marked) (r : Entry) → y ≡ solution marks 6 12 6 q 1 v ld → all ≡ scalingSeenOf p N phi phiA ps seen
       → r ≡ thetaEntryOf c N p q w phi ps l d ld v y all → r ≡ tested c (scaledOf p N phi phiA ps w) beta betaH (basisOf rows q seen) .entry
-  unfolding tested aRows xRows thetaPhi us ldRows vRows yRows waldMarked waldNumber testSeen a1 a2 thetaEntryOf waldEntryOf entryOf waldOf waldNumberOf thetaSeenOf waldSeenOf
+  unfolding tested scalingSeen scalingSeenOf aRows xRows thetaPhi us ldRows vRows yRows waldMarked waldNumber testSeen a1 a2 thetaEntryOf waldEntryOf entryOf waldOf waldNumberOf thetaSeenOf waldSeenOf
   tested-is y all r e5 e6 e7 = rw (← e1, ← e2, ← e3, ← e4, ← e5, ← e6) e7
 
   -- whether it is refused, from the pivots of A and of v

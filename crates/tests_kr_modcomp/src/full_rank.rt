@@ -1,13 +1,12 @@
 // One Kenward–Roger contrast test, from a basis and the scaled matrices to its entry. Every step but the moments carries its mark.
 ghost use mathlib.Core.Path.{_≡_};
 ghost use Prim.Native.Nat.{_≤_};
-ghost use mathlib.Core.List.{List};
 ghost use Rattle.algebra.specs.Kind.{marks};
 ghost use Rattle.algebra.specs.Product.{product};
 ghost use Rattle.algebra.specs.Elimination.{refused};
-ghost use Rattle.algebra.specs.Small.{MarkedRows, Rows, sandwich};
-ghost use Rattle.tests.specs.KenwardRoger.{scaledPs, scalingSeen, difference, thetaOf, uOf, uStack, uValues, waldMany, tested, unitRow};
-ghost use Rattle.tests_kr_modcomp.specs.joints.Parts.{scaledOf, basisOf, waldOf, waldNumberOf, thetaSeenOf, waldSeenOf, entryOf, waldEntryOf, thetaEntryOf};
+ghost use Rattle.algebra.specs.Small.{sandwich};
+ghost use Rattle.tests.specs.KenwardRoger.{scaledPs, difference, thetaOf, uOf, uStack, uValues, waldMany, tested, unitRow};
+ghost use Rattle.tests_kr_modcomp.specs.joints.Parts.{scaledOf, basisOf, scalingSeenOf, waldOf, waldNumberOf, thetaSeenOf, waldSeenOf, entryOf, waldEntryOf, thetaEntryOf};
 ghost use Rattle.tests.specs.Both.{stackSeen};
 use adjustment_response_units::scaled_down;
 use algebra_elimination_marked::solve;
@@ -139,7 +138,7 @@ pub fn scaling_seen(
     seen: Marked,
 ) -> Marked
     requires { ⌜ (n ≤ 4) × (p ≤ 6) ⌝ }
-    ensures { λ r. ⌜ ((w : Rows) → r ≡ scalingSeen (scaledOf p n phi «phi_a» ps w) seen) ⌝ }
+    ensures { λ r. ⌜ r ≡ scalingSeenOf p n phi «phi_a» ps seen ⌝ }
 {
     let first = all_marks(phi, p, p, seen);
     let second = all_marks(phi_a, p, p, first);
@@ -245,7 +244,7 @@ pub fn entry_of(
     seen: Marked,
 ) -> Entry
     requires { ⌜ (n ≤ 4) × (p ≤ 6) × (q ≤ 6) ⌝ }
-    ensures { λ r. ⌜ ((us : List MarkedRows) → plain ≡ uValues n p us → r ≡ entryOf c n p q w us wald seen) ⌝ }
+    ensures { λ r. ⌜ r ≡ entryOf c n p q w plain wald seen ⌝ }
 {
     let a1 = a1_of(plain, w, n, p);
     let a2 = a2_of(plain, w, n, p);
@@ -274,7 +273,7 @@ pub fn wald_entry(
     seen: Marked,
 ) -> Entry
     requires { ⌜ (n ≤ 4) × (p ≤ 6) × (q ≤ 6) ⌝ }
-    ensures { λ r. ⌜ ((us : List MarkedRows) → plain ≡ uValues n p us → r ≡ waldEntryOf c n p q w us ld v y seen) ⌝ }
+    ensures { λ r. ⌜ r ≡ waldEntryOf c n p q w plain ld v y seen ⌝ }
 {
     let wald = solve_wald_quadratic(v, ld, y, q);
     let number = wald_number(v, wald, q);

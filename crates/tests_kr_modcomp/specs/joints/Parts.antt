@@ -28,6 +28,10 @@ scaledOf p N phi phiA ps w = record { p = p; matrices = N; phi = phi; phiA = phi
 abbrev pub basisOf : Rows → ℕ → Marked → Basis
 basisOf rows q seen = record { rows = rows; rank = q; seen = seen }
 
+-- the marks of Φ, Φ_A and the Ps, after what was seen before
+unfoldable pub scalingSeenOf : ℕ → ℕ → MarkedRows → MarkedRows → List MarkedRows → Marked → Marked
+scalingSeenOf p N phi phiA ps seen = stackSeen N p ps (allMarks p p phiA (allMarks p p phi seen))
+
 -- Wald with its mark, from LD, v = LΦ_ALᵀ and Y; +0 where it is none
 unfoldable pub waldOf : ℕ → MarkedRows → MarkedRows → MarkedRows → Marked
 waldOf q ld v y = cond (eqb q 1) (cond (isPositive (at marks v 0 0 .value)) (squareOne (at marks ld 0 0) (at marks v 0 0)) (given plusZero)) (waldMany q ld y)
@@ -44,10 +48,9 @@ thetaSeenOf p q d a x tp seen = allMarks p p tp (allMarks q p x (allMarks q q a 
 unfoldable pub waldSeenOf : ℕ → MarkedRows → MarkedRows → MarkedRows → Marked → Marked → Marked
 waldSeenOf q ld v y wald seen = let s4 : Marked = allMarks q q v (allMarks q 1 ld seen) in also (cond (eqb q 1) s4 (allMarks q 1 y s4)) wald
 
--- the entry, from the u_i, Wald and what was seen
-unfoldable pub entryOf : Cutoffs → ℕ → ℕ → ℕ → Rows → List MarkedRows → Number → Marked → Entry
-entryOf c N p q w us wald seen =
-    let vs : List Rows = uValues N p us in
+-- the entry, from the values of the u_i, Wald and what was seen
+unfoldable pub entryOf : Cutoffs → ℕ → ℕ → ℕ → Rows → List Rows → Number → Marked → Entry
+entryOf c N p q w vs wald seen =
     record {
       f = fOf q (scalingOf c q (a1Of N p w vs) (a2Of N p w vs)) wald;
       df = dfOf c q (a1Of N p w vs) (a2Of N p w vs);
@@ -55,11 +58,11 @@ entryOf c N p q w us wald seen =
       inside = seen .inside;
     }
 
--- the entry, from the u_i, LD, v, Y and what was seen before these
-unfoldable pub waldEntryOf : Cutoffs → ℕ → ℕ → ℕ → Rows → List MarkedRows → MarkedRows → MarkedRows → MarkedRows → Marked → Entry
-waldEntryOf c N p q w us ld v y seen =
+-- the entry, from the values of the u_i, LD, v, Y and what was seen before these
+unfoldable pub waldEntryOf : Cutoffs → ℕ → ℕ → ℕ → Rows → List Rows → MarkedRows → MarkedRows → MarkedRows → Marked → Entry
+waldEntryOf c N p q w vs ld v y seen =
     let wald : Marked = waldOf q ld v y in
-    entryOf c N p q w us (waldNumberOf q v wald) (waldSeenOf q ld v y wald seen)
+    entryOf c N p q w vs (waldNumberOf q v wald) (waldSeenOf q ld v y wald seen)
 
 -- the entry, from L, D, LD, v, Y and what was seen of the basis and the scaling
 unfoldable pub thetaEntryOf : Cutoffs → ℕ → ℕ → ℕ → Rows → MarkedRows → List MarkedRows → MarkedRows → MarkedRows → MarkedRows → MarkedRows → MarkedRows → Marked → Entry
@@ -68,4 +71,4 @@ thetaEntryOf c N p q w phi ps l d ld v y seen =
     let x : MarkedRows = solution marks 6 12 6 q p a l in
     let tp : MarkedRows = product marks 6 6 p p p (thetaOf p q l x) phi in
     let us : List MarkedRows = uStack N p tp ps phi in
-    waldEntryOf c N p q w us ld v y (stackSeen N p us (thetaSeenOf p q d a x tp seen))
+    waldEntryOf c N p q w (uValues N p us) ld v y (stackSeen N p us (thetaSeenOf p q d a x tp seen))

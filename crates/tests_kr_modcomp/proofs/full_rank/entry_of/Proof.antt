@@ -26,7 +26,7 @@ returns : tie.Need-returns
 returns c =
     let a1 = c .before .before .before .before .a1-of .ensures in
     let a2 = c .before .before .before .a2-of .ensures in
-    λ us e. entry-is _ _ _ _ _ us _ _ _ _ _ _ _ _ e a1 a2 (c .before .before .scaling-of .ensures) (c .before .f-of .ensures) (c .df-of .ensures)
+    entry-is _ _ _ _ _ _ _ _ _ _ _ _ _ a1 a2 (c .before .before .scaling-of .ensures) (c .before .f-of .ensures) (c .df-of .ensures)
 
 pub entry-of-spec : {M : Type 1} → statement M
 entry-of-spec =

@@ -32,7 +32,7 @@ returns c =
     let ld = c .before .before .before .before .before .before .product .ensures in
     let v = c .before .before .before .before .before .sandwich .ensures in
     let y = c .before .before .before .solve .ensures in
-    let all = c .before .before .scaling-seen .ensures _ in
+    let all = c .before .before .scaling-seen .ensures in
     let entry = c .theta-entry .ensures in
     (tested-is _ _ _ _ _ _ _ _ _ _ _ _ _ _ _ _ l d ld v _ _ _ (y .0) all (entry .0), refused-is _ _ _ _ _ _ _ _ _ _ _ _ _ _ _ _ l d ld v _ _ (entry .1) (y .1))
 

@@ -1,5 +1,5 @@
 -- `tests_kr_modcomp::full_rank::scaling_seen` meets its contract.
-use Rattle.tests.specs.KenwardRoger.{scalingSeen}
+use Rattle.tests_kr_modcomp.specs.joints.Parts.{scalingSeenOf}
 use borrow.Author.Needs.{needs}
 use Rattle.tests_kr_modcomp.proofs.full_rank.scaling_seen.Statement.{statement}
 use Rattle.tests_kr_modcomp.proofs.full_rank.scaling_seen.Tie as tie
@@ -14,8 +14,8 @@ stack-seen-requires : tie.Need-stack-seen-requires
 stack-seen-requires c κs = search needs
 
 returns : tie.Need-returns
-unfolding scalingSeen
-returns c = λ w. rw (← (c .before .before .all-marks .ensures), ← (c .before .all-marks2 .ensures)) (c .stack-seen .ensures)
+unfolding scalingSeenOf
+returns c = rw (← (c .before .before .all-marks .ensures), ← (c .before .all-marks2 .ensures)) (c .stack-seen .ensures)
 
 pub scaling-seen-spec : {M : Type 1} → statement M
 scaling-seen-spec =

@@ -18,7 +18,7 @@ entry-of-requires c κs = search needs
 
 returns : tie.Need-returns
 unfolding waldEntryOf
-returns c = λ us e. rw (← c .before .before .before .solve-wald-quadratic .ensures, ← c .before .before .wald-number .ensures, ← c .before .wald-seen .ensures) (c .entry-of .ensures us e)
+returns c = rw (← c .before .before .before .solve-wald-quadratic .ensures, ← c .before .before .wald-number .ensures, ← c .before .wald-seen .ensures) (c .entry-of .ensures)
 
 pub wald-entry-spec : {M : Type 1} → statement M
 wald-entry-spec =
