@@ -24,7 +24,7 @@ use Rattle.tests.specs.KenwardRoger.{Scaled, tested, unitRow, coefficientTest, 
 use Rattle.tests.specs.Used.{inUse}
 
 -- every element of a list of equals, one past the end too
-all-alike : {A : Type 0} (n i : ℕ) (a : A) → getD (replicate n a) i a ≡ a
+pub all-alike : {A : Type 0} (n i : ℕ) (a : A) → getD (replicate n a) i a ≡ a
 all-alike zero i a = refl
 all-alike (suc n) zero a = refl
 all-alike (suc n) (suc i) a = all-alike n i a
@@ -95,7 +95,7 @@ module _ (c : Cutoffs) (s : Scaled) (beta : List Float) where
         go false true false k m n e = absurd (true≢false e)
 
     module _ (P : s .p ≤ 6) (R : rows ≤ 6) (given : (rows ≡ 0 → ⊥) → Contrast rows (s .p) l) where
-      -- the contrast's entry has a rank
+      -- the rank of the contrast's entry is at least 1
       pub contrast-least : (rows ≡ 0 → ⊥) → 1 ≤ contrastTest c s beta betaH rows l .entry .rank
       contrast-least h =
           let g = given h in
