@@ -1,4 +1,4 @@
--- Document 01's `pulltest` example and the refusal table's examples, read by computation over the definitions.
+-- Document 01's `pulltest` example and the refusal table's own examples, read by computation over the definitions.
 use Prim.Native.Nat.{ℕ, _+_}
 use mathlib.Core.Path.{_≡_, refl}
 use mathlib.Core.Bool.{Bool, true, false}
@@ -16,42 +16,83 @@ use Rattle.records.specs.Series.{sizes, blockOf, incomplete, badSize, ba
 abbrev pub recordOf : ℕ → ℕ → ℕ → ℕ → ℕ → List ℕ
 recordOf k r c m b = k ∷ r ∷ c ∷ 0 ∷ (bytesOf 4 m ++ bytesOf 8 b)
 
-abbrev one : ℕ
+-- the bits of some numbers
+abbrev pub one : ℕ
 one = 0x3ff0000000000000
 
--- X 1,1, Φ 0.5, β 6, contrast 1 and this sigma2
-abbrev series : ℕ → List ℕ
-series sigma2 = recordOf 1 0 0 0 one ++ (recordOf 1 1 0 0 one ++ (recordOf 6 0 0 0 0x3fe0000000000000 ++ (recordOf 7 0 0 0 sigma2 ++ (recordOf 8 0 0 0 0x4018000000000000 ++ recordOf 9 0 0 0 one))))
+abbrev pub minusOne : ℕ
+minusOne = 0xbff0000000000000
 
--- the same with one record more
-abbrev with : ℕ → ℕ → ℕ → ℕ → ℕ → List ℕ
-with k r c m b = series 0x4020000000000000 ++ recordOf k r c m b
+abbrev pub infinity : ℕ
+infinity = 0x7ff0000000000000
+
+-- X 1,1 and Φ 0.5, with this sigma2 and this β
+abbrev pub bare : ℕ → ℕ → List ℕ
+bare sigma2 beta = recordOf 1 0 0 0 one ++ (recordOf 1 1 0 0 one ++ (recordOf 6 0 0 0 0x3fe0000000000000 ++ (recordOf 7 0 0 0 sigma2 ++ recordOf 8 0 0 0 beta)))
+
+-- `pulltest`'s: sigma2 8, β 6
+abbrev pub plain : List ℕ
+plain = bare 0x4020000000000000 0x4018000000000000
+
+-- and its contrast, 1, with further records
+abbrev pub with : List ℕ → List ℕ
+with more = plain ++ (recordOf 9 0 0 0 one ++ more)
+
+-- the weights 1 and -1, and a block of k = 2 with one group, two columns of Z and two thetas
+abbrev pub oneBadWeight : List ℕ
+oneBadWeight = recordOf 5 0 0 0 one ++ recordOf 5 1 0 0 minusOne
+
+abbrev pub twoThetas : List ℕ
+twoThetas = recordOf 3 0 2 1 0 ++ (recordOf 2 0 1 0 one ++ (recordOf 4 0 0 0 one ++ recordOf 4 1 0 0 one))
 
 pub record Read : Type 0 where
-  pub taken : refusal (series 0x4020000000000000) ≡ 0
+  pub taken : refusal (with []) ≡ 0
+  pub noContrast : refusal plain ≡ 0
+  -- 2, "empty file", and the other causes
   pub empty : refusal [] ≡ 2
   pub torn : refusal (0 ∷ []) ≡ 2
-  pub twice : refusal (with 1 0 0 0 one) ≡ 2
-  pub beyondN : refusal (with 2 2 0 0 one) ≡ 2
-  pub noContrast : refusal (with 11 0 0 0 one) ≡ 2
-  pub manyEffects : refusal (with 3 0 3 1 0) ≡ 3
-  pub allEffects : refusal (with 3 0 255 1 0) ≡ 3
-  pub infinite : refusal (series 0x7ff0000000000000) ≡ 4
-  pub zeroVariance : refusal (series 0) ≡ 5
-  pub noGroup : refusal (with 3 0 1 1 0) ≡ 7
+  pub twice : refusal (with (recordOf 1 0 0 0 one)) ≡ 2
+  pub beyondN : refusal (with (recordOf 2 2 0 0 one)) ≡ 2
+  pub badKind : refusal (with (recordOf 11 0 0 0 one)) ≡ 2
+  -- "10 without 9 counts as beyond the sizes"; with 9 it is taken
+  pub hypothesisAlone : refusal (plain ++ recordOf 10 0 0 0 one) ≡ 2
+  pub hypothesis : refusal (with (recordOf 10 0 0 0 one)) ≡ 0
+  -- 3, "block of k = 3"
+  pub manyEffects : refusal (with (recordOf 3 0 3 1 0)) ≡ 3
+  pub allEffects : refusal (with (recordOf 3 0 255 1 0)) ≡ 3
+  -- 4, "β = infinity"
+  pub infinite : refusal (bare one infinity) ≡ 4
+  -- 5, "0"
+  pub zeroVariance : refusal (bare 0 one) ≡ 5
+  -- 6, "-1"
+  pub negativeWeight : refusal (with oneBadWeight) ≡ 6
+  -- 7, "k = 2, two thetas"
+  pub fewThetas : refusal (with twoThetas) ≡ 7
+  pub noGroup : refusal (with (recordOf 3 0 1 1 0)) ≡ 7
+  -- 8, "row 0"
+  pub zeroRow : refusal (plain ++ recordOf 9 0 0 0 0) ≡ 8
+  -- "lowest number first": a file with two faults gives the lower number
+  pub lowestFirst : refusal (bare 0 one ++ oneBadWeight) ≡ 5
 
 pub read : Read
 unfolding refusal reasons first sizes incomplete badSize badWeight misfit zeroContrast blockOf outOf badRecord isCell again has cell rows columns beyond missing notFinite kindAt kenwardRoger any most last total word long bytesOf isFinite isZero ofBits le eq
 read = record {
   taken = refl;
+  noContrast = refl;
   empty = refl;
   torn = refl;
   twice = refl;
   beyondN = refl;
-  noContrast = refl;
+  badKind = refl;
+  hypothesisAlone = refl;
+  hypothesis = refl;
   manyEffects = refl;
   allEffects = refl;
   infinite = refl;
   zeroVariance = refl;
+  negativeWeight = refl;
+  fewThetas = refl;
   noGroup = refl;
+  zeroRow = refl;
+  lowestFirst = refl;
 }
