@@ -18,7 +18,7 @@ use Rattle.records.specs.Kinds.{Table, kindAt}
 use Rattle.records.specs.File.{count, kindOf, rowOf, columnOf, countOf, bitsOf, valueOf, isCell, cell, badRecord, notFinite}
 use Rattle.converter.specs.Converted.{Change, converted}
 use Rattle.converter.proofs.Fields.{Alike, converted-alike, bits-other, value-other, value-new}
-use Rattle.converter.proofs.Scans.{any-same, last-both, last-holds}
+use Rattle.records.proofs.ScanLaws.{any-same, last-both, last-holds}
 use Rattle.converter.proofs.SameFile.{count-same, isCell-same, badRecord-same}
 
 -- a record that names a cell has its kind and row

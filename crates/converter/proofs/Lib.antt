@@ -1,7 +1,6 @@
 -- The laws of the converted file.
 pub mod Bytes
 pub mod Fields
-pub mod Scans
 pub mod SameFile
 pub mod SameSeries
 pub mod Cells

@@ -8,32 +8,13 @@ use lib.Dec.{T, eqb, ltb, ltb→lt, eqb→eq}
 use Rattle.arithmetic.proofs.PlainLaws.{of-eq, clash}
 use Rattle.arithmetic.proofs.RangeTest.{or-cases}
 use mathlib.Core.Logic.{_⊎_, inl, inr}
+use borrow.Author.Tests.{not-false}
 use Rattle.records.specs.declared.Kind.{Kind}
 use Rattle.algebra.specs.Reasons.{first}
 use Rattle.records.specs.Scan.{any, most}
 use Rattle.records.specs.Kinds.{Table, kindAt}
 use Rattle.records.specs.File.{count, kindOf, rowOf, columnOf, paddingOf, countOf, bitsOf, outOf, badRecord, rows, columns, beyond}
-
--- neither part of a condition that does not hold holds
-pub or-none : (a b : Bool) → (a || b) ≡ false → (a ≡ false) × (b ≡ false)
-or-none true b h = absurd (true≢false h)
-or-none false b h = (refl, h)
-
-pub not-none : (b : Bool) → not b ≡ false → b ≡ true
-not-none true h = refl
-not-none false h = absurd (true≢false h)
-
-pub any-none : (n : ℕ) (p : ℕ → Bool) → any n p ≡ false → (i : ℕ) → i < n → p i ≡ false
-unfolding any
-any-none zero p h i l = absurd (omega arith)
-any-none (suc n) p h i l = let e = or-none (any n p) (p n) h in go (native.Mathlib.Nat.eq-or-lt-of-le (below i n l)) (any-none n p (e .0)) (e .1)
-  where
-    below : (i n : ℕ) → i < suc n → i ≤ n
-    below i n h = omega arith
-
-    go : (i ≡ n) ⊎ (i < n) → ((j : ℕ) → j < n → p j ≡ false) → p n ≡ false → p i ≡ false
-    go (inl q) f e = ap p q ∙ e
-    go (inr q) f e = f i q
+use Rattle.records.proofs.ScanLaws.{or-false, any-none, most-le}
 
 -- the first condition does not hold, nor any later one
 pub passed : (n : ℕ) (b : Bool) (cs : List (ℕ × Bool)) → first ((suc n, b) ∷ cs) ≡ 0 → (b ≡ false) × (first cs ≡ 0)
@@ -43,20 +24,6 @@ passed n true cs h = absurd (positive n h)
     positive : (n : ℕ) → suc n ≡ 0 → ⊥
     positive n h = omega arith
 passed n false cs h = (refl, h)
-
-pub most-bound : (n b : ℕ) (f : ℕ → ℕ) → ((i : ℕ) → i < n → f i ≤ b) → most n f ≤ b
-unfolding most
-most-bound zero b f h = omega arith
-most-bound (suc n) b f h = larger (most n f) (f n) b (most-bound n b f (λ i l. h i (up i n l))) (h n (end n))
-  where
-    larger : (x y b : ℕ) → x ≤ b → y ≤ b → max x y ≤ b
-    larger x y b h k = omega arith
-
-    up : (i n : ℕ) → i < n → i < suc n
-    up i n h = omega arith
-
-    end : (n : ℕ) → n < suc n
-    end n = omega arith
 
 -- record i names a row, and unless it is a block a column and a count, below the kind's
 pub record Within (k : Kind) (s : List ℕ) (i : ℕ) : Type 0 where
@@ -70,15 +37,15 @@ within k s i h =
     let L = not (ltb (rowOf s i) (k .rows)) in
     let C = not (ltb (columnOf s i) (k .columns)) in
     let N = not (ltb (countOf s i) (k .counts)) in
-    let e = or-none L (cond (k .block) false (C || N)) h in
+    let e = or-false L (cond (k .block) false (C || N)) h in
     record {
       row = less (rowOf s i) (k .rows) (e .0);
-      column = λ b. less (columnOf s i) (k .columns) (or-none C N (shut (k .block) (C || N) b (e .1)) .0);
-      number = λ b. less (countOf s i) (k .counts) (or-none C N (shut (k .block) (C || N) b (e .1)) .1);
+      column = λ b. less (columnOf s i) (k .columns) (or-false C N (shut (k .block) (C || N) b (e .1)) .0);
+      number = λ b. less (countOf s i) (k .counts) (or-false C N (shut (k .block) (C || N) b (e .1)) .1);
     }
   where
     less : (x y : ℕ) → not (ltb x y) ≡ false → x < y
-    less x y h = ltb→lt x y (of-eq (not-none (ltb x y) h))
+    less x y h = ltb→lt x y (of-eq (not-false (ltb x y) h))
 
     shut : (b x : Bool) → b ≡ false → cond b false x ≡ false → x ≡ false
     shut true x e h = clash refl e
@@ -91,17 +58,17 @@ within-limits t s h i l =
     let k : Kind = kindAt t (kindOf s i) in
     let P = not (eqb (paddingOf s i) 0) in
     let B = cond (k .block) (not (eqb (bitsOf s i) 0)) false in
-    within k s i (or-none (outOf k s i) P (or-none (outOf k s i || P) B (any-none (count s) (badRecord t s) h i l) .0) .0)
+    within k s i (or-false (outOf k s i) P (or-false (outOf k s i || P) B (any-none (count s) (badRecord t s) i l h) .0) .0)
 
 -- none lies beyond the sizes
 pub within-sizes : (z : Table) (s : List ℕ) → any (count s) (beyond z s) ≡ false → (i : ℕ) → i < count s → Within (kindAt z (kindOf s i)) s i
 unfolding beyond
-within-sizes z s h i l = within (kindAt z (kindOf s i)) s i (any-none (count s) (beyond z s) h i l)
+within-sizes z s h i l = within (kindAt z (kindOf s i)) s i (any-none (count s) (beyond z s) i l h)
 
 -- so that the sizes are within the limits
 pub rows-bound : (t : Table) (s : List ℕ) (k : ℕ) → any (count s) (badRecord t s) ≡ false → rows s k ≤ kindAt t k .rows
 unfolding rows
-rows-bound t s k h = most-bound (count s) (kindAt t k .rows) (λ i. cond (eqb (kindOf s i) k) (rowOf s i + 1) 0) (λ i l. go i (eqb (kindOf s i) k) (eqb→eq (kindOf s i) k) (within-limits t s h i l))
+rows-bound t s k h = most-le (count s) (λ i. cond (eqb (kindOf s i) k) (rowOf s i + 1) 0) (kindAt t k .rows) (λ i l. go i (eqb (kindOf s i) k) (eqb→eq (kindOf s i) k) (within-limits t s h i l))
   where
     go : (i : ℕ) (b : Bool) → (T b → kindOf s i ≡ k) → Within (kindAt t (kindOf s i)) s i → cond b (rowOf s i + 1) 0 ≤ kindAt t k .rows
     go i true e w = let q : rowOf s i < kindAt t k .rows = subst (λ (z : ℕ). rowOf s i < kindAt t z .rows) (e tt) (w .row) in omega arith
@@ -109,7 +76,7 @@ rows-bound t s k h = most-bound (count s) (kindAt t k .rows) (λ i. cond (eqb (k
 
 pub columns-bound : (t : Table) (s : List ℕ) (k : ℕ) → kindAt t k .block ≡ false → any (count s) (badRecord t s) ≡ false → columns s k ≤ kindAt t k .columns
 unfolding columns
-columns-bound t s k n h = most-bound (count s) (kindAt t k .columns) (λ i. cond (eqb (kindOf s i) k) (columnOf s i + 1) 0) (λ i l. go i (eqb (kindOf s i) k) (eqb→eq (kindOf s i) k) (within-limits t s h i l))
+columns-bound t s k n h = most-le (count s) (λ i. cond (eqb (kindOf s i) k) (columnOf s i + 1) 0) (kindAt t k .columns) (λ i l. go i (eqb (kindOf s i) k) (eqb→eq (kindOf s i) k) (within-limits t s h i l))
   where
     go : (i : ℕ) (b : Bool) → (T b → kindOf s i ≡ k) → Within (kindAt t (kindOf s i)) s i → cond b (columnOf s i + 1) 0 ≤ kindAt t k .columns
     go i true e w =

@@ -14,7 +14,7 @@ use Rattle.records.specs.Scan.{any, last}
 use Rattle.records.specs.Kinds.{Table, kindAt}
 use Rattle.records.specs.File.{count, kindOf, rowOf, columnOf, countOf, valueOf, isCell, cell, again}
 use Rattle.converter.proofs.Cells.{isCell-names}
-use Rattle.converter.proofs.Limits.{any-none}
+use Rattle.records.proofs.ScanLaws.{or-true, any-none}
 
 eqb-sym : (x y : ℕ) → eqb x y ≡ eqb y x
 eqb-sym x y = go (eqb x y) (eqb y x) (λ t. eq→eqb (sym (eqb→eq x y t))) (λ t. eq→eqb (sym (eqb→eq y x t)))
@@ -53,10 +53,6 @@ module _ (t : Table) (s : List ℕ) where
   unfolding isCell
   names-itself i = rw (is-true (eqb (kindOf s i) (kindOf s i)) (eqb-refl (kindOf s i)), is-true (eqb (rowOf s i) (rowOf s i)) (eqb-refl (rowOf s i)), is-true (eqb (countOf s i) (countOf s i)) (eqb-refl (countOf s i)), is-true (eqb (columnOf s i) (columnOf s i)) (eqb-refl (columnOf s i)))
       (or-true (kindAt t (kindOf s i) .block))
-    where
-      or-true : (b : Bool) → (b || true) ≡ true
-      or-true true = refl
-      or-true false = refl
 
   names-back : (i j : ℕ) → names i j ≡ true → names j i ≡ true
   unfolding isCell
@@ -67,7 +63,7 @@ module _ (t : Table) (s : List ℕ) where
 
   pub value-is-cell : any (count s) (again t s) ≡ false → (i : ℕ) → i < count s → cell t s (kindOf s i) (countOf s i) (rowOf s i) (columnOf s i) ≡ valueOf s i
   unfolding cell again
-  value-is-cell h i l = last-at (count s) (names i) (valueOf s) plusZero i l (names-itself i) (λ j a b. go j a (names i j) refl (any-none j (names j) (any-none (count s) (again t s) h j b) i a))
+  value-is-cell h i l = last-at (count s) (names i) (valueOf s) plusZero i l (names-itself i) (λ j a b. go j a (names i j) refl (any-none j (names j) i a (any-none (count s) (again t s) j b h)))
     where
       go : (j : ℕ) → i < j → (w : Bool) → names i j ≡ w → names j i ≡ false → names i j ≡ false
       go j a true e f = clash (names-back i j e) f

@@ -16,7 +16,7 @@ use Rattle.records.specs.File.{count, badRecord, again, beyond, present, notFin
 use Rattle.records.specs.Series.{specimens, coefficients, contrastRows, sizes, cellValue, sigma2, incomplete, badSize, badWeight, misfit, zeroContrast, reasons, refusal}
 use Rattle.converter.specs.Converted.{Change, kenwardRogerChange, converted}
 use Rattle.converter.proofs.Fields.{Alike, converted-alike}
-use Rattle.converter.proofs.Scans.{any-same}
+use Rattle.records.proofs.ScanLaws.{any-same}
 use Rattle.converter.proofs.SameFile.{rows-same, columns-same, anyAgain-same, anyBeyond-same}
 use Rattle.converter.proofs.SameSeries.{sizes-same, incomplete-same, badSize-same, misfit-same}
 use Rattle.converter.proofs.Cells.{Exact, cell-other, cell-moves, anyNotFinite-same, anyBad-same}

@@ -9,7 +9,7 @@ use Rattle.records.specs.Scan.{any, most}
 use Rattle.records.specs.Kinds.{Table, kindAt}
 use Rattle.records.specs.File.{count, kindOf, rowOf, columnOf, paddingOf, countOf, bitsOf, outOf, badRecord, isCell, again, has, rows, columns, present, beyond, missing}
 use Rattle.converter.proofs.Fields.{Alike}
-use Rattle.converter.proofs.Scans.{any-same, most-same}
+use Rattle.records.proofs.ScanLaws.{any-same, most-same}
 
 module _ {s s' : List ℕ} (a : Alike s s') where
   pub count-same : count s' ≡ count s

@@ -11,7 +11,7 @@ use Rattle.records.specs.File.{count, columnOf, countOf, isCell, missing}
 use Rattle.records.specs.Series.{zColumns, blockCount, thetas, sizes, blockOf, incomplete, badSize, misfit}
 use Rattle.adjustment.specs.Blocks.{places}
 use Rattle.converter.proofs.Fields.{Alike}
-use Rattle.converter.proofs.Scans.{any-same, last-same, total-same}
+use Rattle.records.proofs.ScanLaws.{any-same, last-same, total-same}
 use Rattle.converter.proofs.SameFile.{count-same, rows-same, columns-same, isCell-same, missing-same}
 
 module _ {s s' : List ℕ} (a : Alike s s') where

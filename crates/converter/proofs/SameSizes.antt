@@ -4,7 +4,7 @@ use native.Mathlib.Omega.{arith}
 use mathlib.Core.Path.{_≡_, refl, sym, ap, _∙_, subst}
 use mathlib.Core.Bool.{not, _||_}
 use mathlib.Core.List.{List}
-use lib.Dec.{T, eqb, ltb, leb·zero}
+use lib.Dec.{T, eqb, ltb}
 use lib.ListN.{getD}
 use lib.Ieee.{Float, nan, binary64, fits}
 use borrow.Author.Tests.{ltb-false}
@@ -21,9 +21,9 @@ use Rattle.records.specs.Scan.{any, total}
 use Rattle.records.specs.Kinds.{kindAt, kenwardRoger}
 use Rattle.records.specs.File.{rows, columns}
 use Rattle.records.specs.Series.{specimens, coefficients, zColumns, blockCount, thetas, contrastRows, cellValue, blockOf, badSize, design, phi, beta, betaH, contrast, sigma2}
-use Rattle.converter.proofs.Scans.{total-same}
+use Rattle.records.proofs.ScanLaws.{or-false, total-same, fold-total}
 use Rattle.converter.proofs.Cells.{cell-fits}
-use Rattle.converter.proofs.Limits.{or-none, rows-bound, columns-bound}
+use Rattle.converter.proofs.Limits.{rows-bound, columns-bound}
 use Rattle.converter.proofs.Refusals.{Accepted}
 
 pub at-least : (x b : ℕ) → 1 ≤ b → x ≤ b → max 1 x ≤ b
@@ -54,18 +54,13 @@ sized s c = record {
     first x = omega arith
 
 -- ---- the blocks' parameters
-fold-total : (n : ℕ) (f : ℕ → ℕ) → fold 0 n (λ i s. s + f i) 0 ≡ total n f
-unfolding fold total
-fold-total zero f = refl
-fold-total (suc n) f = rw (leb·zero n) (ap (λ (z : ℕ). z + f n) (fold-total n f))
-
 -- "block parameters at most 3": the matrices are one more
 pub matrices-bound : (s : List ℕ) → Accepted s → matrices (design s) ≤ 4
 unfolding badSize placesBefore design
 matrices-bound s c =
     let b : ℕ = blockCount s in
     let n : ℕ = total b (λ i. places (blockOf s i)) in
-    let h : n ≤ 3 = ltb-false 3 n (or-none (any b (λ i. not (eqb (blockOf s i .effects) 1 || eqb (blockOf s i .effects) 2) || eqb (blockOf s i .groups) 0)) (ltb 3 n) (c .fitting) .1) in
+    let h : n ≤ 3 = ltb-false 3 n (or-false (any b (λ i. not (eqb (blockOf s i .effects) 1 || eqb (blockOf s i .effects) 2) || eqb (blockOf s i .groups) 0)) (ltb 3 n) (c .fitting) .1) in
     let e : fold 0 b (λ i z. z + places (blockAt (row noBlock 3 b (blockOf s)) i)) 0 ≡ n =
     fold-total b (λ i. places (blockAt (row noBlock 3 b (blockOf s)) i))
     ∙ total-same b (λ i. places (blockAt (row noBlock 3 b (blockOf s)) i)) (λ i. places (blockOf s i)) (λ i l. ap (λ (x : Block). places x) (row-at noBlock 3 b (blockOf s) i noBlock l (sized s c .blocks))) in

@@ -28,7 +28,7 @@ use Rattle.records.specs.SatterthwaiteCall.{outcome, allReasons, number, entry}
 use Rattle.tests.specs.Verdict.{verdict}
 use Rattle.converter.specs.Converted.{satterthwaiteShift, satterthwaiteChange, converted}
 use Rattle.converter.proofs.Fields.{Alike, converted-alike}
-use Rattle.converter.proofs.Scans.{any-same}
+use Rattle.records.proofs.ScanLaws.{any-same}
 use Rattle.converter.proofs.SameFile.{rows-same, columns-same, missing-same, anyAgain-same, anyBeyond-same}
 use Rattle.converter.proofs.Cells.{Exact, cell-other, cell-moves, anyNotFinite-same}
 use Rattle.converter.proofs.Limits.{Within, within-sizes, among}

@@ -1,2 +1,3 @@
--- Examples, computed from the definitions.
+-- The laws of the questions over records, and examples computed from the definitions.
+pub mod ScanLaws
 pub mod Examples

@@ -9,7 +9,7 @@ use borrow.Author.Tests.{eqb-true}
 use Rattle.records.specs.Scan.{any}
 use Rattle.records.specs.Kinds.{Table, kindAt}
 use Rattle.records.specs.File.{count, kindOf, rowOf, columnOf, badRecord, rows, columns}
-use Rattle.records_file.proofs.Laws.{any-none, most-le}
+use Rattle.records.proofs.ScanLaws.{any-none, most-le}
 use Rattle.records_file.proofs.Slots.{good-inside}
 
 module _ (t : Table) (s : List ℕ) (good : any (count s) (badRecord t s) ≡ false) where

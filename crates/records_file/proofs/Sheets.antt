@@ -17,7 +17,7 @@ use Rattle.records.specs.Scan.{any, last}
 use Rattle.records.specs.Kinds.{Table, kindAt}
 use Rattle.records.specs.File.{count, kindOf, rowOf, columnOf, countOf, valueOf, badRecord, isCell, again, has, cell}
 use Rattle.records_file.specs.joints.Sheet.{tableOf, slot, slotOf, flagsAfter, sheetAfter}
-use Rattle.records_file.proofs.Laws.{or-true, any-none, any-same, last-more, last-same}
+use Rattle.records.proofs.ScanLaws.{or-true, any-none, any-same, last-more, last-same}
 use Rattle.records_file.proofs.Slots.{Inside, good-inside, slot-cell, slot-fits}
 
 -- a list into which each record stores a value at a place: what the last that stored at j stored there
@@ -99,7 +99,7 @@ module _ (call : Bool) (s : List ℕ) (good : any (count s) (badRecord (tableOf 
   unfolding cell
   cell-value k n r c d w =
       sheet-at (tableOf call) s (count s) (slot (tableOf call) k n r c) d (slot-fits call k n r c w)
-      ∙ last-same (count s) (λ i. eqb (slotOf (tableOf call) s i) (slot (tableOf call) k n r c)) (isCell (tableOf call) s k n r c) (valueOf s) plusZero (λ i l. slot-cell (tableOf call) s k n r c i (any-none (count s) (badRecord (tableOf call) s) i l good) w)
+      ∙ last-same (count s) (λ i. eqb (slotOf (tableOf call) s i) (slot (tableOf call) k n r c)) (isCell (tableOf call) s k n r c) (valueOf s) (valueOf s) plusZero (λ i l. slot-cell (tableOf call) s k n r c i (any-none (count s) (badRecord (tableOf call) s) i l good) w) (λ i l q. refl)
 
   -- the flag at record i's slot, before it is set: an earlier record names the same cell
   pub flag-again : (i : ℕ) (d : Bool) → i < count s → getD (flagsAfter (tableOf call) s i) (slotOf (tableOf call) s i) d ≡ again (tableOf call) s i

@@ -14,7 +14,7 @@ use Rattle.records.specs.Scan.{any, total}
 use Rattle.records.specs.Kinds.{Table, kindAt, unread, kenwardRoger, satterthwaite}
 use Rattle.records.specs.File.{kindOf, rowOf, columnOf, countOf, outOf, badRecord, isCell}
 use Rattle.records_file.specs.joints.Sheet.{tableOf, slots, firstSlot, offset, slot, slotOf}
-use Rattle.records_file.proofs.Laws.{and-true, or-false, same-truth, any-none, total-more, total-le}
+use Rattle.records.proofs.ScanLaws.{and-true, or-false, same-truth, any-none, total-more, total-le}
 
 -- a cell that the kind has
 pub record Inside (z : Kind) (n r c : ℕ) : Type 0 where

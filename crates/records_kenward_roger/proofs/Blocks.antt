@@ -14,7 +14,7 @@ use Rattle.adjustment.specs.Blocks.{noBlock, blockAt, places, columnsBefore, pl
 use Rattle.adjustment_covariance.specs.joints.Bounds.{Sound}
 use Rattle.records.specs.Scan.{any, total}
 use Rattle.records.specs.Series.{blockCount, zColumns, thetas, blockOf, badSize, misfit}
-use Rattle.records_file.proofs.Laws.{or-false, any-none}
+use Rattle.records.proofs.ScanLaws.{or-false, any-none}
 use Rattle.records_series.specs.joints.Gathered.{sizesOf}
 use Rattle.records_series.proofs.Gathers.{small}
 use Rattle.records_series.proofs.Accepted.{Accepted}

@@ -9,7 +9,7 @@ use Rattle.records.specs.Scan.{any}
 use Rattle.records.specs.Kinds.{kindAt, satterthwaite}
 use Rattle.records.specs.File.{count, badRecord, has, missing}
 use Rattle.records_file.specs.joints.Sheet.{firstSlot, offset, slot, flagsAfter}
-use Rattle.records_file.proofs.Laws.{any-same}
+use Rattle.records.proofs.ScanLaws.{any-same}
 use Rattle.records_file.proofs.Slots.{Inside}
 use Rattle.records_file.proofs.Sheets.{cell-flag}
 use Rattle.records_series.specs.joints.Checks.{gapInRow, gaps}

@@ -14,7 +14,7 @@ use Rattle.records.specs.Scan.{any, total}
 use Rattle.records.specs.Kinds.{cells, kindAt, unread, satterthwaite}
 use Rattle.records.specs.File.{count, rows, columns, badRecord}
 use Rattle.records_file.specs.joints.Sheet.{firstSlot, slots}
-use Rattle.records_file.proofs.Laws.{any-none}
+use Rattle.records.proofs.ScanLaws.{any-none}
 use Rattle.records_file.proofs.Slots.{kind-low, kind-high, kind-small, each-kind}
 use Rattle.records_file.proofs.Limits.{rows-within, columns-within}
 use Rattle.records_satterthwaite.specs.declared.ParameterSizes.{ParameterSizes}

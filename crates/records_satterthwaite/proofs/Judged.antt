@@ -20,7 +20,7 @@ use Rattle.algebra.specs.Reasons.{first}
 use Rattle.records.specs.Scan.{any, last}
 use Rattle.records.specs.Kinds.{Table, kindAt, satterthwaite}
 use Rattle.records.specs.File.{count, valueOf, badRecord, again, beyond, notFinite, isCell, cell, has, missing}
-use Rattle.records_file.proofs.Laws.{any-none}
+use Rattle.records.proofs.ScanLaws.{any-none}
 use Rattle.records_satterthwaite.specs.declared.ParameterSizes.{ParameterSizes}
 use Rattle.records.specs.Parameters.{coefficients, contrastRows, parameters, sizes, incomplete, reasons, refusal}
 use Rattle.records_satterthwaite.specs.joints.Gathered.{Small, sizesOf, tableFor, malformedFile}

@@ -14,7 +14,7 @@ use Rattle.records.specs.Kinds.{kenwardRoger}
 use Rattle.records.specs.File.{count, badRecord, again, beyond, notFinite}
 use Rattle.records.specs.Series.{specimens, coefficients, zColumns, blockCount, thetas, contrastRows, blockOf, design, sizes, sigma2, incomplete, badSize, badWeight, misfit, zeroContrast, refusal}
 use Rattle.adjustment.specs.Blocks.{places, noBlock, blockAt, columnsBefore, placesBefore}
-use Rattle.records_file.proofs.Laws.{or-false, any-none}
+use Rattle.records.proofs.ScanLaws.{or-false, any-none}
 use mathlib.Core.Logic.{_⊎_, inl, inr, ⊎-elim}
 use Rattle.algebra.specs.Fold.{fold}
 use Rattle.algebra.specs.Table.{row}

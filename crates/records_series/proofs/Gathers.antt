@@ -14,7 +14,7 @@ use Rattle.adjustment.specs.declared.Block.{Block}
 use Rattle.adjustment.specs.Blocks.{noBlock, blockAt}
 use Rattle.records.specs.declared.Kind.{Kind}
 use Rattle.records_file.specs.joints.Sheet.{firstSlot, slots}
-use Rattle.records_file.proofs.Laws.{any-none}
+use Rattle.records.proofs.ScanLaws.{any-none}
 use Rattle.records_series.specs.declared.SeriesSizes.{SeriesSizes}
 use Rattle.records_series.specs.joints.Gathered.{sizesOf, tableFor, Small}
 use Rattle.records.specs.Kinds.{kindAt, unread, kenwardRoger}

@@ -12,7 +12,7 @@ use Rattle.records.specs.Kinds.{kenwardRoger}
 use Rattle.records.specs.File.{count, kindOf, rowOf, columnOf, countOf, badRecord, isCell, again}
 use Rattle.records_file.specs.joints.Sheet.{slotOf}
 use Rattle.records.specs.Series.{refusal}
-use Rattle.records_file.proofs.Laws.{any-none}
+use Rattle.records.proofs.ScanLaws.{any-none}
 use Rattle.records_file.proofs.Slots.{good-inside, slot-cell, slot-fits}
 use Rattle.records_series.specs.joints.Gathered.{malformedFile}
 use Rattle.records_series.proofs.Numbers.{refusal-cases, malformed-none}

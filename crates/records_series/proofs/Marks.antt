@@ -15,7 +15,7 @@ use Rattle.records.specs.Kinds.{Table, kindAt, kenwardRoger}
 use Rattle.records.specs.File.{count, badRecord, has, missing}
 use Rattle.records_file.specs.joints.Sheet.{firstSlot, offset, slot, flagsAfter, sheetAfter}
 use Rattle.records.specs.Series.{sizes, incomplete, cellValue}
-use Rattle.records_file.proofs.Laws.{any-same}
+use Rattle.records.proofs.ScanLaws.{any-same}
 use Rattle.records_file.proofs.Slots.{each-kind}
 use Rattle.records_file.proofs.Sheets.{cell-flag, cell-value}
 use Rattle.records_series.specs.declared.SeriesSizes.{SeriesSizes}

@@ -18,16 +18,11 @@ use Rattle.records.specs.Kinds.{kindAt, kenwardRoger}
 use Rattle.records.specs.File.{count, badRecord, again, beyond, notFinite, present}
 use Rattle.records_file.specs.joints.Sheet.{firstSlot, slots, sheetAfter}
 use Rattle.records.specs.Series.{specimens, coefficients, blockCount, contrastRows, sizes, cellValue, sigma2, blockOf, incomplete, badSize, badWeight, misfit, zeroContrast, reasons, refusal}
-use Rattle.records_file.proofs.Laws.{any-same, or-false}
+use Rattle.records.proofs.ScanLaws.{or-false, any-same, total-same}
 use Rattle.records_series.specs.joints.Gathered.{sizesOf, malformedFile}
 use Rattle.records_series.specs.joints.Checks.{nonzeroInRow, nonzeros, notPositive, wrongBlock, parametersIn, columnsIn, badSizeIn, misfitIn, badWeightIn, zeroContrastIn, lateRefusal}
 use Rattle.records_series.proofs.Gathers.{small}
 use Rattle.records_series.proofs.Marks.{number-at}
-
-total-same : (n : ℕ) (f g : ℕ → ℕ) → ((i : ℕ) → i < n → f i ≡ g i) → total n f ≡ total n g
-unfolding total
-total-same zero f g h = refl
-total-same (suc n) f g h = ap₂ _+_ (total-same n f g (λ i l. h i (omega arith))) (h n (omega arith))
 
 -- ---- the blocks
 module _ (s : List ℕ) (few : blockCount s ≤ 3) where

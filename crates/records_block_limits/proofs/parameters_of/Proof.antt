@@ -4,7 +4,7 @@ use mathlib.Core.Path.{_≡_, refl}
 use native.Mathlib.Nat.{mul-le-mul}
 use Rattle.adjustment.specs.Blocks.{blockAt}
 use Rattle.records.specs.Scan.{total}
-use Rattle.records_file.proofs.Laws.{total-more}
+use Rattle.records.proofs.ScanLaws.{total-more}
 use Rattle.records_series.specs.joints.Checks.{parametersIn}
 use native.Mathlib.Omega.{arith}
 use Rattle.records_block_limits.proofs.parameters_of.Statement.{statement}

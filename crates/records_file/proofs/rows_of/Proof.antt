@@ -6,7 +6,7 @@ use denote.Ref.{now}
 use lib.Dec.{eqb}
 use Rattle.records.specs.Scan.{most}
 use Rattle.records.specs.File.{count, kindOf, rowOf, rows}
-use Rattle.records_file.proofs.Laws.{most-more}
+use Rattle.records.proofs.ScanLaws.{most-more}
 use native.Mathlib.Omega.{arith}
 use Rattle.records_file.proofs.rows_of.Statement.{statement}
 use Rattle.records_file.proofs.rows_of.Tie as tie

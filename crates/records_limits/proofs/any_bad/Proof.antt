@@ -4,7 +4,7 @@ use mathlib.Core.Path.{_≡_, refl, sym}
 use mathlib.Core.Bool.{false}
 use denote.Ref.{now}
 use Rattle.records.specs.Scan.{any}
-use Rattle.records_file.proofs.Laws.{any-miss, any-hit}
+use Rattle.records.proofs.ScanLaws.{any-miss, any-hit}
 use Rattle.records.specs.File.{count, badRecord}
 use Rattle.records_file.specs.joints.Sheet.{tableOf}
 use native.Mathlib.Omega.{arith}

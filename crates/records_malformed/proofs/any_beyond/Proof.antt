@@ -5,7 +5,7 @@ use mathlib.Core.Bool.{false}
 use denote.Ref.{now}
 use Rattle.records.specs.Scan.{any}
 use Rattle.records.specs.File.{count, beyond}
-use Rattle.records_file.proofs.Laws.{any-miss, any-hit}
+use Rattle.records.proofs.ScanLaws.{any-miss, any-hit}
 use Rattle.records_series.specs.joints.Gathered.{tableFor}
 use native.Mathlib.Omega.{arith}
 use Rattle.records_malformed.proofs.any_beyond.Statement.{statement}

@@ -4,7 +4,7 @@ use mathlib.Core.Path.{_≡_, refl, sym}
 use mathlib.Core.Bool.{false}
 use lib.Ieee.{ofBits}
 use Rattle.records.specs.Scan.{any}
-use Rattle.records_file.proofs.Laws.{any-miss, any-hit}
+use Rattle.records.proofs.ScanLaws.{any-miss, any-hit}
 use Rattle.records_series.specs.joints.Checks.{notPositive}
 use native.Mathlib.Omega.{arith}
 use Rattle.records_refusals.proofs.any_not_positive.Statement.{statement}

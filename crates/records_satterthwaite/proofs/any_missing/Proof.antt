@@ -3,7 +3,7 @@ use Prim.Native.Nat.{_≤_, _-_}
 use mathlib.Core.Path.{_≡_, refl, sym, _∙_}
 use mathlib.Core.Bool.{false}
 use Rattle.records.specs.Scan.{any}
-use Rattle.records_file.proofs.Laws.{any-miss, any-hit}
+use Rattle.records.proofs.ScanLaws.{any-miss, any-hit}
 use Rattle.records_satterthwaite.specs.joints.Gathered.{missingIn}
 use native.Mathlib.Omega.{arith}
 use Rattle.records_satterthwaite.proofs.any_missing.Statement.{statement}

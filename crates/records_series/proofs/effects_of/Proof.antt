@@ -7,7 +7,7 @@ use Rattle.records.specs.Scan.{last}
 use Rattle.records.specs.Kinds.{kenwardRoger}
 use Rattle.records.specs.File.{count, columnOf, isCell}
 use Rattle.records.specs.Series.{blockOf}
-use Rattle.records_file.proofs.Laws.{last-more}
+use Rattle.records.proofs.ScanLaws.{last-more}
 use native.Mathlib.Omega.{arith}
 use Rattle.records_series.proofs.effects_of.Statement.{statement}
 use Rattle.records_series.proofs.effects_of.Tie as tie

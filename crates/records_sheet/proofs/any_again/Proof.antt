@@ -8,7 +8,7 @@ use denote.Ref.{now}
 use Rattle.records.specs.Scan.{any}
 use Rattle.records.specs.File.{count, again}
 use Rattle.records_file.specs.joints.Sheet.{tableOf, flagsAfter}
-use Rattle.records_file.proofs.Laws.{any-none, any-miss, any-hit}
+use Rattle.records.proofs.ScanLaws.{any-none, any-miss, any-hit}
 use Rattle.records_file.proofs.Sheets.{flags-start, flags-next, flag-again}
 use native.Mathlib.Omega.{arith}
 use Rattle.records_sheet.proofs.any_again.Statement.{statement}

@@ -4,7 +4,7 @@ use mathlib.Core.Path.{_≡_, refl, ap, _∙_}
 use denote.Ref.{now}
 use Rattle.records.specs.File.{count}
 use Rattle.records_file.specs.joints.Sheet.{tableOf, flagsAfter}
-use Rattle.records_file.proofs.Laws.{any-none}
+use Rattle.records.proofs.ScanLaws.{any-none}
 use Rattle.records_file.proofs.Sheets.{flags-start, flags-next}
 use native.Mathlib.Omega.{arith}
 use Rattle.records_sheet.proofs.flags_of.Statement.{statement}

@@ -5,7 +5,7 @@ use denote.Ref.{now}
 use lib.Ieee.{ofBits}
 use Rattle.records.specs.File.{count}
 use Rattle.records_file.specs.joints.Sheet.{tableOf, sheetAfter}
-use Rattle.records_file.proofs.Laws.{any-none}
+use Rattle.records.proofs.ScanLaws.{any-none}
 use Rattle.records_file.proofs.Sheets.{sheet-start, sheet-next}
 use native.Mathlib.Omega.{arith}
 use Rattle.records_sheet.proofs.sheet_of.Statement.{statement}
