@@ -1,6 +1,7 @@
 -- The laws of the algebra.
 pub mod FoldLaws
 pub mod TableLaws
+pub mod ReasonLaws
 pub mod EliminationLaws
 pub mod JacobiCount
 pub mod ValueLaws
