@@ -21,7 +21,8 @@ use Rattle.converter.proofs.Fields.{converted-alike}
 use Rattle.converter.proofs.SameFile.{rows-same, columns-same}
 use Rattle.converter.proofs.Cells.{Exact, cell-product}
 use Rattle.converter.proofs.Limits.{Within, within-limits, within-sizes, among}
-use Rattle.converter.proofs.Refusals.{Accepted, reasons-same}
+use Rattle.records.proofs.AcceptedSeries.{AcceptedSeries}
+use Rattle.converter.proofs.Refusals.{reasons-same}
 use Rattle.converter.proofs.Named.{value-is-cell}
 use Rattle.converter.proofs.SameSizes.{sized, beta-at, betaH-at, contrast-at}
 
@@ -51,7 +52,7 @@ some-rows s h = go (eqb (rows s 9) 0) refl h
 none : (n : ℕ) → n < 1 → 0 ≡ n
 none n h = omega arith
 
-module _ (k : ℤ) (m : ℕ → ℤ) (s : List ℕ) (c : Accepted s) (h : InputExact k m s) where
+module _ (k : ℤ) (m : ℕ → ℤ) (s : List ℕ) (c : AcceptedSeries s) (h : InputExact k m s) where
   -- record i's value, scaled by what its kind and row say, is an f64 number
   abbrev Again : ℤ → Float → Type 0
   Again u x = T (fits binary64 (scale u x))
@@ -63,7 +64,7 @@ module _ (k : ℤ) (m : ℕ → ℤ) (s : List ℕ) (c : Accepted s) (h : InputE
   limit z i l e = subst (λ (y : ℕ). Within (kindAt kenwardRoger y) s i) e (within-limits kenwardRoger s (c .good) i l)
 
   size : (z i : ℕ) → i < count s → kindOf s i ≡ z → Within (kindAt (sizes s) z) s i
-  size z i l e = subst (λ (y : ℕ). Within (kindAt (sizes s) y) s i) e (within-sizes (sizes s) s (c .sized) i l)
+  size z i l e = subst (λ (y : ℕ). Within (kindAt (sizes s) y) s i) e (within-sizes (sizes s) s (c .within) i l)
 
   -- record i's value, by its kind
   value-at : (z i : ℕ) → i < count s → kindOf s i ≡ z → countOf s i < 1 → cellValue s z (rowOf s i) (columnOf s i) ≡ valueOf s i
@@ -150,5 +151,5 @@ module _ (k : ℤ) (m : ℕ → ℤ) (s : List ℕ) (hp : coefficients s ≤ 6) 
   contrast-product i j o l = contrast-at s' hp' hr' i j (of-r o) (of-p l) ∙ product 9 i j refl ∙ ap (times (m i)) (sym (contrast-at s hp hr i j o l))
 
 -- ---- together: of a file that is not refused, with an input that scales exactly, the refusals before any computing stay
-pub reasons-converted : (k : ℤ) (m : ℕ → ℤ) (s : List ℕ) → Accepted s → InputExact k m s → reasons (converted (kenwardRogerChange k m) s) ≡ reasons s
+pub reasons-converted : (k : ℤ) (m : ℕ → ℤ) (s : List ℕ) → AcceptedSeries s → InputExact k m s → reasons (converted (kenwardRogerChange k m) s) ≡ reasons s
 reasons-converted k m s c h = reasons-same k m s (input-exact k m s c h)

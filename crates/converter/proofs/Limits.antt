@@ -1,29 +1,19 @@
 -- What a file that is not refused says of its records: each lies within its kind's limits and within the sizes. With any table of kinds.
-use Prim.Native.Nat.{ℕ, zero, suc, _+_, _<_, _≤_, max}
+use Prim.Native.Nat.{ℕ, _+_, _<_, _≤_}
 use native.Mathlib.Omega.{arith}
-use mathlib.Core.Path.{_≡_, refl, sym, ap, _∙_, subst}
-use mathlib.Core.Bool.{Bool, true, false, not, _||_, cond, true≢false}
-use mathlib.Core.List.{List, _∷_}
+use mathlib.Core.Path.{_≡_, refl, sym, subst}
+use mathlib.Core.Bool.{Bool, true, false, not, _||_, cond}
+use mathlib.Core.List.{List}
 use lib.Dec.{T, eqb, ltb, ltb→lt, eqb→eq}
 use Rattle.arithmetic.proofs.PlainLaws.{of-eq, clash}
 use Rattle.arithmetic.proofs.RangeTest.{or-cases}
 use mathlib.Core.Logic.{_⊎_, inl, inr}
 use borrow.Author.Tests.{not-false}
 use Rattle.records.specs.declared.Kind.{Kind}
-use Rattle.algebra.specs.Reasons.{first}
-use Rattle.records.specs.Scan.{any, most}
+use Rattle.records.specs.Scan.{any}
 use Rattle.records.specs.Kinds.{Table, kindAt}
 use Rattle.records.specs.File.{count, kindOf, rowOf, columnOf, paddingOf, countOf, bitsOf, outOf, badRecord, rows, columns, beyond}
 use Rattle.records.proofs.ScanLaws.{or-false, any-none, most-le}
-
--- the first condition does not hold, nor any later one
-pub passed : (n : ℕ) (b : Bool) (cs : List (ℕ × Bool)) → first ((suc n, b) ∷ cs) ≡ 0 → (b ≡ false) × (first cs ≡ 0)
-unfolding first
-passed n true cs h = absurd (positive n h)
-  where
-    positive : (n : ℕ) → suc n ≡ 0 → ⊥
-    positive n h = omega arith
-passed n false cs h = (refl, h)
 
 -- record i names a row, and unless it is a block a column and a count, below the kind's
 pub record Within (k : Kind) (s : List ℕ) (i : ℕ) : Type 0 where

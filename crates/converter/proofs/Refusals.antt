@@ -3,66 +3,22 @@ use Prim.Native.Nat.{ℕ, _%_}
 use mathlib.Core.Path.{_≡_, refl, ap, _∙_}
 use mathlib.Core.Bool.{Bool, true, false, not, _&&_}
 use mathlib.Core.List.{List}
-use lib.Dec.{eqb}
 use lib.IntN.{ℤ}
-use lib.ListN.{length}
 use lib.Ieee.{Float, le}
 use Rattle.arithmetic.specs.Numbers.{plusZero, isZero}
 use Rattle.arithmetic.proofs.PlainLaws.{clash, zero-scale}
 use Rattle.arithmetic.proofs.ScaleLaws.{le-scale}
 use Rattle.records.specs.Scan.{any}
 use Rattle.records.specs.Kinds.{Table, kindAt, kenwardRoger}
-use Rattle.records.specs.File.{count, badRecord, again, beyond, present, notFinite}
-use Rattle.records.specs.Series.{specimens, coefficients, contrastRows, sizes, cellValue, sigma2, incomplete, badSize, badWeight, misfit, zeroContrast, reasons, refusal}
+use Rattle.records.specs.File.{count, beyond, present}
+use Rattle.records.specs.Series.{specimens, coefficients, contrastRows, sizes, cellValue, sigma2, badWeight, zeroContrast, reasons, refusal}
 use Rattle.converter.specs.Converted.{Change, kenwardRogerChange, converted}
 use Rattle.converter.proofs.Fields.{Alike, converted-alike}
 use Rattle.records.proofs.ScanLaws.{any-same}
 use Rattle.converter.proofs.SameFile.{rows-same, columns-same, anyAgain-same, anyBeyond-same}
 use Rattle.converter.proofs.SameSeries.{sizes-same, incomplete-same, badSize-same, misfit-same}
 use Rattle.converter.proofs.Cells.{Exact, cell-other, cell-moves, anyNotFinite-same, anyBad-same}
-use Rattle.converter.proofs.Limits.{passed, among}
-
--- ---- what a file that is not refused passes
-pub record Accepted (s : List ℕ) : Type 0 where
-  pub whole : not (eqb (length s % 16) 0) ≡ false
-  pub good : any (count s) (badRecord kenwardRoger s) ≡ false
-  pub once : any (count s) (again kenwardRoger s) ≡ false
-  pub sized : any (count s) (beyond (sizes s) s) ≡ false
-  pub complete : incomplete s ≡ false
-  pub fitting : badSize s ≡ false
-  pub finite : any (count s) (notFinite s) ≡ false
-  pub variance : le (sigma2 s) plusZero ≡ false
-  pub weights : badWeight s ≡ false
-  pub blocks : misfit s ≡ false
-  pub contrasted : zeroContrast s ≡ false
-
-pub accepted : (s : List ℕ) → refusal s ≡ 0 → Accepted s
-unfolding refusal reasons
-accepted s h =
-    let e0 = passed 1 _ _ h in
-    let e1 = passed 1 _ _ (e0 .1) in
-    let e2 = passed 1 _ _ (e1 .1) in
-    let e3 = passed 1 _ _ (e2 .1) in
-    let e4 = passed 1 _ _ (e3 .1) in
-    let e5 = passed 2 _ _ (e4 .1) in
-    let e6 = passed 3 _ _ (e5 .1) in
-    let e7 = passed 4 _ _ (e6 .1) in
-    let e8 = passed 5 _ _ (e7 .1) in
-    let e9 = passed 6 _ _ (e8 .1) in
-    let e10 = passed 7 _ _ (e9 .1) in
-    record {
-      whole = e0 .0;
-      good = e1 .0;
-      once = e2 .0;
-      sized = e3 .0;
-      complete = e4 .0;
-      fitting = e5 .0;
-      finite = e6 .0;
-      variance = e7 .0;
-      weights = e8 .0;
-      blocks = e9 .0;
-      contrasted = e10 .0;
-    }
+use Rattle.converter.proofs.Limits.{among}
 
 -- ---- the conditions, one by one
 no-blocks : (k : ℤ) (m : ℕ → ℤ) (kind : ℕ) → kindAt kenwardRoger kind .block ≡ true → kenwardRogerChange k m .rewrites kind ≡ false

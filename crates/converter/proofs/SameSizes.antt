@@ -1,5 +1,5 @@
 -- What a file that is not refused gives to the run: sizes within document 01's limits, and f64 numbers in the cells that the run reads.
-use Prim.Native.Nat.{ℕ, zero, suc, _+_, _<_, _≤_, max}
+use Prim.Native.Nat.{ℕ, _+_, _<_, _≤_, max}
 use native.Mathlib.Omega.{arith}
 use mathlib.Core.Path.{_≡_, refl, sym, ap, _∙_, subst}
 use mathlib.Core.Bool.{not, _||_}
@@ -24,7 +24,7 @@ use Rattle.records.specs.Series.{specimens, coefficients, zColumns, blockCount,
 use Rattle.records.proofs.ScanLaws.{or-false, total-same, fold-total}
 use Rattle.converter.proofs.Cells.{cell-fits}
 use Rattle.converter.proofs.Limits.{rows-bound, columns-bound}
-use Rattle.converter.proofs.Refusals.{Accepted}
+use Rattle.records.proofs.AcceptedSeries.{AcceptedSeries}
 
 pub at-least : (x b : ℕ) → 1 ≤ b → x ≤ b → max 1 x ≤ b
 at-least x b h k = omega arith
@@ -38,7 +38,7 @@ pub record Sized (s : List ℕ) : Type 0 where
   pub thetas : thetas s ≤ 3
   pub contrast : contrastRows s ≤ 6
 
-pub sized : (s : List ℕ) → Accepted s → Sized s
+pub sized : (s : List ℕ) → AcceptedSeries s → Sized s
 unfolding kindAt kenwardRoger
 sized s c = record {
   specimens = at-least (rows s 1) 24 (omega arith) (rows-bound kenwardRoger s 1 (c .good));
@@ -55,12 +55,12 @@ sized s c = record {
 
 -- ---- the blocks' parameters
 -- "block parameters at most 3": the matrices are one more
-pub matrices-bound : (s : List ℕ) → Accepted s → matrices (design s) ≤ 4
+pub matrices-bound : (s : List ℕ) → AcceptedSeries s → matrices (design s) ≤ 4
 unfolding badSize placesBefore design
 matrices-bound s c =
     let b : ℕ = blockCount s in
     let n : ℕ = total b (λ i. places (blockOf s i)) in
-    let h : n ≤ 3 = ltb-false 3 n (or-false (any b (λ i. not (eqb (blockOf s i .effects) 1 || eqb (blockOf s i .effects) 2) || eqb (blockOf s i .groups) 0)) (ltb 3 n) (c .fitting) .1) in
+    let h : n ≤ 3 = ltb-false 3 n (or-false (any b (λ i. not (eqb (blockOf s i .effects) 1 || eqb (blockOf s i .effects) 2) || eqb (blockOf s i .groups) 0)) (ltb 3 n) (c .sized) .1) in
     let e : fold 0 b (λ i z. z + places (blockAt (row noBlock 3 b (blockOf s)) i)) 0 ≡ n =
     fold-total b (λ i. places (blockAt (row noBlock 3 b (blockOf s)) i))
     ∙ total-same b (λ i. places (blockAt (row noBlock 3 b (blockOf s)) i)) (λ i. places (blockOf s i)) (λ i l. ap (λ (x : Block). places x) (row-at noBlock 3 b (blockOf s) i noBlock l (sized s c .blocks))) in

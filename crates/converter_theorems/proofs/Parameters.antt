@@ -1,11 +1,11 @@
 -- What a Satterthwaite file that is not refused gives to the test: sizes within document 01's limits, where the numbers stand, and that they are f64 numbers.
-use Prim.Native.Nat.{ℕ, _%_, _<_, _≤_, max}
+use Prim.Native.Nat.{ℕ, _<_, _≤_, max}
 use native.Mathlib.Omega.{arith}
 use mathlib.Core.Path.{_≡_, refl, sym, subst}
-use mathlib.Core.Bool.{false, not}
+use mathlib.Core.Bool.{not}
 use mathlib.Core.List.{List, []}
-use lib.Dec.{T, eqb}
-use lib.ListN.{getD, length, replicate, length-replicate}
+use lib.Dec.{T}
+use lib.ListN.{getD, replicate, length-replicate}
 use lib.Ieee.{Float, nan, binary64, fits}
 use Rattle.arithmetic.specs.Numbers.{plusZero}
 use Rattle.algebra.specs.Table.{blank, table}
@@ -13,35 +13,15 @@ use Rattle.algebra.specs.Kind.{floats}
 use Rattle.algebra.specs.Product.{at}
 use Rattle.algebra.proofs.FoldLaws.{span-at}
 use Rattle.algebra.proofs.TableLaws.{row-at, table-at}
-use Rattle.records.specs.Scan.{any}
 use Rattle.records.specs.Kinds.{kindAt, satterthwaite}
-use Rattle.records.specs.File.{count, rows, columns, badRecord, again, beyond, notFinite}
+use Rattle.records.specs.File.{rows, columns}
 use Rattle.tests.proofs.SatterthwaiteSurvives.{InputSizes}
-use Rattle.records.specs.Parameters.{coefficients, contrastRows, parameters, sizes, incomplete, reasons, refusal, cellValue, jacobians, inputs}
+use Rattle.records.specs.Parameters.{coefficients, contrastRows, parameters, sizes, cellValue, jacobians, inputs}
+use Rattle.records.proofs.AcceptedParameters.{AcceptedParameters}
 use Rattle.converter.proofs.Cells.{cell-fits}
-use Rattle.converter.proofs.Limits.{passed, rows-bound, columns-bound}
+use Rattle.converter.proofs.Limits.{rows-bound, columns-bound}
 use Rattle.converter.proofs.SameSizes.{at-least}
 use Rattle.converter_theorems.proofs.Operands.{Written}
-
--- what a file that is not refused passes
-pub record Accepted (s : List ℕ) : Type 0 where
-  pub whole : not (eqb (length s % 16) 0) ≡ false
-  pub good : any (count s) (badRecord satterthwaite s) ≡ false
-  pub once : any (count s) (again satterthwaite s) ≡ false
-  pub sized : any (count s) (beyond (sizes s) s) ≡ false
-  pub complete : incomplete s ≡ false
-  pub finite : any (count s) (notFinite s) ≡ false
-
-pub accepted : (s : List ℕ) → refusal s ≡ 0 → Accepted s
-unfolding refusal reasons
-accepted s h =
-    let e0 = passed 1 _ _ h in
-    let e1 = passed 1 _ _ (e0 .1) in
-    let e2 = passed 1 _ _ (e1 .1) in
-    let e3 = passed 1 _ _ (e2 .1) in
-    let e4 = passed 1 _ _ (e3 .1) in
-    let e5 = passed 3 _ _ (e4 .1) in
-    record { whole = e0 .0; good = e1 .0; once = e2 .0; sized = e3 .0; complete = e4 .0; finite = e5 .0 }
 
 larger : (x y b : ℕ) → x ≤ b → y ≤ b → max x y ≤ b
 larger x y b h k = omega arith
@@ -49,7 +29,7 @@ larger x y b h k = omega arith
 positive : (x : ℕ) → 0 < max 1 x
 positive x = omega arith
 
-pub inputs-sized : (s : List ℕ) → Accepted s → InputSizes (inputs s)
+pub inputs-sized : (s : List ℕ) → AcceptedParameters s → InputSizes (inputs s)
 unfolding kindAt satterthwaite inputs
 inputs-sized s c = record {
   p = at-least (rows s 8) 6 (omega arith) (rows-bound satterthwaite s 8 (c .good));

@@ -26,6 +26,8 @@ use Rattle.tests.proofs.SatterthwaiteSurvives.{InputSizes, ConvertedInputs, Sam
 use Rattle.records.specs.Parameters.{coefficients, contrastRows, parameters, sizes, incomplete, reasons, refusal, cellValue, inputs}
 use Rattle.records.specs.SatterthwaiteCall.{outcome, allReasons, number, entry}
 use Rattle.tests.specs.Verdict.{verdict}
+use Rattle.algebra.proofs.ReasonLaws.{first-front}
+use Rattle.records.proofs.AcceptedParameters.{AcceptedParameters, accepted-parameters}
 use Rattle.converter.specs.Converted.{satterthwaiteShift, satterthwaiteChange, converted}
 use Rattle.converter.proofs.Fields.{Alike, converted-alike}
 use Rattle.records.proofs.ScanLaws.{any-same}
@@ -35,9 +37,8 @@ use Rattle.converter.proofs.Limits.{Within, within-sizes, among}
 use Rattle.converter.proofs.Named.{value-is-cell}
 use Rattle.converter.proofs.Satterthwaite.{satterthwaite-bad-same}
 use Rattle.converter.specs.ParametersDemand.{SameVerdict}
-use Rattle.converter_theorems.proofs.SeriesCall.{first-front}
 use Rattle.converter_theorems.proofs.Operands.{start-inside, beta-again, betaH-again, v-again, js-again}
-use Rattle.converter_theorems.proofs.Parameters.{Accepted, accepted, inputs-sized, l-at, beta-at, betaH-at, v-at, js-at, a-at, inputs-written}
+use Rattle.converter_theorems.proofs.Parameters.{inputs-sized, l-at, beta-at, betaH-at, v-at, js-at, a-at, inputs-written}
 
 -- ---- two files whose records name the same cells
 module _ {s s' : List ℕ} (a : Alike s s') where
@@ -85,9 +86,9 @@ guarded false r p h = absurd (omega arith)
 none : (n : ℕ) → n < 1 → 0 ≡ n
 none n h = omega arith
 
-module _ (k : ℤ) (s : List ℕ) (c : Accepted s) (h : InputExact k s) where
+module _ (k : ℤ) (s : List ℕ) (c : AcceptedParameters s) (h : InputExact k s) where
   size : (z i : ℕ) → i < count s → kindOf s i ≡ z → Within (kindAt (sizes s) z) s i
-  size z i l e = subst (λ (y : ℕ). Within (kindAt (sizes s) y) s i) e (within-sizes (sizes s) s (c .sized) i l)
+  size z i l e = subst (λ (y : ℕ). Within (kindAt (sizes s) y) s i) e (within-sizes (sizes s) s (c .within) i l)
 
   -- record i's value, by its kind
   value-at : (z i : ℕ) → i < count s → kindOf s i ≡ z → cellValue s z (countOf s i) (rowOf s i) (columnOf s i) ≡ valueOf s i
@@ -158,8 +159,8 @@ module _ (c : Cutoffs) (rotation : T (fits binary64 (c .rotation))) (s : List �
   alike : Alike s s'
   alike = converted-alike (satterthwaiteChange k) s
 
-  taken : Accepted s
-  taken = accepted s (not-refused c s e)
+  taken : AcceptedParameters s
+  taken = accepted-parameters s (not-refused c s e)
 
   z : InputSizes (inputs s)
   z = inputs-sized s taken
@@ -188,7 +189,7 @@ module _ (c : Cutoffs) (rotation : T (fits binary64 (c .rotation))) (s : List �
 
   z' : InputSizes (inputs s')
   unfolding refusal
-  z' = inputs-sized s' (accepted s' (ap first reasons-after ∙ not-refused c s e))
+  z' = inputs-sized s' (accepted-parameters s' (ap first reasons-after ∙ not-refused c s e))
 
   of-p : {i : ℕ} → i < coefficients s → i < coefficients s'
   of-p {i} l = subst (λ (n : ℕ). i < n) (sym (p-same alike)) l

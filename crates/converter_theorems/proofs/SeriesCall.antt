@@ -1,7 +1,7 @@
 -- The Kenward–Roger call on a file and on the converted file: the marks of a run that is inside say that each multiplied number scales exactly, so that no refusal comes and all verdicts stay.
 use Prim.Native.Nat.{ℕ, _<_, _≤_}
 use mathlib.Core.Path.{_≡_, refl, sym, ap, _∙_, subst}
-use mathlib.Core.Bool.{Bool, true, false, not, cond}
+use mathlib.Core.Bool.{Bool, not, cond}
 use mathlib.Core.List.{List, [], _∷_, _++_, map}
 use lib.Dec.{T, eqb}
 use lib.IntN.{ℤ, natAbs}
@@ -20,27 +20,19 @@ use Rattle.tests.specs.Answer.{noEntry}
 use Rattle.tests.specs.KenwardRoger.{Run}
 use Rattle.algebra.specs.Reasons.{first}
 use Rattle.records.specs.Series.{coefficients, contrastRows, design, phi, sigma2, beta, betaH, contrast, reasons, refusal}
-use Rattle.records.specs.KenwardRogerCall.{adjusted, scaled, run, lateRefusal, allReasons, number, entries}
+use Rattle.records.specs.KenwardRogerCall.{adjusted, scaled, run, number, entries}
 use Rattle.tests.specs.Verdict.{verdict, verdicts, Inside}
 use Rattle.converter_run.specs.joints.ConvertedInput.{Input, runOn, ConvertedInput, Multiplied, RunSizes, WrittenCells, Written, SeriesSurvives}
 use Rattle.converter_run.proofs.MovingInput.{multiplied-is-converted}
 use Rattle.converter_run.proofs.MovingSeries.{series-survives}
 use Rattle.converter.specs.Converted.{kenwardRogerChange, converted}
-use Rattle.converter.proofs.Refusals.{Accepted, accepted}
+use Rattle.records.proofs.AcceptedSeries.{AcceptedSeries, accepted-series}
+use Rattle.records.proofs.CallLaws.{number-is as call-number, other-way}
+use Rattle.algebra.proofs.ReasonLaws.{first-append, first-front}
 use Rattle.converter.proofs.Series.{design-same, phi-same}
 use Rattle.converter.proofs.SameSizes.{sized, matrices-bound, beta-fits, betaH-fits, contrast-fits, phi-fits, sigma2-fits}
 use Rattle.converter.proofs.Input.{InputExact, r-same, sigma2-product, beta-product, betaH-product, contrast-product, reasons-converted}
 use Rattle.converter.specs.SeriesDemand.{AllInside, SameVerdicts}
-
--- what refuses a file before anything is computed refuses it
-pub first-front : (xs ys : List (ℕ × Bool)) → first (xs ++ ys) ≡ 0 → first xs ≡ 0
-unfolding first
-first-front [] ys h = refl
-first-front (x ∷ xs) ys h = go (x .1) (first-front xs ys) h
-  where
-    go : (b : Bool) → (first (xs ++ ys) ≡ 0 → first xs ≡ 0) → cond b (x .0) (first (xs ++ ys)) ≡ 0 → cond b (x .0) (first xs) ≡ 0
-    go true f e = e
-    go false f e = f e
 
 -- ---- the call's parts, as demand 3's law on series in memory has them
 abbrev pub inputOf : List ℕ → Input
@@ -58,8 +50,12 @@ module _ (c : Cutoffs) (s : List ℕ) where
   run-is = refl
 
   pub number-is : number c s ≡ first (listed (reasons s) (adjustmentRefusal c (design s) (phi s) (sigma2 s)) (run c s .refused))
-  unfolding number allReasons lateRefusal
-  number-is = refl
+  unfolding refusal reasons first
+  number-is =
+      let n : ℕ = adjustmentRefusal c (design s) (phi s) (sigma2 s) in
+      call-number c s
+      ∙ ap (λ (k : ℕ). cond (eqb (refusal s) 0) k (refusal s)) (sym (other-way (eqb n 0) n (cond (run c s .refused) 10 0)))
+      ∙ sym (first-append (reasons s) ((n, not (eqb n 0)) ∷ (10, run c s .refused) ∷ []) refl)
 
   -- an accepted file's entries are the run's
   pub entries-are : number c s ≡ 0 → entries c s ≡ run c s .entries
@@ -78,8 +74,8 @@ module _ (c : Cutoffs) (s : List ℕ) (k : ℤ) (m : ℕ → ℤ) (near : natAbs
   abbrev s' : List ℕ
   s' = converted (kenwardRogerChange k m) s
 
-  taken : Accepted s
-  taken = accepted s (not-refused c s e)
+  taken : AcceptedSeries s
+  taken = accepted-series s (not-refused c s e)
 
   hp : coefficients s ≤ 6
   hp = sized s taken .coefficients

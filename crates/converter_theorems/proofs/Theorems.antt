@@ -1,11 +1,12 @@
 -- THE THIRD DEMAND, whole: the verdict survives a change of converter, for every record file of either call, in entries and in answer bytes.
 use Prim.Native.Nat.{ℕ}
-use mathlib.Core.Path.{_≡_}
+use mathlib.Core.Path.{_≡_, _∙_}
 use mathlib.Core.List.{List}
 use lib.ListN.{length}
 use Rattle.records.specs.Layout.{entryBytes, answerBytes}
 use Rattle.records.specs.KenwardRogerCall as kenwardRoger
 use Rattle.records.specs.SatterthwaiteCall as satterthwaite
+use Rattle.records.proofs.CallLaws.{returned-is, satterthwaite-returned-is}
 use Rattle.converter.specs.AnswerBytes.{SameAnswer}
 use Rattle.converter.specs.Converted.{kenwardRogerChange, satterthwaiteChange, converted}
 use Rattle.converter.specs.SeriesDemand.{KenwardRogerDemand, KenwardRogerAnswer, SameVerdicts}
@@ -33,12 +34,10 @@ converter-satterthwaite = (
 module _ (c : Cutoffs) where
   -- an accepted file and bytes of the stated length: the call returns 0
   series-returns : (s : List ℕ) → kenwardRoger.number c s ≡ 0 → (answer : List ℕ) → length answer ≡ 168 → kenwardRoger.returned c s answer ≡ 0
-  unfolding kenwardRoger.returned
-  series-returns s e answer h = rw h e
+  series-returns s e answer h = returned-is c s answer ∙ rw h e
 
   parameters-returns : (s : List ℕ) → satterthwaite.number c s ≡ 0 → (answer : List ℕ) → length answer ≡ 24 → satterthwaite.returned c s answer ≡ 0
-  unfolding satterthwaite.returned
-  parameters-returns s e answer h = rw h e
+  parameters-returns s e answer h = satterthwaite-returned-is c s answer ∙ rw h e
 
   series-answer : (s s' : List ℕ) → kenwardRoger.number c s ≡ 0 → SameVerdicts c s s' → SameAnswer 168 (kenwardRoger.written c s) (kenwardRoger.returned c s') (kenwardRoger.written c s')
   unfolding kenwardRoger.written

@@ -6,7 +6,7 @@ use lib.Dec.{eqb}
 use lib.ListN.{length, replicate}
 use Rattle.arithmetic_cutoffs.specs.declared.Cutoffs.{Cutoffs}
 use Rattle.adjustment.specs.Covariance.{matrices}
-use Rattle.adjustment.specs.Adjusted.{Adjustment, adjustment, adjustmentRefusal}
+use Rattle.adjustment.specs.Adjusted.{Adjustment, adjustment, adjustmentReasons}
 use Rattle.tests.specs.declared.Entry.{Entry}
 use Rattle.tests.specs.Answer.{noEntry}
 use Rattle.records.specs.Layout.{answerBytes}
@@ -26,13 +26,9 @@ module _ (c : Cutoffs) (s : List ℕ) where
   unfoldable pub run : Run
   run = runOf c scaled (beta s) (betaH s) (contrastRows s) (contrast s)
 
-  -- the adjustment's refusal, 0 for none: 9 (Cholesky), 10 (zero pivot), then 4 (an output that is not finite)
-  unfoldable pub lateRefusal : ℕ
-  lateRefusal = adjustmentRefusal c (design s) (phi s) (sigma2 s)
-
-  -- what refuses a file, in document 01's order: the reader's reasons, then the adjustment's, then a zero pivot in any one test
+  -- what refuses a file, in document 01's order: the reader's reasons, then the adjustment's 9, 10, 10 and 4, then a zero pivot in any one test
   unfoldable pub allReasons : List (ℕ × Bool)
-  allReasons = reasons s ++ ((lateRefusal, not (eqb lateRefusal 0)) ∷ (10, run .refused) ∷ [])
+  allReasons = reasons s ++ (adjustmentReasons c (design s) (phi s) (sigma2 s) ++ ((10, run .refused) ∷ []))
 
   -- "Each returns its number (accepted: 0)"
   unfoldable pub number : ℕ
@@ -42,9 +38,17 @@ module _ (c : Cutoffs) (s : List ℕ) where
   unfoldable pub entries : List Entry
   entries = cond (eqb number 0) (run .entries) (replicate 7 noEntry)
 
-  -- what the call returns for the lent bytes, and what they hold then: "1: lent length is not the stated one"; 168 bytes; "lent answer bytes keep their contents" where it refuses
-  unfoldable pub returned : List ℕ → ℕ
-  returned answer = cond (eqb (length answer) 168) number 1
+  -- the rotations made on IE in the adjustment of an accepted file: "The diagonal is the answer, with the number of rotations made"; 0 where it is refused
+  unfoldable pub rotations : ℕ
+  rotations = cond (eqb number 0) (adjusted .rotations) 0
 
+  -- what refuses a call, and what it returns for the lent bytes: "1: lent length is not the stated one", 168 bytes
+  unfoldable pub returnedReasons : List ℕ → List (ℕ × Bool)
+  returnedReasons answer = (1, not (eqb (length answer) 168)) ∷ allReasons
+
+  unfoldable pub returned : List ℕ → ℕ
+  returned answer = first (returnedReasons answer)
+
+  -- what the lent bytes hold then: "lent answer bytes keep their contents" where it refuses
   unfoldable pub written : List ℕ → List ℕ
   written answer = cond (eqb (returned answer) 0) (answerBytes entries) answer

@@ -1,6 +1,6 @@
 -- Document 01: the whole Satterthwaite call, from the bytes of a file and the cutoffs to its number, its entry and the lent bytes.
 use Prim.Native.Nat.{ℕ}
-use mathlib.Core.Bool.{Bool, cond}
+use mathlib.Core.Bool.{Bool, not, cond}
 use mathlib.Core.List.{List, [], _∷_, _++_}
 use lib.Dec.{eqb}
 use lib.ListN.{length}
@@ -26,10 +26,13 @@ module _ (c : Cutoffs) (s : List ℕ) where
   unfoldable pub entry : Entry
   entry = cond (eqb number 0) (outcome .entry) noEntry
 
-  -- what the call returns for the lent bytes, and what they hold then: "1: lent length is not the stated one"; "The Satterthwaite call fills one such entry, 24 bytes"; "lent
-  -- answer bytes keep their contents" where it refuses
-  unfoldable pub returned : List ℕ → ℕ
-  returned answer = cond (eqb (length answer) 24) number 1
+  -- what refuses a call, and what it returns for the lent bytes: "1: lent length is not the stated one", 24 bytes
+  unfoldable pub returnedReasons : List ℕ → List (ℕ × Bool)
+  returnedReasons answer = (1, not (eqb (length answer) 24)) ∷ allReasons
 
+  unfoldable pub returned : List ℕ → ℕ
+  returned answer = first (returnedReasons answer)
+
+  -- what they hold then: "The Satterthwaite call fills one such entry, 24 bytes"; "lent answer bytes keep their contents" where it refuses
   unfoldable pub written : List ℕ → List ℕ
   written answer = cond (eqb (returned answer) 0) (entryBytes entry) answer

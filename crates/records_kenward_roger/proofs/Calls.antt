@@ -1,8 +1,7 @@
 -- What the code reads off a file's sheet is the series of the file, and so the adjustment and the run are the file's own.
-use Prim.Native.Nat.{ℕ, _+_, _*_, _<_, _≤_}
+use Prim.Native.Nat.{ℕ, _+_, _≤_}
 use native.Mathlib.Omega.{arith}
-use mathlib.Core.Path.{_≡_, refl, sym, ap, ap₂, _∙_}
-use mathlib.Core.Bool.{Bool}
+use mathlib.Core.Path.{_≡_, refl, ap, ap₂, _∙_}
 use mathlib.Core.List.{List}
 use lib.ListN.{getD, length, take, drop, replicate, length-replicate, length-drop}
 use lib.Seq.{length-take-le}
@@ -11,7 +10,7 @@ use Rattle.algebra.proofs.FoldLaws.{length-span}
 use Rattle.adjustment_covariance.specs.joints.Bounds.{Sound}
 use lib.Ieee.{Float, nan}
 use Rattle.algebra.specs.Table.{row}
-use Rattle.algebra_large.specs.joints.Slab.{rowsAt, Holds}
+use Rattle.algebra_large.specs.joints.Slab.{rowsAt}
 use Rattle.adjustment.specs.declared.Block.{Block}
 use Rattle.arithmetic_cutoffs.specs.declared.Cutoffs.{Cutoffs}
 use Rattle.algebra.specs.Small.{Rows}
@@ -19,25 +18,25 @@ use Rattle.adjustment.specs.Blocks.{noBlock, columnsBefore, placesBefore}
 use Rattle.adjustment.specs.Covariance.{Design, matrices}
 use Rattle.adjustment.specs.Adjusted.{Adjustment, adjustment, adjustmentRefusal}
 use Rattle.adjustment_covariance.specs.joints.Lent.{Lent}
-use Rattle.tests.specs.KenwardRoger.{Run, runOf}
+use Rattle.tests.specs.KenwardRoger.{runOf}
 use Rattle.tests_run.specs.joints.Units.{responseUnits}
 use Rattle.tests_run.proofs.RunLaws.{response-units-is}
 use Rattle.records.specs.Kinds.{kenwardRoger}
 use Rattle.records.specs.File.{count, present}
 use Rattle.records_file.specs.joints.Sheet.{sheetAfter}
-use Rattle.records.specs.Series.{specimens, coefficients, zColumns, blockCount, thetas, contrastRows, blockOf, refusal, design, phi, beta, betaH, contrast, sigma2}
+use Rattle.records.specs.Series.{specimens, coefficients, zColumns, blockCount, thetas, blockOf, refusal, design, phi, sigma2}
 use Rattle.records_file.proofs.Sheets.{length-sheet}
 use Rattle.records_series.specs.declared.SeriesSizes.{SeriesSizes}
 use Rattle.records_series.specs.joints.Gathered.{sizesOf, Small}
-use Rattle.records_sheet_parts.specs.joints.Parts.{numbersAt, sixAt}
+use Rattle.records_sheet_parts.specs.joints.Parts.{numbersAt, cellsAt}
 use Rattle.records_series.proofs.Gathers.{small}
-use Rattle.records_series.proofs.Accepted.{Accepted, accepted}
+use Rattle.records.proofs.AcceptedSeries.{AcceptedSeries, accepted-series}
+use Rattle.records_series.proofs.Accepted.{limits, sound-blocks}
 use Rattle.records_series.proofs.Numbers.{sigma2-at}
 use Rattle.records_series.proofs.Values.{x-read, z-read, weights-read, theta-read, phi-read, beta-read, beta-h-read, contrast-read}
 use Rattle.adjustment_work.specs.joints.Work.{designOf}
 use Rattle.adjustment_adjusted.specs.joints.FromInformation.{accepted as kept}
-use Rattle.records.specs.KenwardRogerCall.{adjusted, lateRefusal, scaled, run}
-use Rattle.records_kenward_roger.proofs.Blocks.{sound, columns-are, parameters-few}
+use Rattle.records.specs.KenwardRogerCall.{adjusted, scaled, run}
 
 length-numbers : (xs : List Float) (C at n : ℕ) → length (numbersAt xs C at n) ≡ C
 unfolding numbersAt row
@@ -47,8 +46,8 @@ abbrev pub sheetOf : List ℕ → List Float
 sheetOf s = sheetAfter kenwardRoger s (count s)
 
 module _ (s : List ℕ) (h : refusal s ≡ 0) where
-  abbrev facts : Accepted s
-  facts = accepted s h
+  abbrev facts : AcceptedSeries s
+  facts = accepted-series s h
 
   x-rows : rowsAt 6 0 (specimens s) (coefficients s) (take 144 (drop 0 (sheetOf s))) ≡ design s .x
   unfolding rowsAt
@@ -86,14 +85,16 @@ module _ (s : List ℕ) (h : refusal s ≡ 0) where
       ∙ ap (λ (t : List Float). made (design s .x) (design s .z) (design s .weights) t) (theta-read s (facts .good))
 
   own-sound : Sound (row noBlock 3 (sizesOf s .blocks) (blockOf s)) (sizesOf s .blocks)
-  unfolding sizesOf
-  own-sound = sound s facts
+  unfolding sizesOf design
+  own-sound =
+      let b = sound-blocks s h in
+      record { few = b .few; small = b .small; counted = (let e = b .counted in let l = limits s h .columns in omega arith); thetas = b .thetas }
 
   own-columns : columnsBefore (row noBlock 3 (sizesOf s .blocks) (blockOf s)) (sizesOf s .blocks) ≡ sizesOf s .columns
-  unfolding sizesOf
-  own-columns = columns-are s facts
+  unfolding sizesOf design
+  own-columns = sound-blocks s h .counted
 
-  own-run : (c : Cutoffs) → runOf c (responseUnits (sizesOf s .coefficients) (matrices (design s)) (sixAt (sheetOf s) 750 (sizesOf s .coefficients) (sizesOf s .coefficients)) (adjusted c s .phiA) (adjusted c s .ps) (adjusted c s .w) (getD (sheetOf s) 786 nan)) (numbersAt (sheetOf s) 6 787 (sizesOf s .coefficients)) (numbersAt (sheetOf s) 6 829 (sizesOf s .coefficients)) (sizesOf s .contrasts) (sixAt (sheetOf s) 793 (sizesOf s .contrasts) (sizesOf s .coefficients)) ≡ run c s
+  own-run : (c : Cutoffs) → runOf c (responseUnits (sizesOf s .coefficients) (matrices (design s)) (cellsAt (sheetOf s) 750 6 (sizesOf s .coefficients) (sizesOf s .coefficients)) (adjusted c s .phiA) (adjusted c s .ps) (adjusted c s .w) (getD (sheetOf s) 786 nan)) (numbersAt (sheetOf s) 6 787 (sizesOf s .coefficients)) (numbersAt (sheetOf s) 6 829 (sizesOf s .coefficients)) (sizesOf s .contrasts) (cellsAt (sheetOf s) 793 6 (sizesOf s .contrasts) (sizesOf s .coefficients)) ≡ run c s
   unfolding run scaled sizesOf
   own-run c = rw (phi-read s (facts .good), beta-read s (facts .good), beta-h-read s (facts .good), contrast-read s (facts .good), sigma2-at s (facts .good), response-units-is (coefficients s) (matrices (design s)) (phi s) (sigma2 s) (adjusted c s))
 
@@ -132,7 +133,7 @@ module _ (s : List ℕ) (h : refusal s ≡ 0) where
         → designOf (z .specimens) (z .coefficients) (take 144 (drop 0 xs)) 6 (take 576 (drop 144 xs)) 24 (z .columns) (z .weighted) weights blocks (z .blocks) theta ≡ design s
     design-is blocks theta weights eb et ew = rw (eb, et, ew, ez, ex) own
 
-    pub phi-is : (m : Rows) → m ≡ sixAt xs 750 (z .coefficients) (z .coefficients) → m ≡ phi s
+    pub phi-is : (m : Rows) → m ≡ cellsAt xs 750 6 (z .coefficients) (z .coefficients) → m ≡ phi s
     phi-is m e = e ∙ rw (ez, ex) (phi-read s (facts .good))
 
     pub sigma2-is : getD xs 786 nan ≡ sigma2 s
@@ -149,26 +150,25 @@ module _ (s : List ℕ) (h : refusal s ≡ 0) where
 
       own-few : matrices (design s) ≤ 4
       unfolding design
-      own-few = let h = parameters-few s facts in omega arith
+      own-few = let b = sound-blocks s h .thetas in omega arith
 
       pub matrices-few : N + 1 ≤ 4
       matrices-few = rw matrices-are own-few
 
     -- the run is the file's
-    pub run-is : (c : Cutoffs) (N : ℕ) (m phiA w l : Rows) (ps : List Rows) (b bh : List Float) (v : Float) → N ≡ matrices (design s) → m ≡ sixAt xs 750 (z .coefficients) (z .coefficients)
-        → b ≡ numbersAt xs 6 787 (z .coefficients) → bh ≡ numbersAt xs 6 829 (z .coefficients) → l ≡ sixAt xs 793 (z .contrasts) (z .coefficients) → v ≡ getD xs 786 nan
+    pub run-is : (c : Cutoffs) (N : ℕ) (m phiA w l : Rows) (ps : List Rows) (b bh : List Float) (v : Float) → N ≡ matrices (design s) → m ≡ cellsAt xs 750 6 (z .coefficients) (z .coefficients)
+        → b ≡ numbersAt xs 6 787 (z .coefficients) → bh ≡ numbersAt xs 6 829 (z .coefficients) → l ≡ cellsAt xs 793 6 (z .contrasts) (z .coefficients) → v ≡ getD xs 786 nan
         → phiA ≡ adjusted c s .phiA → ps ≡ adjusted c s .ps → w ≡ adjusted c s .w
         → runOf c (responseUnits (z .coefficients) N m phiA ps w v) b bh (z .contrasts) l ≡ run c s
     run-is c N m phiA w l ps b bh v eN em eb eh el ev e1 e2 e3 = rw (eN, em, eb, eh, el, ev, e1, e2, e3, ez, ex) (own-run c)
 
     -- so the adjustment is the file's
     module _ (c : Cutoffs) (blocks : List Block) (theta weights : List Float) (m : Rows) (eb : blocks ≡ row noBlock 3 (z .blocks) (blockOf s)) (et : theta ≡ numbersAt xs 3 723 (z .thetas))
-        (ew : weights ≡ numbersAt xs 24 726 (z .specimens)) (em : m ≡ sixAt xs 750 (z .coefficients) (z .coefficients)) where
+        (ew : weights ≡ numbersAt xs 24 726 (z .specimens)) (em : m ≡ cellsAt xs 750 6 (z .coefficients) (z .coefficients)) where
       abbrev lent : Design
       lent = designOf (z .specimens) (z .coefficients) (take 144 (drop 0 xs)) 6 (take 576 (drop 144 xs)) 24 (z .columns) (z .weighted) weights blocks (z .blocks) theta
 
-      pub number-is-own : (v : Float) → v ≡ getD xs 786 nan → adjustmentRefusal c lent m v ≡ lateRefusal c s
-      unfolding lateRefusal
+      pub number-is-own : (v : Float) → v ≡ getD xs 786 nan → adjustmentRefusal c lent m v ≡ adjustmentRefusal c (design s) (phi s) (sigma2 s)
       number-is-own v ev =
           ap (λ (d : Design). adjustmentRefusal c d m v) (design-is blocks theta weights eb et ew)
           ∙ ap₂ (λ (k : Rows) (x : Float). adjustmentRefusal c (design s) k x) (phi-is m em) (ev ∙ sigma2-is)

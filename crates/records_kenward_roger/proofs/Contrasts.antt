@@ -17,8 +17,9 @@ use Rattle.records.specs.Scan.{any, last}
 use Rattle.records.specs.Kinds.{kenwardRoger}
 use Rattle.records.specs.File.{count, valueOf, isCell, cell, notFinite}
 use Rattle.records.specs.Series.{coefficients, contrastRows, cellValue, zeroContrast, refusal, contrast}
-use Rattle.records_file.proofs.Laws.{any-none, any-found}
-use Rattle.records_series.proofs.Accepted.{accepted, limits}
+use Rattle.records.proofs.ScanLaws.{any-none, any-found}
+use Rattle.records.proofs.AcceptedSeries.{accepted-series}
+use Rattle.records_series.proofs.Accepted.{limits}
 
 -- what holds of +0 and of every number asked holds of the last that passes
 last-every : (P : Float → Type 0) (n : ℕ) (p : ℕ → Bool) (f : ℕ → Float) → P plusZero → ((i : ℕ) → i < n → P (f i)) → P (last n p f plusZero)
@@ -35,7 +36,7 @@ module _ (s : List ℕ) (taken : refusal s ≡ 0) where
   unfolding cell notFinite isFinite
   cell-finite k r c =
       last-every (λ (x : Float). T (isFinite x)) (count s) (isCell kenwardRoger s k 0 r c) (valueOf s) tt
-      (λ i l. subst (λ (b : Bool). T b) (sym (not-false (isFinite (valueOf s i)) (any-none (count s) (notFinite s) i l (accepted s taken .finite)))) tt)
+      (λ i l. subst (λ (b : Bool). T b) (sym (not-false (isFinite (valueOf s i)) (any-none (count s) (notFinite s) i l (accepted-series s taken .finite)))) tt)
 
   cell-fits : (k r c : ℕ) → T (fits binary64 (cellValue s k r c))
   unfolding cell fits
@@ -47,7 +48,7 @@ module _ (s : List ℕ) (taken : refusal s ≡ 0) where
 
   some-cell : (contrastRows s ≡ 0 → ⊥) → any (contrastRows s) (λ r. any (coefficients s) (λ c. not (isZero (cellValue s 9 r c)))) ≡ true
   unfolding zeroContrast
-  some-cell h = go (eqb (contrastRows s) 0) (any (contrastRows s) (λ r. any (coefficients s) (λ c. not (isZero (cellValue s 9 r c))))) (ne-eqb (contrastRows s) 0 h) (accepted s taken .nonzero)
+  some-cell h = go (eqb (contrastRows s) 0) (any (contrastRows s) (λ r. any (coefficients s) (λ c. not (isZero (cellValue s 9 r c))))) (ne-eqb (contrastRows s) 0 h) (accepted-series s taken .nonzero)
     where
       go : (a b : Bool) → a ≡ false → (not a && not b) ≡ false → b ≡ true
       go a true e f = refl

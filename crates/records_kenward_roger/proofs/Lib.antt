@@ -1,5 +1,4 @@
 -- The laws of the whole call.
-pub mod Blocks
 pub mod Numbers
 pub mod Calls
 pub mod Contrasts

@@ -4,7 +4,7 @@ ghost use Prim.Native.Nat.{ℕ, _+_, _*_, _≤_};
 ghost use Rattle.adjustment.specs.Blocks.{blockAt};
 ghost use Rattle.records.specs.Series.{refusal};
 ghost use Rattle.records_series.specs.joints.Gathered.{Small};
-ghost use Rattle.records_series.specs.joints.Checks.{nonzeroInRow, nonzeros, notPositive, badWeightIn, zeroContrastIn, lateRefusal};
+ghost use Rattle.records_series.specs.joints.Checks.{nonzeroInRow, nonzeros, notPositive, badWeightIn, zeroContrastIn, sheetRefusal};
 use records_block_limits::bad_size;
 use records_block_limits::misfit;
 use records_malformed::malformed;
@@ -81,9 +81,9 @@ fn zero_contrast(z: SeriesSizes, sheet: &[f64; 835]) -> bool
 }
 
 // Numbers 5 to 8.
-fn late_refusal(z: SeriesSizes, blocks: [adjustment::Block; 3], sheet: &[f64; 835]) -> u32
+fn sheet_refusal(z: SeriesSizes, blocks: [adjustment::Block; 3], sheet: &[f64; 835]) -> u32
     requires { ⌜ Small z × ((b : ℕ) → (blockAt blocks b .effects ≤ 255) × (blockAt blocks b .groups ≤ 4294967295)) ⌝ }
-    ensures { λ r. ⌜ r ≡ lateRefusal z blocks (now (sheet .entry)) ⌝ }
+    ensures { λ r. ⌜ r ≡ sheetRefusal z blocks (now (sheet .entry)) ⌝ }
 {
     if sheet[786] <= 0.0 {
         return 5;
@@ -117,5 +117,5 @@ pub fn refusal(s: &[u8]) -> u32
         return 4;
     }
     let sheet = records_sheet::sheet_of(false, s);
-    late_refusal(z, blocks, &sheet)
+    sheet_refusal(z, blocks, &sheet)
 }

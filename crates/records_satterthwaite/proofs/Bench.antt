@@ -33,6 +33,7 @@ use Rattle.records.specs.File.{outOf, badRecord, isCell, again, has, cell as fi
 use Rattle.records.proofs.Examples.{recordOf}
 use Rattle.records.specs.Parameters.{sizes, incomplete, reasons, refusal, jacobians, inputs}
 use Rattle.records.specs.SatterthwaiteCall.{outcome, number, entry, returned, written}
+use Rattle.records.proofs.CallLaws.{satterthwaite-returned-is}
 use Rattle.records_satterthwaite.proofs.Judged.{judged-taken, judged-late, other-length}
 
 abbrev oneBits : ℕ
@@ -120,11 +121,12 @@ pub record Example : Type 0 where
   pub written-i : written documentCutoffs fileI (replicate 24 255) ≡ 0 ∷ 0 ∷ 0 ∷ 0 ∷ 0 ∷ 0 ∷ 4 ∷ 0x40 ∷ 0 ∷ 0 ∷ 0 ∷ 0 ∷ 0 ∷ 0 ∷ 0x10 ∷ 0x40 ∷ 2 ∷ 1 ∷ 1 ∷ 1 ∷ 0 ∷ 0 ∷ 0 ∷ 0 ∷ []
 
 pub example-i : Example
-unfolding returned written entryBytes bitsOf bytesOf toBits
+unfolding written entryBytes bitsOf bytesOf toBits
 example-i =
     let j = judged-taken documentCutoffs fileI answered (file-taken .0) (ap (λ (o : Outcome). o .refused) tested-file) (sym (ap (λ (o : Outcome). o .entry) tested-file)) in
     let n : number documentCutoffs fileI ≡ 0 = sym (j .1) in
-    record { number-i = n; entry-i = sym (j .0); returned-i = n; written-i = rw (n, sym (j .0)) }
+    let r : returned documentCutoffs fileI (replicate 24 255) ≡ 0 = satterthwaite-returned-is documentCutoffs fileI (replicate 24 255) ∙ n in
+    record { number-i = n; entry-i = sym (j .0); returned-i = r; written-i = rw (r, sym (j .0)) }
 
 -- ---- and what is refused
 eleven-file : outcome documentCutoffs fileEleven .refused ≡ true

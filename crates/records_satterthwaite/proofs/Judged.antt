@@ -1,13 +1,12 @@
 -- What the numbers say: of a file that is not refused, of the number with the test's own refusal, and of the lent bytes.
-use Prim.Native.Nat.{ℕ, zero, suc, _+_, _<_, _≤_, _%_}
+use Prim.Native.Nat.{ℕ, _<_, _≤_, _%_}
 use mathlib.Core.Path.{_≡_, refl, ap, sym, _∙_}
 use mathlib.Core.Bool.{Bool, true, false, not, cond, _||_}
-use mathlib.Core.List.{List, [], _∷_, _++_}
+use mathlib.Core.List.{List, [], _∷_}
 use native.Mathlib.Omega.{arith}
 use lib.Dec.{eqb}
 use lib.ListN.{length}
 use lib.Seq.{sets}
-use lib.Ieee.{Float}
 use borrow.Author.Tests.{eq-eqb, ne-eqb, not-false}
 use Rattle.arithmetic.specs.Numbers.{plusZero, isFinite}
 use Rattle.arithmetic_cutoffs.specs.declared.Cutoffs.{Cutoffs}
@@ -17,14 +16,16 @@ use Rattle.records.specs.Layout.{entryBytes}
 use Rattle.records_answer_bytes.proofs.LayoutLaws.{length-entry}
 use Rattle.records_little_endian.proofs.StoreLaws.{sets-all}
 use Rattle.algebra.specs.Reasons.{first}
-use Rattle.records.specs.Scan.{any, last}
+use Rattle.records.specs.Scan.{any}
 use Rattle.records.specs.Kinds.{Table, kindAt, satterthwaite}
 use Rattle.records.specs.File.{count, valueOf, badRecord, again, beyond, notFinite, isCell, cell, has, missing}
-use Rattle.records.proofs.ScanLaws.{any-none}
+use Rattle.records.proofs.ScanLaws.{any-none, last-holds}
+use Rattle.records.proofs.AcceptedParameters.{AcceptedParameters, accepted-parameters}
+use Rattle.records.proofs.CallLaws.{satterthwaite-number-is, satterthwaite-returned-is}
 use Rattle.records_satterthwaite.specs.declared.ParameterSizes.{ParameterSizes}
 use Rattle.records.specs.Parameters.{coefficients, contrastRows, parameters, sizes, incomplete, reasons, refusal}
 use Rattle.records_satterthwaite.specs.joints.Gathered.{Small, sizesOf, tableFor, malformedFile}
-use Rattle.records.specs.SatterthwaiteCall.{outcome, allReasons, number, entry, returned, written}
+use Rattle.records.specs.SatterthwaiteCall.{outcome, number, entry, returned, written}
 use Rattle.records_satterthwaite.proofs.Gathers.{small, sizes-table}
 
 -- ---- the refusals before anything is computed
@@ -68,42 +69,10 @@ module _ (s : List ℕ) where
   unfolding malformedFile
   rest-absent z r e h b a d q = rw (eq-eqb (length s % 16) 0 h, b, a, sym (beyond-is z e) ∙ d) q
 
--- none of the reasons holds
-pub record Accepted (s : List ℕ) : Type 0 where
-  pub whole : not (eqb (length s % 16) 0) ≡ false
-  pub good : any (count s) (badRecord satterthwaite s) ≡ false
-  pub once : any (count s) (again satterthwaite s) ≡ false
-  pub within : any (count s) (beyond (sizes s) s) ≡ false
-  pub complete : incomplete s ≡ false
-  pub finite : any (count s) (notFinite s) ≡ false
-
-none-holds : (a b c d e f : Bool) → first ((2, a) ∷ (2, b) ∷ (2, c) ∷ (2, d) ∷ (2, e) ∷ (4, f) ∷ []) ≡ 0 → (a ≡ false) × (b ≡ false) × (c ≡ false) × (d ≡ false) × (e ≡ false) × (f ≡ false)
-unfolding first
-none-holds true b c d e f h = absurd (omega arith)
-none-holds false true c d e f h = absurd (omega arith)
-none-holds false false true d e f h = absurd (omega arith)
-none-holds false false false true e f h = absurd (omega arith)
-none-holds false false false false true f h = absurd (omega arith)
-none-holds false false false false false true h = absurd (omega arith)
-none-holds false false false false false false h = (refl, refl, refl, refl, refl, refl)
-
--- the last of finite numbers, or +0
-last-finite : (n : ℕ) (p : ℕ → Bool) (f : ℕ → Float) → ((i : ℕ) → i < n → isFinite (f i) ≡ true) → isFinite (last n p f plusZero) ≡ true
-unfolding last isFinite
-last-finite zero p f h = refl
-last-finite (suc n) p f h = go (last-finite n p f (λ i l. h i (omega arith))) (p n)
-  where
-    go : isFinite (last n p f plusZero) ≡ true → (b : Bool) → isFinite (cond b (f n) (last n p f plusZero)) ≡ true
-    go e true = h n (omega arith)
-    go e false = e
-
 -- ---- what holds of a file that is not refused
 module _ (s : List ℕ) (taken : refusal s ≡ 0) where
-  pub accepted : Accepted s
-  unfolding refusal reasons
-  accepted =
-      let n = none-holds (not (eqb (length s % 16) 0)) (any (count s) (badRecord satterthwaite s)) (any (count s) (again satterthwaite s)) (any (count s) (beyond (sizes s) s)) (incomplete s) (any (count s) (notFinite s)) taken in
-      record { whole = n .0; good = n .1; once = n .2; within = n .3; complete = n .4; finite = n .5 }
+  accepted : AcceptedParameters s
+  accepted = accepted-parameters s taken
 
   pub taken-good : any (count s) (badRecord satterthwaite s) ≡ false
   taken-good = accepted .good
@@ -126,9 +95,9 @@ module _ (s : List ℕ) (taken : refusal s ≡ 0) where
 
   -- every number is finite, and every cell that the sizes leave a kind is there
   pub number-finite : (k n r c : ℕ) → isFinite (cell satterthwaite s k n r c) ≡ true
-  unfolding cell notFinite
+  unfolding cell notFinite isFinite
   number-finite k n r c =
-      last-finite (count s) (isCell satterthwaite s k n r c) (valueOf s) (λ i l. not-false (isFinite (valueOf s i)) (any-none (count s) (notFinite s) i l (accepted .finite)))
+      last-holds (λ x. isFinite x ≡ true) (count s) (isCell satterthwaite s k n r c) (valueOf s) plusZero refl (λ i l p. not-false (isFinite (valueOf s i)) (any-none (count s) (notFinite s) i l (accepted .finite)))
 
   pub cell-there : (k n r c : ℕ) → k < 33 → n < kindAt (sizes s) k .counts → r < kindAt (sizes s) k .rows → c < kindAt (sizes s) k .columns → has satterthwaite s k n r c ≡ true
   unfolding incomplete missing
@@ -139,22 +108,7 @@ module _ (s : List ℕ) (taken : refusal s ≡ 0) where
       not-false (has satterthwaite s k n r c) (any-none (kindAt (sizes s) k .columns) (λ c. not (has satterthwaite s k n r c)) c lc d)
 
 -- ---- with the test's own refusal
-eleven-last : (a b c d e f r : Bool) → first (((2, a) ∷ (2, b) ∷ (2, c) ∷ (2, d) ∷ (2, e) ∷ (4, f) ∷ []) ++ ((11, r) ∷ [])) ≡ cond (eqb (first ((2, a) ∷ (2, b) ∷ (2, c) ∷ (2, d) ∷ (2, e) ∷ (4, f) ∷ [])) 0) (cond r 11 0) (first ((2, a) ∷ (2, b) ∷ (2, c) ∷ (2, d) ∷ (2, e) ∷ (4, f) ∷ []))
-unfolding first
-eleven-last true b c d e f r = refl
-eleven-last false true c d e f r = refl
-eleven-last false false true d e f r = refl
-eleven-last false false false true e f r = refl
-eleven-last false false false false true f r = refl
-eleven-last false false false false false true r = refl
-eleven-last false false false false false false r = refl
-
 module _ (c : Cutoffs) (s : List ℕ) where
-  pub number-is : number c s ≡ cond (eqb (refusal s) 0) (cond (outcome c s .refused) 11 0) (refusal s)
-  unfolding number allReasons reasons refusal
-  number-is =
-      eleven-last (not (eqb (length s % 16) 0)) (any (count s) (badRecord satterthwaite s)) (any (count s) (again satterthwaite s)) (any (count s) (beyond (sizes s) s)) (incomplete s) (any (count s) (notFinite s)) (outcome c s .refused)
-
   entry-of : (n : ℕ) → number c s ≡ n → entry c s ≡ cond (eqb n 0) (outcome c s .entry) noEntry
   unfolding entry
   entry-of n e = rw e
@@ -162,27 +116,28 @@ module _ (c : Cutoffs) (s : List ℕ) where
   -- refused before anything is computed; by the test; not refused
   pub judged-early : (n : ℕ) (e : Entry) → n ≡ refusal s → (n ≡ 0 → ⊥) → e ≡ noEntry → (e ≡ entry c s) × (n ≡ number c s)
   judged-early n e q h p =
-      let x : number c s ≡ n = number-is ∙ ap (λ (m : ℕ). cond (eqb m 0) (cond (outcome c s .refused) 11 0) m) (sym q) ∙ ap (λ (b : Bool). cond b (cond (outcome c s .refused) 11 0) n) (ne-eqb n 0 h) in
+      let x : number c s ≡ n = satterthwaite-number-is c s ∙ ap (λ (m : ℕ). cond (eqb m 0) (cond (outcome c s .refused) 11 0) m) (sym q) ∙ ap (λ (b : Bool). cond b (cond (outcome c s .refused) 11 0) n) (ne-eqb n 0 h) in
       (p ∙ sym (entry-of n x ∙ ap (λ (b : Bool). cond b (outcome c s .entry) noEntry) (ne-eqb n 0 h)), sym x)
 
   pub judged-late : (e : Entry) → refusal s ≡ 0 → outcome c s .refused ≡ true → e ≡ noEntry → (e ≡ entry c s) × (11 ≡ number c s)
   judged-late e q h p =
-      let x : number c s ≡ 11 = number-is ∙ rw (q, h) in
+      let x : number c s ≡ 11 = satterthwaite-number-is c s ∙ rw (q, h) in
       (p ∙ sym (entry-of 11 x), sym x)
 
   pub judged-taken : (e : Entry) → refusal s ≡ 0 → outcome c s .refused ≡ false → e ≡ outcome c s .entry → (e ≡ entry c s) × (0 ≡ number c s)
   judged-taken e q h p =
-      let x : number c s ≡ 0 = number-is ∙ rw (q, h) in
+      let x : number c s ≡ 0 = satterthwaite-number-is c s ∙ rw (q, h) in
       (p ∙ sym (entry-of 0 x), sym x)
 
   -- ---- the lent bytes: of another length; refused; filled
   pub other-length : (a : List ℕ) → (length a ≡ 24 → ⊥) → (1 ≡ returned c s a) × (a ≡ written c s a)
-  unfolding returned written
-  other-length a h = rw (ne-eqb (length a) 24 h) (refl, refl)
+  unfolding written
+  other-length a h =
+      let e : returned c s a ≡ 1 = satterthwaite-returned-is c s a ∙ rw (ne-eqb (length a) 24 h) in
+      (sym e, rw e)
 
   returned-is : (a : List ℕ) (n : ℕ) → length a ≡ 24 → n ≡ number c s → returned c s a ≡ n
-  unfolding returned
-  returned-is a n h q = rw (eq-eqb (length a) 24 h) (sym q)
+  returned-is a n h q = satterthwaite-returned-is c s a ∙ rw (eq-eqb (length a) 24 h) (sym q)
 
   -- k: the cutoffs at hand
   pub call-refused : (k : Cutoffs) (a : List ℕ) (n : ℕ) → k ≡ c → length a ≡ 24 → n ≡ number k s → (n ≡ 0 → ⊥) → (n ≡ returned c s a) × (a ≡ written c s a)

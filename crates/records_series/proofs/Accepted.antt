@@ -1,76 +1,23 @@
 -- What holds of a file that is not refused.
-use Prim.Native.Nat.{ℕ, zero, suc, _+_, _*_, _%_, _<_, _≤_}
-use mathlib.Core.Path.{_≡_, refl, ap, sym, _∙_}
-use mathlib.Core.Bool.{Bool, true, false, not, cond, _||_, false≢true}
+use Prim.Native.Nat.{ℕ, _+_, _*_, _<_, _≤_}
+use mathlib.Core.Path.{_≡_, refl, ap, _∙_}
+use mathlib.Core.Bool.{Bool, true, false, not, _||_, false≢true}
 use mathlib.Core.List.{List}
 use native.Mathlib.Omega.{arith}
 use lib.Dec.{eqb, ltb}
-use lib.ListN.{length}
-use lib.Ieee.{le}
-use borrow.Author.Tests.{le-leb, eqb-true, eqb-false, ltb-false, not-false}
-use Rattle.arithmetic.specs.Numbers.{plusZero}
+use borrow.Author.Tests.{eqb-true, eqb-false, ltb-false, not-false}
 use Rattle.records.specs.Scan.{any, total}
-use Rattle.records.specs.Kinds.{kenwardRoger}
-use Rattle.records.specs.File.{count, badRecord, again, beyond, notFinite}
-use Rattle.records.specs.Series.{specimens, coefficients, zColumns, blockCount, thetas, contrastRows, blockOf, design, sizes, sigma2, incomplete, badSize, badWeight, misfit, zeroContrast, refusal}
+use Rattle.records.specs.Series.{specimens, coefficients, zColumns, blockCount, thetas, contrastRows, blockOf, design, sizes, badSize, misfit, refusal}
 use Rattle.adjustment.specs.Blocks.{places, noBlock, blockAt, columnsBefore, placesBefore}
-use Rattle.records.proofs.ScanLaws.{or-false, any-none}
+use Rattle.records.proofs.ScanLaws.{or-false, any-none, fold-total}
+use Rattle.records.proofs.AcceptedSeries.{accepted-series}
 use mathlib.Core.Logic.{_⊎_, inl, inr, ⊎-elim}
-use Rattle.algebra.specs.Fold.{fold}
 use Rattle.algebra.specs.Table.{row}
 use Rattle.algebra.proofs.FoldLaws.{fold-ext}
 use Rattle.algebra.proofs.TableLaws.{row-at}
 use Rattle.adjustment.specs.declared.Block.{Block}
-use Rattle.records_series.specs.joints.Gathered.{sizesOf, malformedFile}
+use Rattle.records_series.specs.joints.Gathered.{sizesOf}
 use Rattle.records_series.proofs.Gathers.{small}
-use Rattle.records_series.proofs.Numbers.{refusal-cases, malformed-none}
-
--- none of the reasons holds
-pub record Accepted (s : List ℕ) : Type 0 where
-  pub whole : length s % 16 ≡ 0
-  pub good : any (count s) (badRecord kenwardRoger s) ≡ false
-  pub once : any (count s) (again kenwardRoger s) ≡ false
-  pub within : any (count s) (beyond (sizes s) s) ≡ false
-  pub complete : incomplete s ≡ false
-  pub sized : badSize s ≡ false
-  pub finite : any (count s) (notFinite s) ≡ false
-  pub positive : le (sigma2 s) plusZero ≡ false
-  pub weighed : badWeight s ≡ false
-  pub fits : misfit s ≡ false
-  pub nonzero : zeroContrast s ≡ false
-
-cond-zero : (b : Bool) (n m : ℕ) → cond b (suc n) m ≡ 0 → (b ≡ false) × (m ≡ 0)
-cond-zero true n m e = absurd (omega arith)
-cond-zero false n m e = (refl, e)
-
-pub accepted : (s : List ℕ) → refusal s ≡ 0 → Accepted s
-accepted s e =
-    let t4 : ℕ = cond (zeroContrast s) 8 0 in
-    let t3 : ℕ = cond (misfit s) 7 t4 in
-    let t2 : ℕ = cond (badWeight s) 6 t3 in
-    let t1 : ℕ = cond (le (sigma2 s) plusZero) 5 t2 in
-    let t0 : ℕ = cond (any (count s) (notFinite s)) 4 t1 in
-    let a = cond-zero (malformedFile s) 1 (cond (badSize s) 3 t0) (sym (refusal-cases s) ∙ e) in
-    let b = cond-zero (badSize s) 2 t0 (a .1) in
-    let c = cond-zero (any (count s) (notFinite s)) 3 t1 (b .1) in
-    let d = cond-zero (le (sigma2 s) plusZero) 4 t2 (c .1) in
-    let f = cond-zero (badWeight s) 5 t3 (d .1) in
-    let g = cond-zero (misfit s) 6 t4 (f .1) in
-    let h = cond-zero (zeroContrast s) 7 0 (g .1) in
-    let o = malformed-none s (a .0) in
-    record {
-      whole = eqb-true (length s % 16) 0 (not-false (eqb (length s % 16) 0) (o .0));
-      good = o .1;
-      once = o .2;
-      within = o .3;
-      complete = o .4;
-      sized = b .0;
-      finite = c .0;
-      positive = d .0;
-      weighed = f .0;
-      fits = g .0;
-      nonzero = h .0;
-    }
 
 -- ---- its sizes: document 01, "Limits"
 pub record Limits (s : List ℕ) : Type 0 where
@@ -86,7 +33,7 @@ pub record Limits (s : List ℕ) : Type 0 where
 pub limits : (s : List ℕ) → refusal s ≡ 0 → Limits s
 unfolding sizesOf
 limits s e =
-    let h = small s (accepted s e .good) in
+    let h = small s (accepted-series s e .good) in
     record {
       specimen = omega arith;
       specimens = h .specimens;
@@ -133,7 +80,7 @@ fits-none s e =
 pub blocked : (s : List ℕ) → refusal s ≡ 0 → Blocked s
 unfolding wrong
 blocked s e =
-    let a = accepted s e in
+    let a = accepted-series s e in
     let w = sized-none s (a .sized) in
     let f = fits-none s (a .fits) in
     record {
@@ -145,11 +92,6 @@ blocked s e =
     }
 
 -- ---- and as the adjustment asks it of the design's blocks
-fold-total : (n : ℕ) (f : ℕ → ℕ) → fold 0 n (λ i x. x + f i) 0 ≡ total n f
-unfolding fold total
-fold-total zero f = refl
-fold-total (suc n) f = rw (le-leb 0 n (omega arith)) (ap (λ (x : ℕ). x + f n) (fold-total n f))
-
 pub record SoundBlocks (s : List ℕ) : Type 0 where
   pub few : blockCount s ≤ 3
   pub small : (b : ℕ) → b < blockCount s → blockAt (design s .blocks) b .effects ≤ 2

@@ -6,4 +6,3 @@ pub mod Values
 pub mod Accepted
 pub mod Pigeons
 pub mod Length
-pub mod Precisely

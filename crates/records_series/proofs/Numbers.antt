@@ -1,5 +1,5 @@
 -- What the code reads off the sheet and the array of blocks is what the file says.
-use Prim.Native.Nat.{ℕ, zero, suc, _+_, _*_, _%_, _<_, _≤_}
+use Prim.Native.Nat.{ℕ, _+_, _*_, _%_, _<_, _≤_}
 use mathlib.Core.Path.{_≡_, refl, ap, ap₂}
 use mathlib.Core.Bool.{Bool, true, false, not, cond, _&&_, _||_}
 use mathlib.Core.List.{List}
@@ -20,7 +20,7 @@ use Rattle.records_file.specs.joints.Sheet.{firstSlot, slots, sheetAfter}
 use Rattle.records.specs.Series.{specimens, coefficients, blockCount, contrastRows, sizes, cellValue, sigma2, blockOf, incomplete, badSize, badWeight, misfit, zeroContrast, reasons, refusal}
 use Rattle.records.proofs.ScanLaws.{or-false, any-same, total-same}
 use Rattle.records_series.specs.joints.Gathered.{sizesOf, malformedFile}
-use Rattle.records_series.specs.joints.Checks.{nonzeroInRow, nonzeros, notPositive, wrongBlock, parametersIn, columnsIn, badSizeIn, misfitIn, badWeightIn, zeroContrastIn, lateRefusal}
+use Rattle.records_series.specs.joints.Checks.{nonzeroInRow, nonzeros, notPositive, wrongBlock, parametersIn, columnsIn, badSizeIn, misfitIn, badWeightIn, zeroContrastIn, sheetRefusal}
 use Rattle.records_series.proofs.Gathers.{small}
 use Rattle.records_series.proofs.Marks.{number-at}
 
@@ -88,11 +88,11 @@ module _ (s : List ℕ) (good : any (count s) (badRecord kenwardRoger s) ≡ fal
       (any-same (contrastRows s) (λ r. any (coefficients s) (λ c. not (isZero (getD (sheetAfter kenwardRoger s (count s)) (793 + r * 6 + c) nan)))) (λ r. any (coefficients s) (λ c. not (isZero (cellValue s 9 r c))))
       (λ r l. any-same (coefficients s) (λ c. not (isZero (getD (sheetAfter kenwardRoger s (count s)) (793 + r * 6 + c) nan))) (λ c. not (isZero (cellValue s 9 r c))) (λ c m. ap (λ (x : Float). not (isZero x)) (contrast-at r c l m))))
 
-  pub late-read : blockCount s ≤ 3
-      → lateRefusal (sizesOf s) (row noBlock 3 (blockCount s) (blockOf s)) (sheetAfter kenwardRoger s (count s))
+  pub sheet-read : blockCount s ≤ 3
+      → sheetRefusal (sizesOf s) (row noBlock 3 (blockCount s) (blockOf s)) (sheetAfter kenwardRoger s (count s))
       ≡ cond (le (sigma2 s) plusZero) 5 (cond (badWeight s) 6 (cond (misfit s) 7 (cond (zeroContrast s) 8 0)))
-  unfolding lateRefusal first
-  late-read few = rw (sigma2-at, weight-read, misfit-read s few, contrast-read)
+  unfolding sheetRefusal first
+  sheet-read few = rw (sigma2-at, weight-read, misfit-read s few, contrast-read)
 
 -- ---- the whole
 five : (a b c d e : Bool) (x y : ℕ) → cond a x (cond b x (cond c x (cond d x (cond e x y)))) ≡ cond (a || b || c || d || e) x y

@@ -17,7 +17,7 @@ use Rattle.records.specs.File.{count, badRecord}
 use Rattle.records_file.specs.joints.Sheet.{firstSlot, slots, sheetAfter}
 use Rattle.records.specs.Series.{specimens, coefficients, zColumns, contrastRows, thetas, cellValue, design, phi, beta, betaH, contrast}
 use Rattle.records_series.specs.joints.Gathered.{sizesOf}
-use Rattle.records_sheet_parts.specs.joints.Parts.{numbersAt, sixAt}
+use Rattle.records_sheet_parts.specs.joints.Parts.{numbersAt, cellsAt}
 use Rattle.records_series.proofs.Gathers.{small}
 use Rattle.records_series.proofs.Marks.{number-at}
 use Rattle.records_series.proofs.Numbers.{one-at, six-at}
@@ -49,8 +49,8 @@ module _ (s : List ℕ) (good : any (count s) (badRecord kenwardRoger s) ≡ fal
       row-ext plusZero C n (λ i. getD (sheetAfter kenwardRoger s (count s)) (at + i) nan) (λ i. cellValue s k i 0) (λ i m. one-at s good k at i e f g (omega arith))
 
   square-read : (k at r c : ℕ) → firstSlot kenwardRoger k ≡ at → kindAt kenwardRoger k .columns ≡ 6 → kindAt kenwardRoger k .counts ≡ 1 → r ≤ kindAt kenwardRoger k .rows → c ≤ 6
-      → sixAt (sheetAfter kenwardRoger s (count s)) at r c ≡ table plusZero 6 6 r c (cellValue s k)
-  unfolding sixAt
+      → cellsAt (sheetAfter kenwardRoger s (count s)) at 6 r c ≡ table plusZero 6 6 r c (cellValue s k)
+  unfolding cellsAt
   square-read k at r c e f g l m =
       table-ext plusZero 6 6 r c (λ i j. getD (sheetAfter kenwardRoger s (count s)) (at + i * 6 + j) nan) (cellValue s k) (λ i j n o. six-at s good k at i j e f g (omega arith) (omega arith))
 
@@ -70,11 +70,11 @@ module _ (s : List ℕ) (good : any (count s) (badRecord kenwardRoger s) ≡ fal
   unfolding firstSlot total slots kindAt kenwardRoger sizesOf design
   weights-read = numbers-read 24 5 726 (specimens s) refl refl refl (small s good .specimens)
 
-  pub phi-read : sixAt (sheetAfter kenwardRoger s (count s)) 750 (sizesOf s .coefficients) (sizesOf s .coefficients) ≡ phi s
+  pub phi-read : cellsAt (sheetAfter kenwardRoger s (count s)) 750 6 (sizesOf s .coefficients) (sizesOf s .coefficients) ≡ phi s
   unfolding firstSlot total slots kindAt kenwardRoger sizesOf phi
   phi-read = square-read 6 750 (coefficients s) (coefficients s) refl refl refl (small s good .coefficients) (small s good .coefficients)
 
-  pub contrast-read : sixAt (sheetAfter kenwardRoger s (count s)) 793 (sizesOf s .contrasts) (sizesOf s .coefficients) ≡ contrast s
+  pub contrast-read : cellsAt (sheetAfter kenwardRoger s (count s)) 793 6 (sizesOf s .contrasts) (sizesOf s .coefficients) ≡ contrast s
   unfolding firstSlot total slots kindAt kenwardRoger sizesOf contrast
   contrast-read = square-read 9 793 (contrastRows s) (coefficients s) refl refl refl (small s good .contrasts) (small s good .coefficients)
 

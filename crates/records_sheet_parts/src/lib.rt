@@ -1,7 +1,7 @@
 // Parts of a sheet of numbers as arrays and tables.
 ghost use mathlib.Core.Path.{_≡_};
 ghost use Prim.Native.Nat.{_+_, _*_, _≤_};
-ghost use Rattle.records_sheet_parts.specs.joints.Parts.{numbersAt, sixAt, cellsAt, stackAt};
+ghost use Rattle.records_sheet_parts.specs.joints.Parts.{numbersAt, cellsAt, stackAt};
 
 // The numbers of the sheet from `at` on, as arrays of three, six and twenty-four.
 pub fn three_at(sheet: &[f64; 835], at: usize, n: usize) -> [f64; 3]
@@ -38,20 +38,6 @@ pub fn twenty_four_at(sheet: &[f64; 835], at: usize, n: usize) -> [f64; 24]
     let mut i = 0;
     while i < n {
         out[i] = sheet[at + i];
-        i += 1;
-    }
-    out
-}
-
-// r rows of c, six apart.
-pub fn square_at(sheet: &[f64; 835], at: usize, r: usize, c: usize) -> [[f64; 6]; 6]
-    requires { ⌜ (at + r * 6 ≤ 835) × (r ≤ 6) × (c ≤ 6) ⌝ }
-    ensures { λ m. ⌜ m ≡ sixAt (now (sheet .entry)) at r c ⌝ }
-{
-    let mut out = [[0.0; 6]; 6];
-    let mut i = 0;
-    while i < r {
-        out[i] = six_at(sheet, at + i * 6, c);
         i += 1;
     }
     out

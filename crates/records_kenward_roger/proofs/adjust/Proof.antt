@@ -10,7 +10,7 @@ use Rattle.records_kenward_roger.proofs.adjust.Reads as reads
 use Rattle.records_kenward_roger.proofs.adjust.Lts as lts
 use Rattle.adjustment_kr_vcov_adj.proofs.vcov_adj16_with_pw.Reads as vcov-adj16-with-pw-reads
 use Rattle.records_series.proofs.blocks_of.Reads as blocks-of-reads
-use Rattle.records_sheet_parts.proofs.square_at.Reads as square-at-reads
+use Rattle.records_sheet_parts.proofs.cells_at.Reads as cells-at-reads
 use Rattle.records_sheet_parts.proofs.three_at.Reads as three-at-reads
 use Rattle.records_sheet_parts.proofs.twenty_four_at.Reads as twenty-four-at-reads
 
@@ -35,12 +35,12 @@ twenty-four-at-requires c κs =
     let h = small-is (a .s .now) (g .0) (a .z) (a .sheet .now) (g .1) (g .2) in
     (omega (arith, h .specimens), h .specimens)
 
-square-at-requires : tie.Need-square-at-requires
-square-at-requires c κs =
+cells-at-requires : tie.Need-cells-at-requires
+cells-at-requires c κs =
     let a = c .before .before .before .before .args in
     let g = c .before .before .before .before .pre in
     let h = small-is (a .s .now) (g .0) (a .z) (a .sheet .now) (g .1) (g .2) in
-    (omega (arith, h .coefficients), h .coefficients, h .coefficients)
+    (h .coefficients, h .coefficients, h .coefficients, omega (arith, h .coefficients))
 
 slice-aggregate-vcov-adj16-with-pw : tie.Need-slice-aggregate-vcov-adj16-with-pw
 slice-aggregate-vcov-adj16-with-pw c = search needs
@@ -90,7 +90,7 @@ returns c =
     let eb = c .before .before .before .before .before .before .before .before .before .before .before .before .before .before .before .before .before .blocks-of .ensures .0 in
     let et = c .before .before .before .before .before .before .before .before .before .before .before .before .before .before .before .before .three-at .ensures in
     let ew = c .before .before .before .before .before .before .before .before .before .before .before .before .before .before .before .twenty-four-at .ensures in
-    let em = c .before .before .before .before .before .before .before .before .before .before .before .before .before .before .square-at .ensures in
+    let em = c .before .before .before .before .before .before .before .before .before .before .before .before .before .before .cells-at .ensures in
     let en = number-is-own (a .s .now) (g .0) (a .z) (a .sheet .now) (g .1) (g .2) (a .c) _ _ _ _ eb et ew em _ refl in
     let ea = adjusted-is (a .s .now) (g .0) (a .z) (a .sheet .now) (g .1) (g .2) (a .c) _ _ _ _ eb et ew em in (
       r .0 ∙ en,
@@ -113,7 +113,7 @@ adjust-spec =
     blocks-of-requires
     three-at-requires
     twenty-four-at-requires
-    square-at-requires
+    cells-at-requires
     slice-aggregate-vcov-adj16-with-pw
     slice-aggregate-vcov-adj16-with-pw-2
     sub-vcov-adj16-with-pw

@@ -24,9 +24,9 @@ judge-requires c κs = search needs
 
 returns-2 : tie.Need-returns-2
 returns-2 c =
-    let a = c .before .before .before .before .before .before .before .args in
-    let e = c .before .before .before .document-cutoffs .ensures in
-    refused-call documentCutoffs (a .records .now) (a .answer .now) (c .before .before .before .before .if1 .left) _ (c .before .judge .ensures .1 ∙ ap (λ (x : Cutoffs). number x (a .records .now)) e) (c .if2 .taken)
+    let a = c .before .before .before .before .before .before .before .before .args in
+    let e = c .before .before .before .before .document-cutoffs .ensures in
+    refused-call documentCutoffs (a .records .now) (a .answer .now) (c .before .before .before .before .before .if1 .left) _ (c .before .judge .ensures .1 .0 ∙ ap (λ (x : Cutoffs). number x (a .records .now)) e) (c .if2 .taken)
 
 put-answer-requires : tie.Need-put-answer-requires
 put-answer-requires c κs = search needs
@@ -36,9 +36,9 @@ same-length c = search needs
 
 returns-3 : tie.Need-returns-3
 returns-3 c =
-    let a = c .before .before .before .before .before .before .before .before .before .before .before .args in
-    let e = c .before .before .before .before .before .before .before .document-cutoffs .ensures in
-    accepted-call documentCutoffs (a .records .now) (a .answer .now) (c .before .before .before .before .before .before .before .before .if1 .left) _ (c .before .before .before .before .before .judge .ensures .1 ∙ ap (λ (x : Cutoffs). number x (a .records .now)) e) (c .before .before .before .before .if2 .left) _ (c .before .before .before .before .before .judge .ensures .0 ∙ ap (λ (x : Cutoffs). entries x (a .records .now)) e) _ (c .before .before .put-answer .ensures)
+    let a = c .before .before .before .before .before .before .before .before .before .before .before .before .args in
+    let e = c .before .before .before .before .before .before .before .before .document-cutoffs .ensures in
+    accepted-call documentCutoffs (a .records .now) (a .answer .now) (c .before .before .before .before .before .before .before .before .before .if1 .left) _ (c .before .before .before .before .before .judge .ensures .1 .0 ∙ ap (λ (x : Cutoffs). number x (a .records .now)) e) (c .before .before .before .before .if2 .left) _ (c .before .before .before .before .before .judge .ensures .0 ∙ ap (λ (x : Cutoffs). entries x (a .records .now)) e) _ (c .before .before .put-answer .ensures)
 
 pub call-spec : {M : Type 1} → statement M
 call-spec =

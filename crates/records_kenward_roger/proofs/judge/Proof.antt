@@ -1,5 +1,5 @@
 -- `records_kenward_roger::judge` meets its contract.
-use Rattle.records_kenward_roger.proofs.Numbers.{early-number, no-entries}
+use Rattle.records_kenward_roger.proofs.Numbers.{early-number, no-entries, no-rotations}
 use borrow.Author.Needs.{needs}
 use Rattle.records_kenward_roger.proofs.judge.Statement.{statement}
 use Rattle.records_kenward_roger.proofs.judge.Tie as tie
@@ -19,7 +19,7 @@ returns : tie.Need-returns
 returns c =
     let a = c .before .before .before .before .args in
     let e = early-number (a .c) (a .s .now) _ (c .before .before .refusal .ensures) (c .before .if1 .taken) in
-    (no-entries (a .c) (a .s .now) _ (c .no-entry .ensures) _ e (c .before .if1 .taken), e)
+    (no-entries (a .c) (a .s .now) _ (c .no-entry .ensures) _ e (c .before .if1 .taken), (e, no-rotations (a .c) (a .s .now) _ e (c .before .if1 .taken)))
 
 run-of-requires : tie.Need-run-of-requires
 run-of-requires c κs = search needs

@@ -11,7 +11,7 @@ use Rattle.records_kenward_roger.proofs.tests_of.Lts as lts
 use Rattle.adjustment_covariance.proofs.blocks.places_before.Reads as places-before-reads
 use Rattle.records_series.proofs.blocks_of.Reads as blocks-of-reads
 use Rattle.records_sheet_parts.proofs.six_at.Reads as six-at-reads
-use Rattle.records_sheet_parts.proofs.square_at.Reads as square-at-reads
+use Rattle.records_sheet_parts.proofs.cells_at.Reads as cells-at-reads
 
 blocks-of-requires : tie.Need-blocks-of-requires
 blocks-of-requires c κs =
@@ -34,12 +34,12 @@ add-n c =
     let h = matrices-few (a .s .now) (g .0 .0) (a .z) (a .sheet .now) (g .0 .1) (g .0 .2) _ (c .before .blocks-of .ensures .0) _ (c .places-before .ensures) in
     search needs
 
-square-at-requires : tie.Need-square-at-requires
-square-at-requires c κs =
+cells-at-requires : tie.Need-cells-at-requires
+cells-at-requires c κs =
     let a = c .before .before .before .args in
     let g = c .before .before .before .pre in
     let h = small-is (a .s .now) (g .0 .0) (a .z) (a .sheet .now) (g .0 .1) (g .0 .2) in
-    (omega (arith, h .coefficients), h .coefficients, h .coefficients)
+    (h .coefficients, h .coefficients, h .coefficients, omega (arith, h .coefficients))
 
 six-at-requires : tie.Need-six-at-requires
 six-at-requires c κs =
@@ -55,12 +55,12 @@ six-at-requires-2 c κs =
     let h = small-is (a .s .now) (g .0 .0) (a .z) (a .sheet .now) (g .0 .1) (g .0 .2) in
     (omega (arith, h .coefficients), h .coefficients)
 
-square-at-requires-2 : tie.Need-square-at-requires-2
-square-at-requires-2 c κs =
+cells-at-requires-2 : tie.Need-cells-at-requires-2
+cells-at-requires-2 c κs =
     let a = c .before .before .before .before .before .before .args in
     let g = c .before .before .before .before .before .before .pre in
     let h = small-is (a .s .now) (g .0 .0) (a .z) (a .sheet .now) (g .0 .1) (g .0 .2) in
-    (omega (arith, h .contrasts), h .contrasts, h .coefficients)
+    (h .contrasts, h .coefficients, h .coefficients, omega (arith, h .contrasts))
 
 element-copy-out-compute-kenward-roger : tie.Need-element-copy-out-compute-kenward-roger
 element-copy-out-compute-kenward-roger c = search needs
@@ -77,7 +77,7 @@ returns c =
     let a = c .before .before .before .before .before .before .before .before .before .before .args in
     let g = c .before .before .before .before .before .before .before .before .before .before .pre in
     let eN = matrices-are (a .s .now) (g .0 .0) (a .z) (a .sheet .now) (g .0 .1) (g .0 .2) _ (c .before .before .before .before .before .before .before .before .blocks-of .ensures .0) _ (c .before .before .before .before .before .before .before .places-before .ensures) in
-    let e = run-is (a .s .now) (g .0 .0) (a .z) (a .sheet .now) (g .0 .1) (g .0 .2) (a .c) _ _ _ _ _ _ _ _ _ eN (c .before .before .before .before .before .before .square-at .ensures) (c .before .before .before .before .before .six-at .ensures) (c .before .before .before .before .six-at2 .ensures) (c .before .before .before .square-at2 .ensures) refl (g .1 .0) (g .1 .1) (g .1 .2) in
+    let e = run-is (a .s .now) (g .0 .0) (a .z) (a .sheet .now) (g .0 .1) (g .0 .2) (a .c) _ _ _ _ _ _ _ _ _ eN (c .before .before .before .before .before .before .cells-at .ensures) (c .before .before .before .before .before .six-at .ensures) (c .before .before .before .before .six-at2 .ensures) (c .before .before .before .cells-at2 .ensures) refl (g .1 .0) (g .1 .1) (g .1 .2) in
     (c .compute-kenward-roger .ensures .0 ∙ ap (λ (r : Run). r .entries) e, c .compute-kenward-roger .ensures .1 ∙ ap (λ (r : Run). r .refused) e)
 
 pub tests-of-spec : {M : Type 1} → statement M
@@ -87,10 +87,10 @@ tests-of-spec =
     blocks-of-requires
     places-before-requires
     add-n
-    square-at-requires
+    cells-at-requires
     six-at-requires
     six-at-requires-2
-    square-at-requires-2
+    cells-at-requires-2
     element-copy-out-compute-kenward-roger
     compute-kenward-roger-requires
     returns)

@@ -27,9 +27,9 @@ text-of-requires c κs = search needs
 
 returns : tie.Need-returns
 returns c =
-    let a = c .before .before .before .before .before .before .args in
-    let e = c .before .before .before .before .document-cutoffs .ensures in
-    let n = c .before .before .judge .ensures .1 ∙ ap (λ (x : Cutoffs). number x (a .records .now)) e in
+    let a = c .before .before .before .before .before .before .before .args in
+    let e = c .before .before .before .before .before .document-cutoffs .ensures in
+    let n = c .before .before .judge .ensures .1 .0 ∙ ap (λ (x : Cutoffs). number x (a .records .now)) e in
     let es = c .before .before .judge .ensures .0 ∙ ap (λ (x : Cutoffs). entries x (a .records .now)) e in
     let f = ap₂ textOf n es in
     let r = c .text-of .ensures in

@@ -15,9 +15,9 @@ use Rattle.records_file.specs.joints.Sheet.{sheetAfter}
 use Rattle.records.specs.Series.{blockCount, blockOf, badSize, sigma2, badWeight, misfit, zeroContrast}
 use Rattle.records_series.specs.declared.SeriesSizes.{SeriesSizes}
 use Rattle.records_series.specs.joints.Gathered.{sizesOf, malformedFile}
-use Rattle.records_series.specs.joints.Checks.{badSizeIn, lateRefusal}
+use Rattle.records_series.specs.joints.Checks.{badSizeIn, sheetRefusal}
 use Rattle.records_series.proofs.Gathers.{small}
-use Rattle.records_series.proofs.Numbers.{size-read, late-read, refusal-cases, malformed-good}
+use Rattle.records_series.proofs.Numbers.{size-read, sheet-read, refusal-cases, malformed-good}
 use borrow.Author.Needs.{needs}
 use Rattle.records_refusals.proofs.refusal.Statement.{statement}
 use Rattle.records_refusals.proofs.refusal.Tie as tie
@@ -27,7 +27,7 @@ use Rattle.records_file.proofs.any_not_finite.Reads as any-not-finite-reads
 use Rattle.records_sheet.proofs.sheet_of.Reads as sheet-of-reads
 use Rattle.records_block_limits.proofs.bad_size.Reads as bad-size-reads
 use Rattle.records_series.proofs.blocks_of.Reads as blocks-of-reads
-use Rattle.records_refusals.proofs.late_refusal.Reads as late-refusal-reads
+use Rattle.records_refusals.proofs.sheet_refusal.Reads as sheet-refusal-reads
 use Rattle.records_malformed.proofs.malformed.Reads as malformed-reads
 use Rattle.records_series.proofs.sizes_of.Reads as sizes-of-reads
 
@@ -42,9 +42,9 @@ few s e = small s (malformed-good s e) .blocks
 size-of-blocks : (s : List ℕ) (n : ℕ) (bs : List Block) (r : Bool) → n ≡ blockCount s → bs ≡ row noBlock 3 n (blockOf s) → r ≡ badSizeIn bs n → blockCount s ≤ 3 → r ≡ badSize s
 size-of-blocks s n bs r en eb er h = er ∙ rw (eb, en) (size-read s h)
 
-late-of : (s : List ℕ) (z : SeriesSizes) (bs : List Block) (xs : List Float) (r : ℕ) → malformedFile s ≡ false → z ≡ sizesOf s → bs ≡ row noBlock 3 (blockCount s) (blockOf s) → xs ≡ sheetAfter kenwardRoger s (count s) → r ≡ lateRefusal z bs xs
+sheet-of-file : (s : List ℕ) (z : SeriesSizes) (bs : List Block) (xs : List Float) (r : ℕ) → malformedFile s ≡ false → z ≡ sizesOf s → bs ≡ row noBlock 3 (blockCount s) (blockOf s) → xs ≡ sheetAfter kenwardRoger s (count s) → r ≡ sheetRefusal z bs xs
     → r ≡ cond (le (sigma2 s) plusZero) 5 (cond (badWeight s) 6 (cond (misfit s) 7 (cond (zeroContrast s) 8 0)))
-late-of s z bs xs r m ez eb ex er = er ∙ rw (ez, eb, ex) (late-read s (malformed-good s m) (few s m))
+sheet-of-file s z bs xs r m ez eb ex er = er ∙ rw (ez, eb, ex) (sheet-read s (malformed-good s m) (few s m))
 
 malformed-requires : tie.Need-malformed-requires
 malformed-requires c κs = search needs
@@ -79,8 +79,8 @@ returns-3 c =
 sheet-of-requires : tie.Need-sheet-of-requires
 sheet-of-requires c κs = malformed-good (now (c .before .before .before .before .before .before .before .before .before .args .s)) (sym (c .before .before .before .before .before .before .before .malformed .ensures) ∙ c .before .before .before .before .before .before .if1 .left)
 
-late-refusal-requires : tie.Need-late-refusal-requires
-late-refusal-requires c κs = (rw (c .before .before .before .before .before .before .before .sizes-of .ensures) (small (now (c .before .before .before .before .before .before .before .before .before .before .before .args .s)) (malformed-good (now (c .before .before .before .before .before .before .before .before .before .before .before .args .s)) (sym (c .before .before .before .before .before .before .before .before .before .malformed .ensures) ∙ c .before .before .before .before .before .before .before .before .if1 .left))), c .before .before .before .before .before .before .blocks-of .ensures .1)
+sheet-refusal-requires : tie.Need-sheet-refusal-requires
+sheet-refusal-requires c κs = (rw (c .before .before .before .before .before .before .before .sizes-of .ensures) (small (now (c .before .before .before .before .before .before .before .before .before .before .before .args .s)) (malformed-good (now (c .before .before .before .before .before .before .before .before .before .before .before .args .s)) (sym (c .before .before .before .before .before .before .before .before .before .malformed .ensures) ∙ c .before .before .before .before .before .before .before .before .if1 .left))), c .before .before .before .before .before .before .blocks-of .ensures .1)
 
 returns-4 : tie.Need-returns-4
 returns-4 c =
@@ -88,7 +88,7 @@ returns-4 c =
     let m = sym (c .before .before .before .before .before .before .before .before .before .before .malformed .ensures) ∙ c .before .before .before .before .before .before .before .before .before .if1 .left in
     let n = count-of s (c .before .before .before .before .before .before .before .before .sizes-of .result) (c .before .before .before .before .before .before .before .before .sizes-of .ensures) in
     let e = size-of-blocks s (c .before .before .before .before .before .before .before .before .sizes-of .result .blocks) (c .before .before .before .before .before .before .before .blocks-of .result) (c .before .before .before .before .before .before .bad-size .result) n (c .before .before .before .before .before .before .before .blocks-of .ensures .0) (c .before .before .before .before .before .before .bad-size .ensures) (few s m) in
-    let l = late-of s (c .before .before .before .before .before .before .before .before .sizes-of .result) (c .before .before .before .before .before .before .before .blocks-of .result) (c .before .before .sheet-of .result) (c .late-refusal .result) m (c .before .before .before .before .before .before .before .before .sizes-of .ensures) (c .before .before .before .before .before .before .before .blocks-of .ensures .0 ∙ ap (λ (k : ℕ). row noBlock 3 k (blockOf s)) n) (c .before .before .sheet-of .ensures) (c .late-refusal .ensures) in
+    let l = sheet-of-file s (c .before .before .before .before .before .before .before .before .sizes-of .result) (c .before .before .before .before .before .before .before .blocks-of .result) (c .before .before .sheet-of .result) (c .sheet-refusal .result) m (c .before .before .before .before .before .before .before .before .sizes-of .ensures) (c .before .before .before .before .before .before .before .blocks-of .ensures .0 ∙ ap (λ (k : ℕ). row noBlock 3 k (blockOf s)) n) (c .before .before .sheet-of .ensures) (c .sheet-refusal .ensures) in
     rw (refusal-cases s, ← c .before .before .before .before .before .before .before .before .before .before .malformed .ensures, c .before .before .before .before .before .before .before .before .before .if1 .left, ← e, c .before .before .before .before .before .if2 .left, ← c .before .before .before .before .any-not-finite .ensures, c .before .before .before .if3 .left) l
 
 pub refusal-spec : {M : Type 1} → statement M
@@ -104,5 +104,5 @@ refusal-spec =
     any-not-finite-requires
     returns-3
     sheet-of-requires
-    late-refusal-requires
+    sheet-refusal-requires
     returns-4)

@@ -63,8 +63,8 @@ unfoldable pub zeroContrastIn : SeriesSizes → List Float → Bool
 zeroContrastIn z sheet = not (eqb (z .contrasts) 0) && not (nonzeros sheet 793 6 (z .contrasts) (z .coefficients))
 
 -- refusals 5 to 8, lowest number first; sigma2 stands at 786
-unfoldable pub lateRefusal : SeriesSizes → List Block → List Float → ℕ
-lateRefusal z blocks sheet =
+unfoldable pub sheetRefusal : SeriesSizes → List Block → List Float → ℕ
+sheetRefusal z blocks sheet =
     first
     ((5, le (getD sheet 786 nan) plusZero)
     ∷ (6, badWeightIn z sheet)

@@ -8,12 +8,9 @@ use Rattle.arithmetic.specs.Numbers.{plusZero}
 use Rattle.algebra.specs.Fold.{span}
 use Rattle.algebra.specs.Table.{row, table, blank}
 
--- n of C, and r rows of c, of six rows of six
+-- n numbers, of C
 unfoldable pub numbersAt : List Float → ℕ → ℕ → ℕ → List Float
 numbersAt sheet C at n = row plusZero C n (λ i. getD sheet (at + i) nan)
-
-unfoldable pub sixAt : List Float → ℕ → ℕ → ℕ → List (List Float)
-sixAt sheet at r c = table plusZero 6 6 r c (λ i j. getD sheet (at + i * 6 + j) nan)
 
 -- r rows of c, a stride apart, of six rows of six; n such tables of p rows of p, of four
 unfoldable pub cellsAt : List Float → ℕ → ℕ → ℕ → ℕ → List (List Float)

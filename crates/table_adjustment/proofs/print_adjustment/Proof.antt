@@ -1,5 +1,5 @@
 -- `table_adjustment::print_adjustment` meets its contract.
-use Rattle.records_series.proofs.Accepted.{accepted}
+use Rattle.records.proofs.AcceptedSeries.{accepted-series}
 use borrow.Author.Needs.{needs}
 use Rattle.table_adjustment.proofs.print_adjustment.Statement.{statement}
 use Rattle.table_adjustment.proofs.print_adjustment.Tie as tie
@@ -8,7 +8,7 @@ sizes-of-requires : tie.Need-sizes-of-requires
 sizes-of-requires c κs = search needs
 
 sheet-of-requires : tie.Need-sheet-of-requires
-sheet-of-requires c κs = accepted (c .before .before .args .file .now) (c .before .before .pre) .good
+sheet-of-requires c κs = accepted-series (c .before .before .args .file .now) (c .before .before .pre) .good
 
 at-most-requires : tie.Need-at-most-requires
 at-most-requires c κs = search needs

@@ -1,0 +1,46 @@
+-- What holds of a Kenward–Roger file that the reader does not refuse: none of its reasons.
+use Prim.Native.Nat.{ℕ, _%_}
+use mathlib.Core.Path.{_≡_, refl}
+use mathlib.Core.Bool.{false}
+use mathlib.Core.List.{List}
+use lib.Dec.{eqb, lit≤}
+use lib.ListN.{length}
+use lib.Ieee.{le}
+use borrow.Author.Tests.{eqb-true, not-false}
+use Rattle.arithmetic.specs.Numbers.{plusZero}
+use Rattle.algebra.proofs.ReasonLaws.{NoneHolds, first-none}
+use Rattle.records.specs.Scan.{any}
+use Rattle.records.specs.Kinds.{kenwardRoger}
+use Rattle.records.specs.File.{count, badRecord, again, beyond, notFinite}
+use Rattle.records.specs.Series.{sizes, sigma2, incomplete, badSize, badWeight, misfit, zeroContrast, reasons, refusal}
+
+pub record AcceptedSeries (s : List ℕ) : Type 0 where
+  pub whole : length s % 16 ≡ 0
+  pub good : any (count s) (badRecord kenwardRoger s) ≡ false
+  pub once : any (count s) (again kenwardRoger s) ≡ false
+  pub within : any (count s) (beyond (sizes s) s) ≡ false
+  pub complete : incomplete s ≡ false
+  pub sized : badSize s ≡ false
+  pub finite : any (count s) (notFinite s) ≡ false
+  pub positive : le (sigma2 s) plusZero ≡ false
+  pub weighed : badWeight s ≡ false
+  pub fits : misfit s ≡ false
+  pub nonzero : zeroContrast s ≡ false
+
+pub accepted-series : (s : List ℕ) → refusal s ≡ 0 → AcceptedSeries s
+unfolding refusal reasons
+accepted-series s e =
+    let n : NoneHolds (reasons s) = first-none (reasons s) refl e in
+    record {
+      whole = eqb-true (length s % 16) 0 (not-false (eqb (length s % 16) 0) (n 0 (lit≤ tt)));
+      good = n 1 (lit≤ tt);
+      once = n 2 (lit≤ tt);
+      within = n 3 (lit≤ tt);
+      complete = n 4 (lit≤ tt);
+      sized = n 5 (lit≤ tt);
+      finite = n 6 (lit≤ tt);
+      positive = n 7 (lit≤ tt);
+      weighed = n 8 (lit≤ tt);
+      fits = n 9 (lit≤ tt);
+      nonzero = n 10 (lit≤ tt);
+    }

@@ -1,0 +1,49 @@
+-- The numbers of the two calls by who refuses: the lent length before the file, the reader before what is computed.
+use Prim.Native.Nat.{ℕ}
+use mathlib.Core.Path.{_≡_, refl, ap, _∙_}
+use mathlib.Core.Bool.{Bool, true, false, not, cond}
+use mathlib.Core.List.{List, [], _∷_, _++_}
+use lib.Dec.{eqb}
+use lib.ListN.{length}
+use Rattle.arithmetic_cutoffs.specs.declared.Cutoffs.{Cutoffs}
+use Rattle.algebra.specs.Reasons.{first}
+use Rattle.algebra.proofs.ReasonLaws.{first-append}
+use Rattle.adjustment.specs.Adjusted.{adjustmentReasons, adjustmentRefusal}
+use Rattle.records.specs.Series.{reasons, refusal, design, phi, sigma2}
+use Rattle.records.specs.Parameters.{reasons as parameterReasons, refusal as parameterRefusal}
+use Rattle.records.specs.KenwardRogerCall.{run, allReasons, number, returnedReasons, returned}
+use Rattle.records.specs.SatterthwaiteCall.{outcome, allReasons as satterthwaiteReasons, number as satterthwaiteNumber, returnedReasons as satterthwaiteReturnedReasons, returned as satterthwaiteReturned}
+
+-- a test the other way round
+pub other-way : (b : Bool) (x y : ℕ) → cond (not b) x y ≡ cond b y x
+other-way true x y = refl
+other-way false x y = refl
+
+module _ (c : Cutoffs) (s : List ℕ) where
+  -- the adjustment's number, 0 where it does not refuse
+  abbrev pub adjustmentNumber : ℕ
+  adjustmentNumber = adjustmentRefusal c (design s) (phi s) (sigma2 s)
+
+  later-is : first (adjustmentReasons c (design s) (phi s) (sigma2 s) ++ ((10, run c s .refused) ∷ [])) ≡ cond (eqb adjustmentNumber 0) (cond (run c s .refused) 10 0) adjustmentNumber
+  unfolding adjustmentRefusal adjustmentReasons first
+  later-is = first-append (adjustmentReasons c (design s) (phi s) (sigma2 s)) ((10, run c s .refused) ∷ []) refl
+
+  -- the Kenward–Roger call's number, from the reader's, the adjustment's and the run's
+  pub number-is : number c s ≡ cond (eqb (refusal s) 0) (cond (eqb adjustmentNumber 0) (cond (run c s .refused) 10 0) adjustmentNumber) (refusal s)
+  unfolding number allReasons refusal reasons
+  number-is =
+      first-append (reasons s) (adjustmentReasons c (design s) (phi s) (sigma2 s) ++ ((10, run c s .refused) ∷ [])) refl
+      ∙ ap (λ (n : ℕ). cond (eqb (first (reasons s)) 0) n (first (reasons s))) later-is
+
+  pub returned-is : (answer : List ℕ) → returned c s answer ≡ cond (eqb (length answer) 168) (number c s) 1
+  unfolding returned returnedReasons number first
+  returned-is answer = other-way (eqb (length answer) 168) 1 (first (allReasons c s))
+
+  -- the Satterthwaite call's, from the reader's and the test's
+  pub satterthwaite-number-is : satterthwaiteNumber c s ≡ cond (eqb (parameterRefusal s) 0) (cond (outcome c s .refused) 11 0) (parameterRefusal s)
+  unfolding satterthwaiteNumber satterthwaiteReasons parameterRefusal parameterReasons first
+  satterthwaite-number-is = first-append (parameterReasons s) ((11, outcome c s .refused) ∷ []) refl
+
+  pub satterthwaite-returned-is : (answer : List ℕ) → satterthwaiteReturned c s answer ≡ cond (eqb (length answer) 24) (satterthwaiteNumber c s) 1
+  unfolding satterthwaiteReturned satterthwaiteReturnedReasons satterthwaiteNumber first
+  satterthwaite-returned-is answer = other-way (eqb (length answer) 24) 1 (first (satterthwaiteReasons c s))
