@@ -21,9 +21,9 @@ use Rattle.algebra.specs.Product.{at, identity}
 use Rattle.algebra.specs.Elimination.{larger, pivotRow, swapRows, cleared, eliminateColumn, eliminateTo, zeroPivot, backSum, backCell, backTo, joined, refused, solution, inverse}
 use Rattle.algebra.proofs.FoldLaws.{fold-both, fold-ext}
 use Rattle.algebra.proofs.TableLaws.{table-at}
-use Rattle.algebra.proofs.MovingCells.{fold-back, fold-in-step, first-bears, step-bears, Place, first, second, other, place, Sized, table-sized, BearsCells, MovesCells, moves-by, still-times, alike-over, cond-both, zero-agrees, larger-agrees}
+use Rattle.algebra.proofs.MovingCells.{fold-back, fold-in-step, first-bears, step-bears, Place, other, place, Sized, table-sized, BearsCells, MovesCells, moves-by, still-times, alike-over, cond-both, zero-agrees, larger-agrees}
 use Rattle.algebra.proofs.MovingProducts.{identity-moves}
-use Rattle.algebra.proofs.EliminationLaws.{pivot-range, eliminateTo-more, metZero, stopping-stopped}
+use Rattle.algebra.proofs.EliminationLaws.{metZero, stopping-stopped}
 use Rattle.algebra.proofs.MovingColumns.{origin, Among, origin-among, swap-row, swap-back, swap-sized, cleared-above, cleared-at, pivot-among, eliminate-sized, eliminateTo-sized, back-at}
 
 abbrev Matrix : Type 0
@@ -319,22 +319,6 @@ module _ (R W n cols : ℕ) (hr : n ≤ R) (hw : n + cols ≤ W) where
     stage-bears =
         let m : Matrix = joined marks R W n cols a b in
         columns-bear t n (n + cols) (omega arith) m (joined-sized a b) (back-bears t R C n cols (eliminateTo marks n n (n + cols) m) hr hc some d)
-
-    first-stage : BearsFrom t n (n + cols) 0 (joined marks R W n cols a b)
-    unfolding eliminateTo fold
-    first-stage = stage-bears 0 (omega arith)
-
-    -- A and B bear what X bears
-    pub solution-left : BearsCells t n n a
-    solution-left = record { cell = λ i j h l. rw (joined-left a b i j h l) at (first-stage .rest i j (omega arith) h (omega arith) (omega arith)) }
-
-    pub solution-right : BearsCells t n cols b
-    solution-right = record { cell = λ i k h l. go i k h l }
-      where
-        go : (i k : ℕ) → i < n → k < cols → Bears t (at marks b i k)
-        go i k h l =
-            let e : n + k - n ≡ k = omega arith in
-            rw e at (rw (joined-right a b i (n + k) h (omega arith) (omega arith)) at (first-stage .rest i (n + k) (omega arith) h (omega arith) (omega arith)))
 
 -- the second run: in each column the pivot is taken from the same row, it is refused where the first is, and X moves by w
 pub record SolvedAlike (t : ℕ) (w : ℤ) (R W C n cols : ℕ) (a b a' b' : Matrix) : Type 0 where

@@ -340,12 +340,6 @@ module _ {t : ℕ} (limit : Float) (R C n : ℕ) (hr : n ≤ R) (hc : n ≤ C) w
 
   -- backward: the state before bears what the state after does
   module _ (x : State Marked) (f : Fit marks n x) where
-    pub rowTo-bears : (k p : ℕ) → k ≤ n → StateBears t n (rowTo marks k limit R C n p x) → StateBears t n x
-    rowTo-bears k p o = row-from k p o x x (record { fit = f; bears = λ b. b }) .bears
-
-    pub sweepTo-bears : (k : ℕ) → k ≤ n → StateBears t n (sweepTo marks k limit R C n x) → StateBears t n x
-    sweepTo-bears k o = sweep-from k o x x (record { fit = f; bears = λ b. b }) .bears
-
     pub sweepsTo-bears : (k : ℕ) → StateBears t n (sweepsTo marks k limit R C n x) → StateBears t n x
     sweepsTo-bears k = sweeps-from k x x (record { fit = f; bears = λ b. b }) .bears
 

@@ -9,12 +9,12 @@ use lib.Ieee.{fits}
 use Rattle.arithmetic.specs.declared.Marked.{Marked}
 use Rattle.arithmetic.specs.Numbers.{plusZero, one}
 use Rattle.arithmetic.specs.Marks.{given, markedAdd, markedSub, markedMul, markedDiv}
-use Rattle.arithmetic.proofs.MarkLaws.{Bears, Moves, add-bears, sub-bears, mul-bears, div-bears, add-moves, sub-moves, mul-moves, div-moves}
+use Rattle.arithmetic.proofs.MarkLaws.{Bears, Moves, add-bears, sub-bears, mul-bears, add-moves, sub-moves, mul-moves, div-moves}
 use Rattle.algebra.specs.Fold.{fold}
 use Rattle.algebra.specs.Kind.{marks, zeroOf}
-use Rattle.algebra.specs.Product.{at, sum, cell, product, transpose, sumCells, likeCells, trace, plusCells, minusCells, timesNumber, overNumber, identity}
+use Rattle.algebra.specs.Product.{at, sum, cell, product, transpose, minusCells, timesNumber, overNumber, identity}
 use Rattle.algebra.proofs.FoldLaws.{fold-both}
-use Rattle.algebra.proofs.MovingCells.{BearsCells, MovesCells, first-bears, step-bears, nil-moves, constant-moves, table-moves, table-bears}
+use Rattle.algebra.proofs.MovingCells.{BearsCells, MovesCells, step-bears, nil-moves, constant-moves, table-moves, table-bears}
 
 abbrev Matrix : Type 0
 Matrix = List (List Marked)
@@ -33,47 +33,6 @@ module _ {t : ℕ} where
   sum-moves u m n f f' p =
       fold-both (λ x y. Moves t u x y) 0 n (λ k s. markedAdd s (f k)) (λ k s. markedAdd s (f' k)) (zeroOf marks) (zeroOf marks) (nil-moves u)
       (λ k h l x y q. add-moves u m x (f k) y (f' k) q (p k l))
-
-  -- row after row, with one running sum
-  pub sumCells-bears : (r c : ℕ) (f : ℕ → ℕ → Marked) → Bears t (sumCells marks r c f) → (i j : ℕ) → i < r → j < c → Bears t (f i j)
-  unfolding sumCells
-  sumCells-bears r c f h i j k l =
-      let s : ℕ → ℕ → Marked → Marked = λ i j s. markedAdd s (f i j) in
-      let o : ℕ → Marked → Marked = λ i s₀. fold 0 c (s i) s₀ in
-      let back : (i j : ℕ) (b : Marked) → Bears t (s i j b) → Bears t b = λ i j b h. add-bears b (f i j) h .0 in
-      let b : Marked = fold 0 i o (zeroOf marks) in
-      let e : Bears t (fold 0 c (s i) b) = step-bears 0 r o (zeroOf marks) (λ i b h. first-bears 0 c (s i) b (back i) h) h i (omega arith) k in
-      add-bears (fold 0 j (s i) b) (f i j) (step-bears 0 c (s i) b (back i) e j (omega arith) l) .1
-
-  pub sumCells-moves : (u : ℤ) → natAbs u ≤ t → (r c : ℕ) (f f' : ℕ → ℕ → Marked) → ((i j : ℕ) → i < r → j < c → Moves t u (f i j) (f' i j))
-      → Moves t u (sumCells marks r c f) (sumCells marks r c f')
-  unfolding sumCells
-  sumCells-moves u m r c f f' p =
-      fold-both (λ x y. Moves t u x y) 0 r (λ i s. fold 0 c (λ j s. markedAdd s (f i j)) s) (λ i s. fold 0 c (λ j s. markedAdd s (f' i j)) s) (zeroOf marks) (zeroOf marks) (nil-moves u)
-      (λ i h k x y q. fold-both (λ x y. Moves t u x y) 0 c (λ j s. markedAdd s (f i j)) (λ j s. markedAdd s (f' i j)) x y q
-      (λ j o l x y q. add-moves u m x (f i j) y (f' i j) q (p i j k l)))
-
-  -- the sum of the products of like cells, and the sum of the diagonal
-  pub likeCells-bears : (r c : ℕ) (a b : Matrix) → Bears t (likeCells marks r c a b) → (i j : ℕ) → i < r → j < c
-      → Bears t (at marks a i j) × Bears t (at marks b i j)
-  unfolding likeCells
-  likeCells-bears r c a b h i j k l =
-      mul-bears (at marks a i j) (at marks b i j) (sumCells-bears r c (λ i j. markedMul (at marks a i j) (at marks b i j)) h i j k l)
-
-  pub likeCells-moves : (u v : ℤ) → natAbs (u +ℤ v) ≤ t → (r c : ℕ) (a b a' b' : Matrix) → MovesCells t u r c a a' → MovesCells t v r c b b'
-      → Moves t (u +ℤ v) (likeCells marks r c a b) (likeCells marks r c a' b')
-  unfolding likeCells
-  likeCells-moves u v m r c a b a' b' p q =
-      sumCells-moves (u +ℤ v) m r c (λ i j. markedMul (at marks a i j) (at marks b i j)) (λ i j. markedMul (at marks a' i j) (at marks b' i j))
-      (λ i j h l. mul-moves u v m (at marks a i j) (at marks b i j) (at marks a' i j) (at marks b' i j) (p .cell i j h l) (q .cell i j h l))
-
-  pub trace-bears : (n : ℕ) (a : Matrix) → Bears t (trace marks n a) → (i : ℕ) → i < n → Bears t (at marks a i i)
-  unfolding trace
-  trace-bears n a h i l = sum-bears n (λ i. at marks a i i) h i l
-
-  pub trace-moves : (u : ℤ) → natAbs u ≤ t → (n : ℕ) (a a' : Matrix) → MovesCells t u n n a a' → Moves t u (trace marks n a) (trace marks n a')
-  unfolding trace
-  trace-moves u m n a a' p = sum-moves u m n (λ i. at marks a i i) (λ i. at marks a' i i) (λ i h. p .cell i i h h)
 
   -- ---- products
   pub cell-bears : (n : ℕ) (a b : Matrix) (i j : ℕ) → Bears t (cell marks n a b i j) → (k : ℕ) → k < n → Bears t (at marks a i k) × Bears t (at marks b k j)
@@ -95,10 +54,7 @@ module _ {t : ℕ} where
     unfolding product
     product-bears n a b i j h l x = cell-bears n a b i j (table-bears R C r c (cell marks n a b) hr hc i j h l x)
 
-    -- the two matrices, where there is a column to meet each row, or a row to meet each column
-    pub product-left : (n : ℕ) (a b : Matrix) → 0 < c → BearsCells t r c (product marks R C r n c a b) → BearsCells t r n a
-    product-left n a b s x = record { cell = λ i k h l. product-bears n a b i 0 h s (x .cell i 0 h s) k l .0 }
-
+    -- the right matrix, where there is a row to meet each column
     pub product-right : (n : ℕ) (a b : Matrix) → 0 < r → BearsCells t r c (product marks R C r n c a b) → BearsCells t n c b
     product-right n a b s x = record { cell = λ k j l h. product-bears n a b 0 j s h (x .cell 0 j s h) k l .1 }
 
@@ -108,28 +64,11 @@ module _ {t : ℕ} where
     product-moves u v m n a b a' b' p q =
         table-moves (u +ℤ v) R C r c (cell marks n a b) (cell marks n a' b') hr hc (cell-moves u v m r n c a b a' b' p q)
 
-    pub transpose-bears : (a : Matrix) (i j : ℕ) → i < r → j < c → Bears t (at marks (transpose marks R C c r a) i j) → Bears t (at marks a j i)
-    unfolding transpose
-    transpose-bears a i j h l x = table-bears R C r c (λ i j. at marks a j i) hr hc i j h l x
-
     pub transpose-moves : (u : ℤ) (a a' : Matrix) → MovesCells t u c r a a' → MovesCells t u r c (transpose marks R C c r a) (transpose marks R C c r a')
     unfolding transpose
     transpose-moves u a a' p = table-moves u R C r c (λ i j. at marks a j i) (λ i j. at marks a' j i) hr hc (λ i j h l. p .cell j i l h)
 
     -- cell by cell
-    pub plusCells-bears : (a b : Matrix) (i j : ℕ) → i < r → j < c → Bears t (at marks (plusCells marks R C r c a b) i j)
-        → Bears t (at marks a i j) × Bears t (at marks b i j)
-    unfolding plusCells
-    plusCells-bears a b i j h l x =
-        add-bears (at marks a i j) (at marks b i j) (table-bears R C r c (λ i j. markedAdd (at marks a i j) (at marks b i j)) hr hc i j h l x)
-
-    pub plusCells-moves : (u : ℤ) → natAbs u ≤ t → (a b a' b' : Matrix) → MovesCells t u r c a a' → MovesCells t u r c b b'
-        → MovesCells t u r c (plusCells marks R C r c a b) (plusCells marks R C r c a' b')
-    unfolding plusCells
-    plusCells-moves u m a b a' b' p q =
-        table-moves u R C r c (λ i j. markedAdd (at marks a i j) (at marks b i j)) (λ i j. markedAdd (at marks a' i j) (at marks b' i j)) hr hc
-        (λ i j h l. add-moves u m (at marks a i j) (at marks b i j) (at marks a' i j) (at marks b' i j) (p .cell i j h l) (q .cell i j h l))
-
     pub minusCells-bears : (a b : Matrix) (i j : ℕ) → i < r → j < c → Bears t (at marks (minusCells marks R C r c a b) i j)
         → Bears t (at marks a i j) × Bears t (at marks b i j)
     unfolding minusCells
@@ -144,22 +83,12 @@ module _ {t : ℕ} where
         (λ i j h l. sub-moves u m (at marks a i j) (at marks b i j) (at marks a' i j) (at marks b' i j) (p .cell i j h l) (q .cell i j h l))
 
     -- by a number
-    pub timesNumber-bears : (a : Matrix) (x : Marked) (i j : ℕ) → i < r → j < c → Bears t (at marks (timesNumber marks R C r c a x) i j)
-        → Bears t (at marks a i j) × Bears t x
-    unfolding timesNumber
-    timesNumber-bears a x i j h l y = mul-bears (at marks a i j) x (table-bears R C r c (λ i j. markedMul (at marks a i j) x) hr hc i j h l y)
-
     pub timesNumber-moves : (u v : ℤ) → natAbs (u +ℤ v) ≤ t → (a a' : Matrix) (x x' : Marked) → MovesCells t u r c a a' → Moves t v x x'
         → MovesCells t (u +ℤ v) r c (timesNumber marks R C r c a x) (timesNumber marks R C r c a' x')
     unfolding timesNumber
     timesNumber-moves u v m a a' x x' p q =
         table-moves (u +ℤ v) R C r c (λ i j. markedMul (at marks a i j) x) (λ i j. markedMul (at marks a' i j) x') hr hc
         (λ i j h l. mul-moves u v m (at marks a i j) x (at marks a' i j) x' (p .cell i j h l) q)
-
-    pub overNumber-bears : (a : Matrix) (x : Marked) (i j : ℕ) → i < r → j < c → Bears t (at marks (overNumber marks R C r c a x) i j)
-        → Bears t (at marks a i j) × Bears t x
-    unfolding overNumber
-    overNumber-bears a x i j h l y = div-bears (at marks a i j) x (table-bears R C r c (λ i j. markedDiv (at marks a i j) x) hr hc i j h l y)
 
     pub overNumber-moves : (u v : ℤ) → natAbs (u -ℤ v) ≤ t → (a a' : Matrix) (x x' : Marked) → MovesCells t u r c a a' → Moves t v x x'
         → MovesCells t (u -ℤ v) r c (overNumber marks R C r c a x) (overNumber marks R C r c a' x')

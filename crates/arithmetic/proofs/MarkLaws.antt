@@ -1,21 +1,20 @@
 -- All that higher crates know of a mark. `Bears t a`: every step that led to a keeps its bits when its numbers move by a power of two up to 2 ^ t, either way.
 -- It is shut here: what it rests on, a range of exponents, may change without a change above. Each marked step implies that its operands bear as much, and keeps
 -- the relation `Moves` between a number and that of a second run whose inputs were scaled.
-use mathlib.Core.Path.{_≡_, refl, sym, ap, _∙_, subst}
+use mathlib.Core.Path.{_≡_, refl, ap, _∙_, subst}
 use Prim.Native.Nat.{ℕ, zero, suc, _+_, _-_, _≤_}
 use native.Mathlib.Nat.{le-trans}
 use mathlib.Core.Bool.{Bool, true, false, not, _&&_, _||_}
 use mathlib.Core.Logic.{_⊎_, inl, inr}
 use lib.IntN.{ℤ, natAbs, _+ℤ_, _-ℤ_}
 use lib.Dec.{T, lit≤}
-use lib.Ieee.{Float, nan, inf, fin, binary64, prec, emax, low, fits, neg, add, sub, mul, div}
-use lib.Ieee.Fits.{and-l, and-r, neg-fits, mul-fits}
+use lib.Ieee.{Float, nan, inf, fin, binary64, prec, emax, low, fits, add, sub, mul, div}
+use lib.Ieee.Fits.{and-l, and-r, mul-fits}
 use Rattle.arithmetic.specs.declared.Marked.{Marked}
 use Rattle.arithmetic.specs.Numbers.{magnitude, isZero}
 use Rattle.arithmetic.specs.Scale.{scale, powerOfTwo}
 use Rattle.arithmetic.specs.SquareRoot.{squareRoot}
-use Rattle.arithmetic.specs.Marks.{inRange, marked, given, stepMark, lostProduct, lostQuotient, markedAdd, markedSub, markedMul, markedDiv, markedRoot, markedNeg, markedMagnitude, also}
-use Rattle.arithmetic.proofs.ScaleLaws.{scale-neg}
+use Rattle.arithmetic.specs.Marks.{inRange, marked, given, stepMark, lostProduct, lostQuotient, markedAdd, markedSub, markedMul, markedDiv, markedRoot, markedMagnitude, also}
 use Rattle.arithmetic.proofs.Operations.{Zero, Safe}
 use Rattle.arithmetic.proofs.Rounding.{Within}
 use Rattle.arithmetic.proofs.Ranges.{within-mono, safe-within, zero-safe}
@@ -69,13 +68,6 @@ pub record Bears (t : ℕ) (a : Marked) : Type 0 where
 pub inside-bears : {t : ℕ} (a : Marked) → t ≤ 221 → T (a .inside) → Bears t a
 inside-bears a h i = record { mark = i; small = h }
 
-pub bears-less : {s t : ℕ} {a : Marked} → s ≤ t → Bears t a → Bears s a
-bears-less h b = record { mark = b .mark; small = le-trans h (b .small) }
-
--- an input bears what any number bears
-pub given-bears : {t : ℕ} (x : Float) {a : Marked} → Bears t a → Bears t (given x)
-given-bears x b = record { mark = tt; small = b .small }
-
 -- another number with a mark, under the same bound
 at : {t : ℕ} {a b : Marked} → Bears t a → T (b .inside) → Bears t b
 at {b = b} h i = record { mark = i; small = h .small }
@@ -117,10 +109,6 @@ unfolding markedRoot
 root-bears a h =
     let r = inRange (squareRoot (a .value)) in
     at h (and-l (a .inside) (inRange (a .value)) (and-l (a .inside && inRange (a .value)) r (h .mark)))
-
-pub neg-bears : {t : ℕ} (a : Marked) → Bears t (markedNeg a) → Bears t a
-unfolding markedNeg
-neg-bears a h = at h (h .mark)
 
 pub magnitude-bears : {t : ℕ} (a : Marked) → Bears t (markedMagnitude a) → Bears t a
 unfolding markedMagnitude
@@ -251,12 +239,6 @@ module _ {t : ℕ} where
       let i = inRange (squareRoot (a .value)) in
       let k = p (at h (and-l (a .inside) (inRange (a .value)) (and-l (a .inside && inRange (a .value)) i (h .mark)))) in
       record { fine = root-fits (a .value) (k .fine); moved = ap squareRoot (k .moved) ∙ root-scale u (a .value) }
-
-  pub neg-moves : (u : ℤ) (a a' : Marked) → Moves t u a a' → Moves t u (markedNeg a) (markedNeg a')
-  unfolding markedNeg
-  neg-moves u a a' p h =
-      let k = p (at h (h .mark)) in
-      record { fine = neg-fits binary64 (a .value) (k .fine); moved = ap neg (k .moved) ∙ scale-neg u (a .value) }
 
   pub magnitude-moves : (u : ℤ) (a a' : Marked) → Moves t u a a' → Moves t u (markedMagnitude a) (markedMagnitude a')
   unfolding markedMagnitude

@@ -1,28 +1,26 @@
 -- The root by cases, as the code goes: a NaN, a zero, a negative value, an infinity, and a pattern.
 use mathlib.Core.Path.{_≡_, refl, sym, ap, _∙_, subst}
-use Prim.Native.Nat.{ℕ, zero, suc, _+_, _-_, _*_, _/_, _%_, _^_, _≤_, _<_}
-use native.Mathlib.Nat.{le-trans, le-of-eq, lt-of-lt-of-le, lt-of-le-of-lt, lt-irrefl, mul-one, mul-pos, mul-assoc, mul-comm, pow-suc, le-of-mul-le-mul-right, lt-of-mul-lt-mul-right, mul-lt-mul-of-pos-right, mul-le-mul-right, zero-lt-suc, zero-mul, div-lt-iff-lt-mul, not-le-of-lt, eq-zero-or-pos, zero-add}
+use Prim.Native.Nat.{ℕ, zero, suc, _+_, _-_, _*_, _/_, _^_, _≤_, _<_}
+use native.Mathlib.Nat.{le-of-eq, lt-of-lt-of-le, mul-pos, mul-lt-mul-of-pos-right, zero-lt-suc, div-lt-iff-lt-mul, not-le-of-lt, eq-zero-or-pos}
 use native.Mathlib.Omega.{arith}
-use mathlib.Core.Bool.{Bool, true, false, not, _&&_, _||_, Bool·beq, cond, true≢false, false≢true}
-use mathlib.Core.Logic.{_⊎_, inl, inr}
-use lib.IntN.{ℤ, pos, negsuc}
-use lib.Dec.{T, ltb, leb, eqb, ltb→lt, lt→ltb, eqb→eq, not-T}
-use lib.Pow.{pow-add, pow-pos, pow-mono}
-use lib.Ieee.{Float, nan, inf, fin, Format, binary64, up, down, size, fits, isNan, eq, lt, ne, toBits, ofBits, neg}
-use lib.Ieee.Fits.{up-pos, down-pos, kept-lt, eq→eqb, and-i}
-use lib.Ieee.Digits.{size-le, size-lt}
+use mathlib.Core.Bool.{true, false, not, true≢false, false≢true}
+use mathlib.Core.Logic.{inl, inr}
+use lib.IntN.{ℤ}
+use lib.Dec.{T, ltb, lt→ltb, not-T}
+use lib.Pow.{pow-pos}
+use lib.Ieee.{Float, nan, inf, fin, binary64, up, down, size, fits, isNan, eq, lt, ne, toBits, ofBits}
+use lib.Ieee.Fits.{up-pos, down-pos, kept-lt}
+use lib.Ieee.Digits.{size-le}
 use lib.Ieee.Bits.{ofBits-toBits, ofBits-fits, is-true, is-false}
 use lib.Ieee.Compare.{differs-from-itself}
-use lib.Ieee.Exact.{HasValue}
 use Rattle.arithmetic.specs.Numbers.{plusZero, isZero}
 use Rattle.arithmetic.proofs.Operations.{Zero}
 use Rattle.arithmetic.proofs.RangeTest.{zero-of-test, test-of-zero}
 use Rattle.arithmetic.proofs.PlainLaws.{is-number, of-eq, clash, not-below}
 use Rattle.arithmetic.proofs.PowerOfTwo.{fits-parts}
-use Rattle.arithmetic.specs.SquareRoot.{squareRoot, Full}
+use Rattle.arithmetic.specs.SquareRoot.{squareRoot}
 use Rattle.arithmetic.specs.joints.RootPattern.{rootBits}
 use Rattle.arithmetic.proofs.RootPatterns.{root-bits}
-use Rattle.arithmetic.proofs.Rounding.{Within}
 
 pub root-nan : (x : Float) → ne x x ≡ true → x ≡ squareRoot x
 unfolding squareRoot
@@ -114,27 +112,3 @@ root-fits (inf false) t = tt
 root-fits (fin s zero e) t = t
 root-fits (fin true (suc m) e) t = tt
 root-fits (fin false (suc m) e) t = whole-fits m e t
-
--- the binary exponent of a value that is not zero, more 1074: from 2 ^ n units on, and below twice that
-pub full-within : (x : Float) (M n : ℕ) → Full M → HasValue x false (M * 2 ^ n) (2 ^ 1126) → Within binary64 n (suc n) x
-full-within nan M n F v = v
-full-within (inf s) M n F v = v
-full-within (fin s m e) M n F v = (
-  lower m (up e) (down e) M (2 ^ n) (2 ^ 52) (2 ^ 1074) (2 ^ 1126) (pow-pos 52) refl (v .1) (F .0),
-  upper m (up e) (down e) M (2 ^ n) (2 ^ suc n) (2 ^ 52) (2 ^ 1074) (2 ^ 1126) (2 ^ 53) (down-pos e) (pow-pos n) refl (pow-suc 2 n) refl (v .1) (F .1),
-)
-  where
-    lower : (m u d M N P Q R : ℕ) → 0 < P → R ≡ P * Q → m * u * R ≡ M * N * d → P ≤ M → N * d ≤ m * u * Q
-    lower m u d M N P Q R P0 r h k = le-of-mul-le-mul-right (le-trans (le-of-eq (mul-comm (N * d) P)) (le-trans (mul-le-mul-right (N * d) k) (le-of-eq (fold m u d M N P Q R r h)))) P0
-      where
-        fold : (m u d M N P Q R : ℕ) → R ≡ P * Q → m * u * R ≡ M * N * d → M * (N * d) ≡ m * u * Q * P
-        fold m u d M N P Q R r h = omega (arith, h, ap (λ (x : ℕ). m * u * x) r)
-
-    upper : (m u d M N N' P Q R S : ℕ) → 0 < d → 0 < N → R ≡ P * Q → N' ≡ N * 2 → S ≡ P * 2 → m * u * R ≡ M * N * d → M < S → m * u * Q < N' * d
-    upper m u d M N N' P Q R S D Np r n s h k = lt-of-mul-lt-mul-right P (lt-of-le-of-lt (le-of-eq (fold m u d M N P Q R r h)) (lt-of-lt-of-le (mul-lt-mul-of-pos-right k (mul-pos Np D)) (le-of-eq (last N d P N' S n s))))
-      where
-        fold : (m u d M N P Q R : ℕ) → R ≡ P * Q → m * u * R ≡ M * N * d → m * u * Q * P ≡ M * (N * d)
-        fold m u d M N P Q R r h = omega (arith, h, ap (λ (x : ℕ). m * u * x) r)
-
-        last : (N d P N' S : ℕ) → N' ≡ N * 2 → S ≡ P * 2 → S * (N * d) ≡ N' * d * P
-        last N d P N' S n s = omega (arith, ap (λ (x : ℕ). x * (N * d)) s, ap (λ (x : ℕ). x * d * P) n)

@@ -1,7 +1,7 @@
 -- Marked numbers (document 01: "A marked number is a value together with its mark") and the marked steps, those that bear an M.
 use mathlib.Core.Bool.{Bool, true, false, not, _&&_, _||_}
-use lib.IntN.{ℤ, pos, negsuc}
-use lib.Ieee.{Float, fin, binary64, neg, add, sub, mul, div, lt, le}
+use lib.IntN.{pos, negsuc}
+use lib.Ieee.{Float, fin, binary64, add, sub, mul, div, lt, le}
 use Rattle.arithmetic.specs.declared.Marked.{Marked}
 use Rattle.arithmetic.specs.Numbers.{magnitude, isZero}
 use Rattle.arithmetic.specs.SquareRoot.{squareRoot}
@@ -52,10 +52,6 @@ unfoldable pub markedRoot : Marked → Marked
 markedRoot a = let r = squareRoot (a .value) in marked r (a .inside && inRange (a .value) && inRange r)
 
 -- ---- what rounds nothing is no step and keeps the mark
--- the sign changed
-unfoldable pub markedNeg : Marked → Marked
-markedNeg a = marked (neg (a .value)) (a .inside)
-
 -- the sign cleared
 unfoldable pub markedMagnitude : Marked → Marked
 markedMagnitude a = marked (magnitude (a .value)) (a .inside)

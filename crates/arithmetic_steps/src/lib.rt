@@ -1,6 +1,6 @@
 // The marked steps: + - * / and the square root on numbers that carry their mark.
 ghost use mathlib.Core.Path.{_≡_};
-ghost use Rattle.arithmetic.specs.Marks.{inRange, stepMark, lostProduct, lostQuotient, given, markedAdd, markedSub, markedMul, markedDiv, markedRoot, markedNeg, markedMagnitude, also};
+ghost use Rattle.arithmetic.specs.Marks.{inRange, stepMark, lostProduct, lostQuotient, given, markedAdd, markedSub, markedMul, markedDiv, markedRoot, markedMagnitude, also};
 use arithmetic::Marked;
 use arithmetic::plain::is_zero;
 use arithmetic::plain::magnitude;
@@ -96,16 +96,6 @@ pub fn square_root(a: Marked) -> Marked
     Marked {
         value: r,
         inside: a.inside & in_range(a.value) & in_range(r),
-    }
-}
-
-// The sign changed: no step.
-pub fn negated(a: Marked) -> Marked
-    ensures { λ r. ⌜ r ≡ markedNeg a ⌝ }
-{
-    Marked {
-        value: -a.value,
-        inside: a.inside,
     }
 }
 
