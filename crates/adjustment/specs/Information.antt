@@ -1,5 +1,5 @@
 -- Document 01: "H_r = G_r S; O_r = H_r X; P_r = -1 × (O_rᵀ(S X)); Q_rs = (O_rᵀ S) O_s, r ≤ s, packed at a·N − a(a+1)/2 + b, a the smaller index. K_rs = sum over i, j of
--- H_r[j,i] × H_s[i,j]. IE_rs = (K_rs − 2·cells(Φ, Q_rs)) + cells(ΦP_r, P_sΦ), for r ≤ s and mirrored. With the smallest eigenvalue magnitude of IE > 1e-10 (NaN passed
+-- H_r[j,i] × H_s[i,j]. IE_rs = (K_rs − 2·cells(Φ, Q_rs)) + cells(ΦP_r, P_sΦ), for r ≤ s and mirrored; .. With the smallest eigenvalue magnitude of IE > 1e-10 (NaN passed
 -- over, from infinity) W = 2·IE⁻¹; otherwise 1e-8 joins each diagonal first." The small matrices are stored in 6 rows of 6.
 use Prim.Native.Nat.{ℕ, _+_, _-_, _*_, _/_}
 use mathlib.Core.Bool.{Bool, true, false, cond}

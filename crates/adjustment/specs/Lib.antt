@@ -1,4 +1,4 @@
--- Document 01, "vcov_adj16_with_pw.rs": the covariance adjustment. Definitions alone.
+-- Document 01, "kr_vcov_adj.rs": the covariance adjustment. Definitions alone.
 pub mod Blocks
 pub mod Covariance
 pub mod Information

@@ -1,6 +1,6 @@
 -- Elimination of A X = B. Document 01: "in column c the pivot is the largest magnitude in rows c and below, replaced only by a strictly larger one; zero pivot
 -- refuses. Lower rows subtract factor × pivot row, right of c and in B only. Back substitution subtracts known terms by rising index, then divides. Inverse: B = identity."
--- A and B stand side by side in one matrix m of n rows: the n columns of A, then those of B, w columns in all. "Right of c and in B" is then one range of columns.
+-- A and B stand side by side in one matrix m of n rows: the n columns of A, then those of B, w columns in all. "right of c and in B" is then one range of columns.
 use Prim.Native.Nat.{ℕ, _+_, _-_}
 use mathlib.Core.Bool.{Bool, true, false, cond, _||_}
 use mathlib.Core.List.{List, []}

@@ -67,7 +67,7 @@ pub record Exact (g : Change) (s : List ℕ) : Type 0 where
   pub again : (i : ℕ) → i < count s → g .rewrites (kindOf s i) ≡ true → T (fits binary64 (scale (g .shift (kindOf s i) (rowOf s i)) (valueOf s i)))
 
 module _ (g : Change) (s : List ℕ) (h : Exact g s) where
-  -- "exact scaling by powers of two": what f64 multiplication gives is the value scaled
+  -- exact scaling by powers of two: what f64 multiplication gives is the value scaled
   pub value-exact : (i : ℕ) → i < count s → g .rewrites (kindOf s i) ≡ true → valueOf (converted g s) i ≡ scale (g .shift (kindOf s i) (rowOf s i)) (valueOf s i)
   value-exact i l e = value-new g s i l e ∙ scale-is-mul binary64 (g .shift (kindOf s i) (rowOf s i)) (valueOf s i) (h .again i l e)
 

@@ -1,4 +1,4 @@
--- Demand 3, "The verdict survives a change of converter": another converter gives sigma2, β, β_H and the contrast's rows times powers of two, and with the Satterthwaite call v and the
+-- Demand 3, the verdict survives a change of converter: another converter gives sigma2, β, β_H and the contrast's rows times powers of two, and with the Satterthwaite call v and the
 -- Jacobians in sigma2's place. The converted file is the file with these values multiplied, all other bytes as they were.
 use Prim.Native.Nat.{ℕ, _-_, _/_, _%_}
 use mathlib.Core.Bool.{Bool, _&&_, _||_, cond}

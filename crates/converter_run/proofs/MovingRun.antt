@@ -37,7 +37,7 @@ use Rattle.algebra_products.proofs.MovingSmall.{tied-still, tied-nil}
 use Rattle.algebra.specs.Small.{Rows}
 use Rattle.converter_run.proofs.MovingScaling.{scaledUp-moves, scaledDown-moves, output-agrees}
 use Rattle.converter_run.proofs.MovingBasis.{SameBasis, basis-agrees, basis-written}
-use Rattle.converter_run.proofs.MovingTest.{ScalingBears, test-bears, SameVerdict, test-survives}
+use Rattle.converter_run.proofs.MovingTest.{ScalingBears, test-bears, SameTested, test-survives}
 
 -- ---- the Ps
 ps-at : (p N : ℕ) (ps : List Rows) (x : Float) → N ≤ 4 → (r : ℕ) → r < N → getD (scaledPs p N ps x) r [] ≡ scaledDown p (getD ps r []) x
@@ -82,7 +82,7 @@ module _ {t : ℕ} (c : Cutoffs) (p N : ℕ) (p1 : 1 ≤ p) (hp : p ≤ 6) (hN :
 
   module _ (betaH betaH' : List Float) (eh : (i : ℕ) → i < p → Tied k (getD betaH i nan) (getD betaH' i nan)) where
     basis-test : (rows : Rows) (q : ℕ) (seen seen' : Marked) → q ≤ 6 → WrittenCells q p rows → Bears t (testSeen c s beta betaH (basisFrom rows q seen))
-        → SameVerdict (tested c s beta betaH (basisFrom rows q seen)) (tested c s' beta' betaH' (basisFrom rows q seen'))
+        → SameTested (tested c s beta betaH (basisFrom rows q seen)) (tested c s' beta' betaH' (basisFrom rows q seen'))
     unfolding scaledBy
     basis-test rows q seen seen' hq w h =
         test-survives c p N q hp p1 hN hq k n2 (scaledUp p phi sigma2) (scaledUp p (a .phiA) sigma2) (scaledUp p phi sigma2') (scaledUp p (a .phiA) sigma2')
@@ -91,7 +91,7 @@ module _ {t : ℕ} (c : Cutoffs) (p N : ℕ) (p1 : 1 ≤ p) (hp : p ≤ 6) (hN :
 
     pub contrast-survives : (rows : ℕ) → 1 ≤ rows → rows ≤ 6 → (m : ℕ → ℤ) (l l' : Rows)
         → ((i j : ℕ) → i < rows → j < p → Tied (m i) (at floats l i j) (at floats l' i j)) → contrastTest c s beta betaH rows l .entry .inside ≡ true
-        → SameVerdict (contrastTest c s beta betaH rows l) (contrastTest c s' beta' betaH' rows l')
+        → SameTested (contrastTest c s beta betaH rows l) (contrastTest c s' beta' betaH' rows l')
     unfolding contrastTest scaledBy
     contrast-survives rows r1 hr m l l' el e =
         let b : Basis = contrastBasis rows p l in
@@ -99,10 +99,10 @@ module _ {t : ℕ} (c : Cutoffs) (p N : ℕ) (p1 : 1 ≤ p) (hp : p ≤ 6) (hN :
         let seen : Bears t (testSeen c s beta betaH b) = inside-seen c s beta betaH b small e in
         let same : SameBasis b b' = basis-agrees rows p hr hp m l l' el (test-bears c s beta betaH b seen .scaling .before) in
         let hq : b .rank ≤ 6 = le-trans (rank-most rows p l r1 p1) (le-trans (min-le-left rows p) hr) in
-        subst (λ (x : Basis). SameVerdict (tested c s beta betaH b) (tested c s' beta' betaH' x)) (basis-is b b' same)
+        subst (λ (x : Basis). SameTested (tested c s beta betaH b) (tested c s' beta' betaH' x)) (basis-is b b' same)
         (basis-test (b .rows) (b .rank) (b .seen) (b' .seen) hq (basis-written rows p hr hp l (λ i j h o. el i j h o .fine) r1 p1) seen)
 
-  pub coefficient-survives : (i : ℕ) → coefficientTest c s beta i .entry .inside ≡ true → SameVerdict (coefficientTest c s beta i) (coefficientTest c s' beta' i)
+  pub coefficient-survives : (i : ℕ) → coefficientTest c s beta i .entry .inside ≡ true → SameTested (coefficientTest c s beta i) (coefficientTest c s' beta' i)
   unfolding coefficientTest contrastTest scaledBy
   coefficient-survives i e =
       contrast-survives (replicate 6 plusZero) (replicate 6 plusZero) (λ j h. rw (getD-replicate 6 j plusZero nan (omega arith)) (tied-nil k)) 1 (omega arith) (omega arith) (λ r. pos 0)
@@ -168,7 +168,7 @@ map-set f [] i a = refl
 map-set f (x ∷ xs) zero a = refl
 map-set f (x ∷ xs) (suc i) a = ap (λ (ys : List _). f x ∷ ys) (map-set f xs i a)
 
-with-survives : (i : ℕ) (x x' : Tested) (r r' : Run) → SameVerdict x x' → RunSurvives r r' → RunSurvives (withTest i x r) (withTest i x' r')
+with-survives : (i : ℕ) (x x' : Tested) (r r' : Run) → SameTested x x' → RunSurvives r r' → RunSurvives (withTest i x r) (withTest i x' r')
 unfolding withTest verdicts
 with-survives i x x' r r' e q = record {
   refusal = rw (q .refusal, e .refusal);

@@ -170,7 +170,7 @@ test-bears {t} c s beta betaH b h =
     h1 = allMarks-first q q a s1 (allMarks-first q p x s1a h2)
 
 -- ---- two tests
-pub record SameVerdict (x x' : Tested) : Type 0 where
+pub record SameTested (x x' : Tested) : Type 0 where
   pub refusal : x' .refused ≡ x .refused
   pub same : verdict (x' .entry) ≡ verdict (x .entry)
 
@@ -381,7 +381,7 @@ module _ {t : ℕ} (c : Cutoffs) (p N q : ℕ) (hp : p ≤ 6) (p1 : 0 < p) (hN :
     unfolding tested a1 a2
     verdict-agrees = rw (u-agree, wald-agrees)
 
-  pub test-survives : Bears t (testSeen c s beta betaH b) → SameVerdict (tested c s beta betaH b) (tested c s' beta' betaH' b')
+  pub test-survives : Bears t (testSeen c s beta betaH b) → SameTested (tested c s beta betaH b) (tested c s' beta' betaH' b')
   test-survives h =
       let bears : TestBears t c s beta betaH b = test-bears c s beta betaH b h in
       record { refusal = refused-agrees bears; same = verdict-agrees bears }

@@ -22,7 +22,7 @@ use Rattle.records.specs.Scan.{any}
 use Rattle.records.specs.Kinds.{Table, kindAt, satterthwaite}
 use Rattle.records.specs.File.{count, kindOf, rowOf, columnOf, countOf, valueOf, cell, present, beyond, missing}
 use Rattle.tests.specs.Satterthwaite.{startSeen, satterthwaite as test}
-use Rattle.tests.proofs.SatterthwaiteSurvives.{InputSizes, ConvertedInputs, SameVerdict as SameOutcome, satterthwaite-survives}
+use Rattle.tests.proofs.SatterthwaiteSurvives.{InputSizes, ConvertedInputs, SameOutcome, satterthwaite-survives}
 use Rattle.records.specs.Parameters.{coefficients, contrastRows, parameters, sizes, incomplete, reasons, refusal, cellValue, inputs}
 use Rattle.records.specs.SatterthwaiteCall.{outcome, allReasons, number, entry}
 use Rattle.tests.specs.Verdict.{verdict}

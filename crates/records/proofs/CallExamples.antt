@@ -34,7 +34,7 @@ use Rattle.records.specs.Kinds.{kindAt, kenwardRoger}
 use Rattle.records.specs.File.{outOf, badRecord, isCell, again, has, cell as cellOf, rows, columns, beyond, missing, notFinite}
 use Rattle.records.specs.Series.{contrastRows, sizes, blockOf as blockRead, incomplete, badSize, badWeight, misfit, zeroContrast, reasons, refusal, design, phi, beta, betaH, contrast, sigma2}
 use Rattle.records.specs.KenwardRogerCall.{adjusted, scaled, run, number, returned}
-use Rattle.records.proofs.CallLaws.{adjustmentNumber, number-is, returned-is}
+use Rattle.records.proofs.CallLaws.{fileAdjustmentRefusal, number-is, returned-is}
 use Rattle.records.proofs.Examples.{recordOf, one as oneBits, plain}
 
 -- 9: "n = 2, one group, Z = 1, 1, theta 1e10"
@@ -120,14 +120,14 @@ unfolding adjustmentRefusal adjustmentReasons first outputNotFinite notAllFinite
 makes = record { nine = refl; ten = refl; tenRefused = λ h l. refl }
 
 -- ---- together
-nine-adjustment : adjustmentNumber documentCutoffs nineFile ≡ 9
+nine-adjustment : fileAdjustmentRefusal documentCutoffs nineFile ≡ 9
 nine-adjustment =
     ap (λ (d : Design). adjustmentRefusal documentCutoffs d (phi nineFile) (sigma2 nineFile)) (says .nineDesigned)
     ∙ ap (λ (f : Rows). adjustmentRefusal documentCutoffs nineDesign f (sigma2 nineFile)) (says .ninePhi)
     ∙ ap (λ (v : Float). adjustmentRefusal documentCutoffs nineDesign (single half) v) (says .nineVariance)
     ∙ makes .nine
 
-ten-adjustment : adjustmentNumber documentCutoffs tenFile ≡ 0
+ten-adjustment : fileAdjustmentRefusal documentCutoffs tenFile ≡ 0
 ten-adjustment =
     ap (λ (d : Design). adjustmentRefusal documentCutoffs d (phi tenFile) (sigma2 tenFile)) (says .tenDesigned)
     ∙ ap (λ (f : Rows). adjustmentRefusal documentCutoffs tenDesign f (sigma2 tenFile)) (says .tenPhi)
@@ -148,7 +148,7 @@ ten-run =
     ∙ ap (λ (n : ℕ). runAt tenDesign (single plusZero) eight (six ∷ replicate 5 plusZero) (betaH tenFile) n (contrast tenFile) .refused) (says .tenRows)
     ∙ makes .tenRefused (betaH tenFile) (contrast tenFile)
 
-late : (c : Cutoffs) (s : List ℕ) (n : ℕ) → refusal s ≡ 0 → cond (eqb (adjustmentNumber c s) 0) (cond (run c s .refused) 10 0) (adjustmentNumber c s) ≡ n → returned c s (replicate 168 0) ≡ n
+late : (c : Cutoffs) (s : List ℕ) (n : ℕ) → refusal s ≡ 0 → cond (eqb (fileAdjustmentRefusal c s) 0) (cond (run c s .refused) 10 0) (fileAdjustmentRefusal c s) ≡ n → returned c s (replicate 168 0) ≡ n
 late c s n h e = returned-is c s (replicate 168 0) ∙ number-is c s ∙ rw h e
 
 pub record Refused : Type 0 where

@@ -21,15 +21,15 @@ other-way false x y = refl
 
 module _ (c : Cutoffs) (s : List ℕ) where
   -- the adjustment's number, 0 where it does not refuse
-  abbrev pub adjustmentNumber : ℕ
-  adjustmentNumber = adjustmentRefusal c (design s) (phi s) (sigma2 s)
+  abbrev pub fileAdjustmentRefusal : ℕ
+  fileAdjustmentRefusal = adjustmentRefusal c (design s) (phi s) (sigma2 s)
 
-  later-is : first (adjustmentReasons c (design s) (phi s) (sigma2 s) ++ ((10, run c s .refused) ∷ [])) ≡ cond (eqb adjustmentNumber 0) (cond (run c s .refused) 10 0) adjustmentNumber
+  later-is : first (adjustmentReasons c (design s) (phi s) (sigma2 s) ++ ((10, run c s .refused) ∷ [])) ≡ cond (eqb fileAdjustmentRefusal 0) (cond (run c s .refused) 10 0) fileAdjustmentRefusal
   unfolding adjustmentRefusal adjustmentReasons first
   later-is = first-append (adjustmentReasons c (design s) (phi s) (sigma2 s)) ((10, run c s .refused) ∷ []) refl
 
   -- the Kenward–Roger call's number, from the reader's, the adjustment's and the run's
-  pub number-is : number c s ≡ cond (eqb (refusal s) 0) (cond (eqb adjustmentNumber 0) (cond (run c s .refused) 10 0) adjustmentNumber) (refusal s)
+  pub number-is : number c s ≡ cond (eqb (refusal s) 0) (cond (eqb fileAdjustmentRefusal 0) (cond (run c s .refused) 10 0) fileAdjustmentRefusal) (refusal s)
   unfolding number allReasons refusal reasons
   number-is =
       first-append (reasons s) (adjustmentReasons c (design s) (phi s) (sigma2 s) ++ ((10, run c s .refused) ∷ [])) refl

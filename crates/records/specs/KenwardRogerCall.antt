@@ -42,7 +42,7 @@ module _ (c : Cutoffs) (s : List ℕ) where
   unfoldable pub rotations : ℕ
   rotations = cond (eqb number 0) (adjusted .rotations) 0
 
-  -- what refuses a call, and what it returns for the lent bytes: "1: lent length is not the stated one", 168 bytes
+  -- what refuses a call, and what it returns for the lent bytes: 1, "lent length is not the stated one", 168 bytes
   unfoldable pub returnedReasons : List ℕ → List (ℕ × Bool)
   returnedReasons answer = (1, not (eqb (length answer) 168)) ∷ allReasons
 

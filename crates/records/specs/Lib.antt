@@ -1,4 +1,4 @@
--- Document 01, "kenward_roger.rs and records" and "Refusals": the record files, the two calls whole, what `pulltest` prints, and the bench examples. Definitions alone, in the document's order.
+-- Document 01, "kenward_roger.rs (66 lines) and records" and "Refusals": the record files, the two calls whole, what `pulltest` prints, and the bench examples. Definitions alone, in the document's order.
 pub mod Scan
 pub mod Bytes
 pub mod Kinds

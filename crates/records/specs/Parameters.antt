@@ -1,4 +1,4 @@
--- Document 01, "kenward_roger.rs and records": "The Satterthwaite call reads kinds 8, 9, 10, 30 v, 31 Jacobian (count its number, from 0) and 32 A, the last three by row and column, only
+-- Document 01, "kenward_roger.rs (66 lines) and records": "The Satterthwaite call reads kinds 8, 9, 10, 30 v, 31 Jacobian (count its number, from 0) and 32 A, the last three by row and column, only
 -- 10 optional; p comes from β, the parameters from A. Kinds of the other call are bad." What a file of this call says, and the refusals 2 and 4.
 use Prim.Native.Nat.{ℕ, _%_, max}
 use mathlib.Core.Bool.{Bool, not, cond}

@@ -16,7 +16,7 @@ module _ (c : Cutoffs) (s : List ℕ) where
   unfoldable pub outcome : Outcome
   outcome = test c (inputs s)
 
-  -- "refusals 1, 2, 4, 11": 11 is "several-row V has an eigenvalue not finite or ≤ 0"
+  -- the refusals are 1, 2, 4 and 11; 11 is "several-row V has an eigenvalue not finite or ≤ 0"
   unfoldable pub allReasons : List (ℕ × Bool)
   allReasons = reasons s ++ ((11, outcome .refused) ∷ [])
 
@@ -26,7 +26,7 @@ module _ (c : Cutoffs) (s : List ℕ) where
   unfoldable pub entry : Entry
   entry = cond (eqb number 0) (outcome .entry) noEntry
 
-  -- what refuses a call, and what it returns for the lent bytes: "1: lent length is not the stated one", 24 bytes
+  -- what refuses a call, and what it returns for the lent bytes: 1, "lent length is not the stated one", 24 bytes
   unfoldable pub returnedReasons : List ℕ → List (ℕ × Bool)
   returnedReasons answer = (1, not (eqb (length answer) 24)) ∷ allReasons
 

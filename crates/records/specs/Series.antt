@@ -1,4 +1,4 @@
--- Document 01, "kenward_roger.rs and records" and "Refusals": a Kenward–Roger series as its file gives it, and the refusals 2 to 8, which come before any computing.
+-- Document 01, "kenward_roger.rs (66 lines) and records" and "Refusals": a Kenward–Roger series as its file gives it, and the refusals 2 to 8, which come before any computing.
 use Prim.Native.Nat.{ℕ, _+_, _*_, _/_, _%_, max}
 use mathlib.Core.Bool.{Bool, true, false, not, _&&_, _||_, cond}
 use mathlib.Core.List.{List, [], _∷_}
@@ -36,7 +36,7 @@ thetas s = rows s 4
 abbrev pub contrastRows : List ℕ → ℕ
 contrastRows s = rows s 9
 
--- What the sizes leave each kind: 0, X, Z, block, theta, weight, Φ, sigma2, β, contrast, β_H. "Kinds 2 to 5, 9, 10 may be absent wholly; 10 without 9 counts as beyond the sizes."
+-- What the sizes leave each kind: 0, X, Z, block, theta, weight, Φ, sigma2, β, contrast, β_H. "Kinds 2 to 5, 9, 10 may be absent wholly (β_H is then 0); 10 without 9 counts as beyond the sizes."
 unfoldable pub sizes : List ℕ → Table
 sizes s = record {
   low = unread
@@ -61,7 +61,7 @@ cellValue s k r c = cell kenwardRoger s k 0 r c
 abbrev pub sigma2 : List ℕ → Float
 sigma2 s = cellValue s 7 0 0
 
--- "3 block (row its number, column k, count m)"
+-- "3 block (row its number, column k, count m, bits 0)"
 unfoldable pub blockOf : List ℕ → ℕ → Block
 blockOf s b =
     record {

@@ -14,7 +14,7 @@ use Rattle.tests.specs.Entries.{runRefusal, runEntries}
 use Rattle.algebra.specs.Reasons.{first}
 use Rattle.records.specs.Series.{refusal}
 use Rattle.records.specs.KenwardRogerCall.{adjusted, run, number, entries, rotations, returned, written}
-use Rattle.records.proofs.CallLaws.{adjustmentNumber, number-is, returned-is}
+use Rattle.records.proofs.CallLaws.{fileAdjustmentRefusal, number-is, returned-is}
 
 -- ---- the number and the entries, by who refuses
 module _ (c : Cutoffs) (s : List ℕ) where
@@ -24,10 +24,10 @@ module _ (c : Cutoffs) (s : List ℕ) where
 
   module _ (r : refusal s ≡ 0) where
     -- the adjustment
-    pub late-number : (k : ℕ) → k ≡ adjustmentNumber c s → (k ≡ 0 → ⊥) → k ≡ number c s
-    late-number k e h = e ∙ sym (number-is c s ∙ rw (r, ne-eqb (adjustmentNumber c s) 0 (λ q. h (e ∙ q))))
+    pub late-number : (k : ℕ) → k ≡ fileAdjustmentRefusal c s → (k ≡ 0 → ⊥) → k ≡ number c s
+    late-number k e h = e ∙ sym (number-is c s ∙ rw (r, ne-eqb (fileAdjustmentRefusal c s) 0 (λ q. h (e ∙ q))))
 
-    module _ (a : adjustmentNumber c s ≡ 0) where
+    module _ (a : fileAdjustmentRefusal c s ≡ 0) where
       -- a test
       pub pivot-number : (b : Bool) → b ≡ run c s .refused → b ≡ true → 10 ≡ number c s
       pivot-number b e h = sym (number-is c s ∙ rw (r, a, ← e, h))
@@ -56,7 +56,7 @@ module _ (c : Cutoffs) (s : List ℕ) where
   own-rotations n e z = e ∙ rw (eq-eqb (number c s) 0 (sym z))
 
   -- a run whose tests were made
-  module _ (r : refusal s ≡ 0) (a : adjustmentNumber c s ≡ 0) where
+  module _ (r : refusal s ≡ 0) (a : fileAdjustmentRefusal c s ≡ 0) where
     pub run-answer : (b : Bool) (es fs : List Entry) (k : ℕ) → b ≡ run c s .refused → es ≡ run c s .entries → fs ≡ runEntries b es → k ≡ runRefusal b → (fs ≡ entries c s) × (k ≡ number c s)
     unfolding runEntries runRefusal
     run-answer true es fs k e f p q = let n = pivot-number r a true e refl in (p ∙ no-entries noEntry refl 10 n (omega arith), q ∙ n)

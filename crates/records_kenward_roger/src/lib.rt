@@ -27,7 +27,7 @@ use tests_entries::answer_of;
 use tests_entries::no_entry;
 
 // The adjustment of the series of a file that the reader does not refuse, whose sizes and sheet are at hand. Returns 0, or 9, 10 or 4: then what is lent stays as it is.
-pub fn adjust(
+pub fn kenward_roger_modcomp_data(
     c: Cutoffs,
     s: &[u8],
     z: SeriesSizes,
@@ -143,7 +143,7 @@ fn run_of(c: Cutoffs, s: &[u8], told: &mut u32, made: &mut usize) -> [Entry; 7]
     let mut ps = [blank; 4];
     let mut w = blank;
     let mut count: usize = 0;
-    let late = adjust(c, s, z, &sheet, &mut phi_a, &mut ps, &mut w, &mut count);
+    let late = kenward_roger_modcomp_data(c, s, z, &sheet, &mut phi_a, &mut ps, &mut w, &mut count);
     if late != 0 {
         *told = late;
         *made = 0;

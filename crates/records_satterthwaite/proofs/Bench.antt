@@ -1,4 +1,4 @@
--- Document 01, "Bench examples" and "Refusals": example (i) and refusal 11's as files of records, and other files that are refused. "(i) L identity, v = diag(4,1), one Jacobian equal to v, A 0.5, β (4,1): F 2.5, df 4".
+-- Document 01, "Bench examples" and "Refusals": example (i) and refusal 11's as files of records, and other files that are refused. "(i) Satterthwaite L identity, v = diag(4,1), one Jacobian equal to v, A 0.5, β (4,1): F 2.5, df 4".
 use Prim.Native.Nat.{ℕ}
 use mathlib.Core.Path.{_≡_, refl, ap, sym, _∙_}
 use mathlib.Core.Bool.{true, false}

@@ -21,8 +21,7 @@ fn bar(out: &mut [u8], n: usize)
 }
 
 // What is printed of a Satterthwaite file: its one entry stands where a contrast's does.
-fn satterthwaite_text(file: &[u8], out: &mut [u8]) -> usize
-    requires { ⌜ 512 ≤ length (now out) ⌝ }
+fn satterthwaite_text(file: &[u8], out: &mut [u8; 512]) -> usize
     ensures { λ r. ⌜ r ≤ 512 ⌝ }
 {
     let mut number: u32 = 0;
@@ -33,8 +32,7 @@ fn satterthwaite_text(file: &[u8], out: &mut [u8]) -> usize
 }
 
 // What is printed of a file, by the Satterthwaite call or by the Kenward–Roger call.
-fn text(satterthwaite: bool, file: &[u8], out: &mut [u8]) -> usize
-    requires { ⌜ 512 ≤ length (now out) ⌝ }
+fn text(satterthwaite: bool, file: &[u8], out: &mut [u8; 512]) -> usize
     ensures { λ r. ⌜ r ≤ 512 ⌝ }
 {
     if satterthwaite {

@@ -26,7 +26,7 @@ fn print_adjustment(file: &[u8])
     let mut ps = [blank; 4];
     let mut w = blank;
     let mut turns: usize = 0;
-    records_kenward_roger::adjust(
+    records_kenward_roger::kenward_roger_modcomp_data(
         document_cutoffs(),
         file,
         z,

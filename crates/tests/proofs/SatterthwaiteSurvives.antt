@@ -48,7 +48,7 @@ pub record ConvertedInputs (k : ℤ) (s s' : Inputs) : Type 0 where
   pub a : (i j : ℕ) → i < s .n → j < s .n → at floats (s' .a) i j ≡ at floats (s .a) i j
 
 -- the same refusal and the same verdict; the mark may change
-pub record SameVerdict (x x' : Outcome) : Type 0 where
+pub record SameOutcome (x x' : Outcome) : Type 0 where
   pub refused : x' .refused ≡ x .refused
   pub f : x' .entry .f ≡ x .entry .f
   pub df : x' .entry .df ≡ x .entry .df
@@ -127,7 +127,7 @@ module _ (c : Cutoffs) (fine : T (fits binary64 (c .rotation))) (k : ℤ) (small
         (v-moves .cell 0 0 (z .some) (z .some)) (gradientOne-moves w (s .n) (s .q) (z .n) (z .some) (jStack c s) (jStack c other) js-moves)
         (s .a) (r .a) (also (startSeen c s) (fOne c s)) (e .a) (start-v (one-bears .0) .cell 0 0 (z .some) (z .some)) b
 
-    one-survives : SameVerdict (oneRow c s) (oneRow c other)
+    one-survives : SameOutcome (oneRow c s) (oneRow c other)
     unfolding oneRow
     one-survives = record { refused = refl; f = ap numberOf fOne-agrees; df = dfOne-agrees; rank = refl }
 
@@ -192,7 +192,7 @@ module _ (c : Cutoffs) (fine : T (fits binary64 (c .rotation))) (k : ℤ) (small
         (variances c other) (directions c other) (jxStack c other) (e .a) variances-move variances-bear
         (λ i h. gradientAt-moves (s .q) (z .q) (directions c s) (directions c other) directions-move w two-small (s .n) (z .n) (jxStack c s) (jxStack c other) jx-moves i h))
 
-    several-survives : SameVerdict (severalRows c s) (severalRows c other)
+    several-survives : SameOutcome (severalRows c s) (severalRows c other)
     unfolding severalRows
     several-survives = record {
       refused = notPositive-agrees w (s .q) (z .q) (z .some) (rotatedV c s .a) (rotatedV c other .a) (state-moves .matrix) (state-bears .matrix);
@@ -202,26 +202,26 @@ module _ (c : Cutoffs) (fine : T (fits binary64 (c .rotation))) (k : ℤ) (small
     }
 
   -- ---- whole
-  one-inside : T (oneRow c s .entry .inside) → SameVerdict (oneRow c s) (oneRow c other)
+  one-inside : T (oneRow c s .entry .inside) → SameOutcome (oneRow c s) (oneRow c other)
   unfolding oneRow
   one-inside t = one-survives (inside-bears (seenOne c s) (omega arith) t)
 
-  several-inside : T (severalRows c s .entry .inside) → SameVerdict (severalRows c s) (severalRows c other)
+  several-inside : T (severalRows c s .entry .inside) → SameOutcome (severalRows c s) (severalRows c other)
   unfolding severalRows
   several-inside t = several-survives (inside-bears (seenSeveral c s) (omega arith) t)
 
-  numbers-survive : T (satterthwaite c s .entry .inside) → SameVerdict (satterthwaite c s) (satterthwaite c other)
+  numbers-survive : T (satterthwaite c s .entry .inside) → SameOutcome (satterthwaite c s) (satterthwaite c other)
   unfolding satterthwaite
   numbers-survive = go (eqb (s .q) 1)
     where
       go : (x : Bool) → T (cond x (oneRow c s) (severalRows c s) .entry .inside)
-          → SameVerdict (cond x (oneRow c s) (severalRows c s)) (cond x (oneRow c other) (severalRows c other))
+          → SameOutcome (cond x (oneRow c s) (severalRows c s)) (cond x (oneRow c other) (severalRows c other))
       go true t = one-inside t
       go false t = several-inside t
 
 -- ---- DEMAND 3 for the Satterthwaite test
 pub satterthwaite-survives : (c : Cutoffs) → T (fits binary64 (c .rotation)) → (k : ℤ) → natAbs k ≤ 32 → (s s' : Inputs) → InputSizes s → ConvertedInputs k s s'
-    → T (satterthwaite c s .entry .inside) → SameVerdict (satterthwaite c s) (satterthwaite c s')
+    → T (satterthwaite c s .entry .inside) → SameOutcome (satterthwaite c s) (satterthwaite c s')
 satterthwaite-survives c fine k small s s' z e t = rw same at (numbers-survive c fine k small s s' z (rw same e) t)
   where
     sized : ℕ → ℕ → ℕ → Inputs

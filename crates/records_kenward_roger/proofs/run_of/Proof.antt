@@ -8,7 +8,7 @@ use Rattle.records_kenward_roger.proofs.run_of.Statement.{statement}
 use Rattle.records_kenward_roger.proofs.run_of.Tie as tie
 use Rattle.records_kenward_roger.proofs.run_of.Reads as reads
 use Rattle.records_kenward_roger.proofs.run_of.Lts as lts
-use Rattle.records_kenward_roger.proofs.adjust.Reads as adjust-reads
+use Rattle.records_kenward_roger.proofs.kenward_roger_modcomp_data.Reads as kenward-roger-modcomp-data-reads
 use Rattle.records_kenward_roger.proofs.tests_of.Reads as tests-of-reads
 use Rattle.records_kenward_roger.proofs.counted.Reads as counted-reads
 use Rattle.tests_entries.proofs.no_entry.Reads as no-entry-reads
@@ -25,8 +25,8 @@ sheet-of-requires c κs = accepted-series (c .before .before .args .s .now) (c .
 zeros-requires : tie.Need-zeros-requires
 zeros-requires c κs = search needs
 
-adjust-requires : tie.Need-adjust-requires
-adjust-requires c κs = search needs
+kenward-roger-modcomp-data-requires : tie.Need-kenward-roger-modcomp-data-requires
+kenward-roger-modcomp-data-requires c κs = search needs
 
 no-entry-requires : tie.Need-no-entry-requires
 no-entry-requires c κs = search needs
@@ -34,12 +34,12 @@ no-entry-requires c κs = search needs
 returns : tie.Need-returns
 returns c =
     let a = c .before .before .before .before .before .before .before .before .before .before .before .before .args in
-    let e = late-number (a .c) (a .s .now) (c .before .before .before .before .before .before .before .before .before .before .before .before .pre) _ (c .before .before .adjust .ensures .0) (c .before .if1 .taken) in
+    let e = late-number (a .c) (a .s .now) (c .before .before .before .before .before .before .before .before .before .before .before .before .pre) _ (c .before .before .kenward-roger-modcomp-data .ensures .0) (c .before .if1 .taken) in
     (no-entries (a .c) (a .s .now) _ (c .no-entry .ensures) _ e (c .before .if1 .taken), (e, no-rotations (a .c) (a .s .now) _ e (c .before .if1 .taken)))
 
 tests-of-requires : tie.Need-tests-of-requires
 tests-of-requires c κs =
-    let r = c .before .before .before .adjust .ensures in
+    let r = c .before .before .before .kenward-roger-modcomp-data .ensures in
     let h = c .before .before .if1 .left in
     ((c .before .before .before .before .before .before .before .before .before .before .before .before .before .pre, c .before .before .before .before .before .before .before .before .before .before .before .sizes-of .ensures, c .before .before .before .before .before .before .before .before .before .before .sheet-of .ensures), (r .1 .0 ∙ accepted-yes _ _ _ h, r .1 .1 .0 ∙ accepted-yes _ _ _ h, r .1 .1 .1 .0 ∙ accepted-yes _ _ _ h))
 
@@ -53,7 +53,7 @@ returns-2 : tie.Need-returns-2
 returns-2 c =
     let a = c .before .before .before .before .before .before .before .before .before .before .before .before .before .before .before .before .before .args in
     let g = c .before .before .before .before .before .before .before .before .before .before .before .before .before .before .before .before .before .pre in
-    let d = c .before .before .before .before .before .before .before .adjust .ensures in
+    let d = c .before .before .before .before .before .before .before .kenward-roger-modcomp-data .ensures in
     let h = c .before .before .before .before .before .before .if1 .left in
     let z = sym (d .0) ∙ h in
     let t = c .before .before .before .tests-of .ensures in
@@ -67,7 +67,7 @@ run-of-spec =
     sizes-of-requires
     sheet-of-requires
     zeros-requires
-    adjust-requires
+    kenward-roger-modcomp-data-requires
     no-entry-requires
     returns
     tests-of-requires

@@ -25,8 +25,8 @@ zeros-requires c κs = search needs
 document-cutoffs-requires : tie.Need-document-cutoffs-requires
 document-cutoffs-requires c κs = search needs
 
-adjust-requires : tie.Need-adjust-requires
-adjust-requires c κs = search needs
+kenward-roger-modcomp-data-requires : tie.Need-kenward-roger-modcomp-data-requires
+kenward-roger-modcomp-data-requires c κs = search needs
 
 slice-aggregate-matrix : tie.Need-slice-aggregate-matrix
 slice-aggregate-matrix c = search needs
@@ -60,7 +60,7 @@ print-adjustment-spec =
     add-n
     zeros-requires
     document-cutoffs-requires
-    adjust-requires
+    kenward-roger-modcomp-data-requires
     slice-aggregate-matrix
     matrix-requires
     numbered-requires

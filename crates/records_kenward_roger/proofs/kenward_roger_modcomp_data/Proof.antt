@@ -1,13 +1,13 @@
--- `records_kenward_roger::adjust` meets its contract.
+-- `records_kenward_roger::kenward_roger_modcomp_data` meets its contract.
 use mathlib.Core.Path.{refl, _∙_}
 use native.Mathlib.Omega.{arith}
 use Rattle.adjustment.specs.Adjusted.{Adjustment}
 use borrow.Author.Needs.{needs}
 use Rattle.records_kenward_roger.proofs.Calls.{small-is, lent-is, x-length, z-length, number-is-own, adjusted-is, answer-same}
-use Rattle.records_kenward_roger.proofs.adjust.Statement.{statement}
-use Rattle.records_kenward_roger.proofs.adjust.Tie as tie
-use Rattle.records_kenward_roger.proofs.adjust.Reads as reads
-use Rattle.records_kenward_roger.proofs.adjust.Lts as lts
+use Rattle.records_kenward_roger.proofs.kenward_roger_modcomp_data.Statement.{statement}
+use Rattle.records_kenward_roger.proofs.kenward_roger_modcomp_data.Tie as tie
+use Rattle.records_kenward_roger.proofs.kenward_roger_modcomp_data.Reads as reads
+use Rattle.records_kenward_roger.proofs.kenward_roger_modcomp_data.Lts as lts
 use Rattle.adjustment_kr_vcov_adj.proofs.vcov_adj16_with_pw.Reads as vcov-adj16-with-pw-reads
 use Rattle.records_series.proofs.blocks_of.Reads as blocks-of-reads
 use Rattle.records_sheet_parts.proofs.cells_at.Reads as cells-at-reads
@@ -106,8 +106,8 @@ returns c =
       ),
     )
 
-pub adjust-spec : {M : Type 1} → statement M
-adjust-spec =
+pub kenward-roger-modcomp-data-spec : {M : Type 1} → statement M
+kenward-roger-modcomp-data-spec =
     tie.close
     (tie.spec
     blocks-of-requires
