@@ -44,7 +44,7 @@ f-held q (Is s) None = tt
 f-held q (Is s) (Is x) = number-held _ (mul-fits binary64 _ _)
 
 module _ (c : Cutoffs) (q : ℕ) (a1 a2 : Float) where
-  sum-held : (x y : Float) (b : Bool) → Held (cond b (positive c q a1 a2 (add binary64 x y)) None)
+  sum-held : (x y : Float) (b : Bool) → Held (cond b (positive (add binary64 x y)) None)
   unfolding positive
   sum-held x y true = go (lt plusZero (add binary64 x y))
     where
@@ -61,7 +61,7 @@ module _ (c : Cutoffs) (q : ℕ) (a1 a2 : Float) where
 
   df-held : Held (dfOf c q a1 a2)
   unfolding dfOf
-  df-held = go (rankOne c q a1 a2)
+  df-held = go (rankOne q a2)
     where
       go : (b : Bool) → Held (cond b (Is (div binary64 two a2)) (generalDf c q a1 a2))
       go true = div-fits binary64 two a2

@@ -23,14 +23,15 @@ use Rattle.tests.specs.declared.Number.{Number}
 use Rattle.tests.specs.declared.Number.the-variants.{Is, None}
 use Rattle.tests.specs.declared.Entry.{Entry}
 use Rattle.tests.specs.Answer.{numberOf, floatOf, noEntry}
-use Rattle.tests.specs.VarianceDf.{entryAt, isPositive, relativeGradient, relativeVariance, dfOfRelative, varianceDf}
+use Rattle.tests.specs.VarianceDf.{entryAt, relativeGradient, relativeVariance, dfOfRelative, varianceDf}
 use Rattle.tests.specs.PooledDf.{tolerance, allWithin, anyLow, expected, pooled, getFstatDdf}
-use Rattle.tests.specs.Satterthwaite.{Inputs, squareOne, squaresOver, gradientAt, capped, componentDf, componentDfs, anyNone, severalDf, variances, directions, jxStack, fOne, fSeveral, dfOne, dfSeveral, oneRow, severalRows, satterthwaite}
+use Rattle.tests.specs.Satterthwaite.{Inputs, squaresOver, gradientAt, capped, componentDf, componentDfs, anyNone, severalDf, variances, directions, jxStack, fOne, fSeveral, dfOne, dfSeveral, oneRow, severalRows, satterthwaite}
 use Rattle.records.specs.Layout.{entryBytes, answerBytes, entryFrom}
 use Rattle.records.specs.Parameters.{contrastRows, refusal, inputs}
 use Rattle.records.specs.SatterthwaiteCall.{outcome, number, entry, returned, written}
 use Rattle.records_answer_bytes.proofs.LayoutLaws.{Held, number-held, read-back}
 use Rattle.records_satterthwaite.proofs.Judged.{judged-early, contrast-rows-within}
+use Rattle.tests.specs.Both.{isPositive, squareOne}
 
 -- ---- every F and df is an f64: a product, a quotient, 2, or the cap
 float-fits : (n : Number) → Held n → T (fits binary64 (floatOf n))

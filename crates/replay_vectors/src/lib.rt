@@ -20,34 +20,41 @@ fn bar(out: &mut [u8], n: usize)
     }
 }
 
-// What is printed of a Satterthwaite file: its one entry stands where a contrast's does.
-fn satterthwaite_text(file: &[u8], out: &mut [u8; 512]) -> usize
-    ensures { λ r. ⌜ r ≤ 512 ⌝ }
+// The first n bytes of a text, with bars, and one newline.
+fn print_barred(text: [u8; 512], n: usize)
+    requires { ⌜ n ≤ 512 ⌝ }
 {
+    let mut out = text;
+    bar(&mut out, n);
+    io::write_all(1, &out[..n]);
+    io::write_all(1, b"\n");
+}
+
+// What is printed of a Satterthwaite file: its one entry stands where a contrast's does.
+fn print_satterthwaite(file: &[u8]) {
     let mut number: u32 = 0;
     let e = records_ddf::judge(document_cutoffs(), file, &mut number);
     let mut es = [no_entry(); 7];
     es[6] = e;
-    text_of(number, es, out)
+    let mut out = [0u8; 512];
+    let n = text_of(number, es, &mut out);
+    print_barred(out, n);
+}
+
+// What is printed of a Kenward–Roger file.
+fn print_kenward_roger(file: &[u8]) {
+    let mut out = [0u8; 512];
+    let n = records_kenward_roger::text(file, &mut out);
+    print_barred(out, n);
 }
 
 // What is printed of a file, by the Satterthwaite call or by the Kenward–Roger call.
-fn text(satterthwaite: bool, file: &[u8], out: &mut [u8; 512]) -> usize
-    ensures { λ r. ⌜ r ≤ 512 ⌝ }
-{
-    if satterthwaite {
-        return satterthwaite_text(file, out);
-    }
-    records_kenward_roger::text(file, out)
-}
-
-// What is printed of a file, with bars, and one newline.
 fn print_answer(satterthwaite: bool, file: &[u8]) {
-    let mut out = [0u8; 512];
-    let n = text(satterthwaite, file, &mut out);
-    bar(&mut out, n);
-    io::write_all(1, &out[..n]);
-    io::write_all(1, b"\n");
+    if satterthwaite {
+        print_satterthwaite(file);
+        return;
+    }
+    print_kenward_roger(file);
 }
 
 // The n digits of a line as they were read, a blank, and the answer to the file that they spell.

@@ -1,12 +1,13 @@
--- `replay_vectors::print_answer` meets its contract.
+-- `replay_vectors::print_barred` meets its contract.
 use mathlib.Core.Path.{sym}
 use lib.Seq.{length-take-le}
 use borrow.Author.Needs.{needs}
-use Rattle.replay_vectors.proofs.print_answer.Statement.{statement}
-use Rattle.replay_vectors.proofs.print_answer.Tie as tie
-
-text-requires : tie.Need-text-requires
-text-requires c κs = search needs
+use Rattle.replay_vectors.proofs.print_barred.Statement.{statement}
+use Rattle.replay_vectors.proofs.print_barred.Tie as tie
+use Rattle.replay_vectors.proofs.print_barred.Reads as reads
+use Rattle.replay_vectors.proofs.print_barred.Lts as lts
+use Rattle.io.proofs.write_all.Reads as write-all-reads
+use Rattle.replay_vectors.proofs.bar.Reads as bar-reads
 
 slice-aggregate-bar : tie.Need-slice-aggregate-bar
 slice-aggregate-bar c = search needs
@@ -32,11 +33,10 @@ write-all-requires-2 c κs = search needs
 returns : tie.Need-returns
 returns c = search needs
 
-pub print-answer-spec : {M : Type 1} → statement M
-print-answer-spec =
+pub print-barred-spec : {M : Type 1} → statement M
+print-barred-spec =
     tie.close
     (tie.spec
-    text-requires
     slice-aggregate-bar
     bar-requires
     array-share-prefix-out
