@@ -1,7 +1,7 @@
--- Laws of rows that gain terms, cell by cell, and of the terms of a group.
-use Prim.Native.Nat.{ℕ, _+_, _*_, _<_, _≤_}
+-- Laws of rows that gain terms, cell by cell, and of the terms of a group of one and of two effects.
+use Prim.Native.Nat.{ℕ, _+_, _<_, _≤_}
 use native.Mathlib.Omega.{arith}
-use native.Mathlib.Nat.{le-antisymm, mul-le-mul}
+use native.Mathlib.Nat.{le-antisymm}
 use mathlib.Core.Path.{_≡_, refl, sym, ap, _∙_}
 use mathlib.Core.Bool.{Bool}
 use mathlib.Core.List.{List, []}
@@ -9,19 +9,15 @@ use lib.ListN.{getD, length}
 use lib.Ieee.{Float, nan, binary64, mul}
 use Rattle.arithmetic.specs.Numbers.{plusZero}
 use Rattle.algebra.specs.Fold.{fold}
-use Rattle.algebra.specs.Table.{row}
 use Rattle.algebra.specs.Kind.{floats}
 use Rattle.algebra.specs.Product.{at, sum}
-use Rattle.algebra.proofs.FoldLaws.{fold-ext}
-use Rattle.algebra.proofs.TableLaws.{row-at}
-use Rattle.algebra_large.specs.joints.Slab.{rowsAt, putRow}
-use Rattle.algebra_large.proofs.SlabLaws.{putRow-is, putRow-at, putRow-ext, row-over, rowsAt-at}
+use Rattle.algebra_large.specs.joints.Slab.{putRow}
+use Rattle.algebra_large.proofs.SlabLaws.{putRow-is, putRow-at, putRow-ext, row-over}
 use Rattle.algebra.specs.Small.{Rows}
 use Rattle.adjustment.specs.declared.Block.{Block}
 use Rattle.adjustment.specs.declared.Place.{Place}
 use Rattle.adjustment.specs.Blocks.{placesBefore, placeOf}
 use Rattle.adjustment.specs.Covariance.{groupColumn, directedCell, groupCell, blockCell, residualCell, gCell}
-use Rattle.adjustment_covariance.specs.joints.Bounds.{Placed}
 use Rattle.adjustment_covariance.specs.joints.Lent.{design}
 use Rattle.adjustment_covariance.proofs.DesignLaws.{g-own, g-last}
 
@@ -46,41 +42,50 @@ module _ (T : ℕ → ℕ → Float) where
       row-over d c (λ j. plusZero) (λ j. gainedTerms n j (getD ys (d + j) nan)) (λ j. gainedTerms n j plusZero) xs ys zs hl ey ez
       (λ j l. ap (gainedTerms n j) (ap (λ (l : List Float). getD l (d + j) nan) ey ∙ putRow-at d c (λ j. plusZero) xs j l hl))
 
--- the columns of a group are among Z's
-pub group-fits : (t : Place) (columns g : ℕ) → Placed t columns → g < t .groups → t .start + g * t .effects + t .effects ≤ columns
-group-fits t columns g p h = let e : (g + 1) * t .effects ≤ t .groups * t .effects = mul-le-mul (omega arith) (omega arith) in omega (arith, p .ends, e)
+sum-one : (f : ℕ → Float) → floats .plus plusZero (f 0) ≡ sum floats 1 f
+unfolding sum fold
+sum-one f = refl
 
--- The cells of a group, over the number of its effects; Z lies in the slice xs.
-module _ (xs : List Float) (zs n columns : ℕ) (t : Place) (g i : ℕ) (p : Placed t columns) (h : g < t .groups) where
-  abbrev z : Rows
-  z = rowsAt zs 0 n columns xs
+sum-two : (f : ℕ → Float) → floats .plus (floats .plus plusZero (f 0)) (f 1) ≡ sum floats 2 f
+unfolding sum fold
+sum-two f = refl
 
-  -- the sum over the effects, of a row of Z_g E and of row j of Z from the group's first column on
-  group-read : (j k : ℕ) (u : List Float) → j < n → k ≡ groupColumn t g 0 → u ≡ row plusZero 2 (t .effects) (directedCell z t g i)
-      → sum floats (t .effects) (λ b. mul binary64 (getD u b nan) (getD xs (0 + j * zs + k + b) nan)) ≡ groupCell z t g i j
-  unfolding groupCell sum
-  group-read j k u hj ek eu =
-      fold-ext 0 (t .effects) (λ b y. floats .plus y (mul binary64 (getD u b nan) (getD xs (0 + j * zs + k + b) nan)))
-      (λ b y. floats .plus y (mul binary64 (directedCell z t g i b) (at floats z j (groupColumn t g b)))) plusZero
-      (λ b lo hb y. rw (left b hb, right b hb))
-    where
-      left : (b : ℕ) → b < t .effects → getD u b nan ≡ directedCell z t g i b
-      left b hb = ap (λ (l : List Float). getD l b nan) eu ∙ row-at plusZero 2 (t .effects) (directedCell z t g i) b nan hb (p .small)
+-- The cells of a group.
+module _ (z : Rows) (t : Place) (g i : ℕ) where
+  group-one : (j k : ℕ) (u : Float) → t .effects ≡ 1 → k ≡ groupColumn t g 0 → u ≡ directedCell z t g i 0
+      → floats .plus plusZero (floats .times u (at floats z j k)) ≡ groupCell z t g i j
+  unfolding groupCell
+  group-one j k u e ek eu =
+      rw (ek, eu) (sum-one (λ b. mul binary64 (directedCell z t g i b) (at floats z j (groupColumn t g b)))
+      ∙ ap (λ (x : ℕ). sum floats x (λ b. mul binary64 (directedCell z t g i b) (at floats z j (groupColumn t g b)))) (sym e))
 
-      right : (b : ℕ) → b < t .effects → getD xs (0 + j * zs + k + b) nan ≡ at floats z j (groupColumn t g b)
-      right b hb =
-          let e : 0 + j * zs + k + b ≡ 0 + j * zs + groupColumn t g b = omega (arith, ek) in
-          ap (λ (q : ℕ). getD xs q nan) e ∙ sym (rowsAt-at zs 0 n columns xs j (groupColumn t g b) hj (omega (arith, group-fits t columns g p h)))
+  group-two : (j k l : ℕ) (u v : Float) → t .effects ≡ 2 → k ≡ groupColumn t g 0 → u ≡ directedCell z t g i 0 → l ≡ groupColumn t g 1 → v ≡ directedCell z t g i 1
+      → floats .plus (floats .plus plusZero (floats .times u (at floats z j k))) (floats .times v (at floats z j l)) ≡ groupCell z t g i j
+  unfolding groupCell
+  group-two j k l u v e ek eu el ev =
+      rw (ek, eu, el, ev) (sum-two (λ b. mul binary64 (directedCell z t g i b) (at floats z j (groupColumn t g b)))
+      ∙ ap (λ (x : ℕ). sum floats x (λ b. mul binary64 (directedCell z t g i b) (at floats z j (groupColumn t g b)))) (sym e))
 
   -- a row that gained the term of a group
-  pub gained-group : (d m lo k : ℕ) (u os ys : List Float) → lo + m ≤ n → k ≡ groupColumn t g 0 → u ≡ row plusZero 2 (t .effects) (directedCell z t g i)
-      → ys ≡ putRow d m (λ j. floats .plus (getD os (d + j) nan) (sum floats (t .effects) (λ b. mul binary64 (getD u b nan) (getD xs (0 + (lo + j) * zs + k + b) nan)))) os
-      → ys ≡ putRow d m (λ j. floats .plus (getD os (d + j) nan) (groupCell z t g i (lo + j))) os
-  gained-group d m lo k u os ys hl ek eu ey =
+  pub gained-one : (d m lo k : ℕ) (u : Float) (xs ys : List Float) → t .effects ≡ 1 → k ≡ groupColumn t g 0 → u ≡ directedCell z t g i 0
+      → ys ≡ putRow d m (λ j. floats .plus (getD xs (d + j) nan) (floats .plus plusZero (floats .times u (at floats z (lo + j) k)))) xs
+      → ys ≡ putRow d m (λ j. floats .plus (getD xs (d + j) nan) (groupCell z t g i (lo + j))) xs
+  gained-one d m lo k u xs ys e ek eu ey =
       ey
-      ∙ putRow-ext d m (λ j. floats .plus (getD os (d + j) nan) (sum floats (t .effects) (λ b. mul binary64 (getD u b nan) (getD xs (0 + (lo + j) * zs + k + b) nan))))
-      (λ j. floats .plus (getD os (d + j) nan) (groupCell z t g i (lo + j))) os
-      (λ j l. ap (floats .plus (getD os (d + j) nan)) (group-read (lo + j) k u (omega arith) ek eu))
+      ∙ putRow-ext d m (λ j. floats .plus (getD xs (d + j) nan) (floats .plus plusZero (floats .times u (at floats z (lo + j) k))))
+      (λ j. floats .plus (getD xs (d + j) nan) (groupCell z t g i (lo + j))) xs
+      (λ j l. ap (floats .plus (getD xs (d + j) nan)) (group-one (lo + j) k u e ek eu))
+
+  pub gained-two : (d m lo k l : ℕ) (u v : Float) (xs ys : List Float) → t .effects ≡ 2 → k ≡ groupColumn t g 0 → u ≡ directedCell z t g i 0
+      → l ≡ groupColumn t g 1 → v ≡ directedCell z t g i 1
+      → ys ≡ putRow d m (λ j. floats .plus (getD xs (d + j) nan) (floats .plus (floats .plus plusZero (floats .times u (at floats z (lo + j) k))) (floats .times v (at floats z (lo + j) l)))) xs
+      → ys ≡ putRow d m (λ j. floats .plus (getD xs (d + j) nan) (groupCell z t g i (lo + j))) xs
+  gained-two d m lo k l u v xs ys e ek eu el ev ey =
+      ey
+      ∙ putRow-ext d m
+      (λ j. floats .plus (getD xs (d + j) nan) (floats .plus (floats .plus plusZero (floats .times u (at floats z (lo + j) k))) (floats .times v (at floats z (lo + j) l))))
+      (λ j. floats .plus (getD xs (d + j) nan) (groupCell z t g i (lo + j))) xs
+      (λ j h. ap (floats .plus (getD xs (d + j) nan)) (group-two (lo + j) k l u v e ek eu el ev))
 
 -- The rows of the Gs.
 module _ (n : ℕ) (z : Rows) (weighted : Bool) (weights : List Float) (blocks : List Block) (count d m lo r i : ℕ) (xs ys : List Float) where

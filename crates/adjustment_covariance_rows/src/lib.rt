@@ -1,3 +1,3 @@
-// The rows of the Gs, on lent slices, made a part of a row at a time, for any number of specimens, of Z's columns and of groups.
+// The rows of the Gs, on lent slices, made a part of a row at a time. Nothing here knows a size.
 pub mod cells;
 pub mod rows;

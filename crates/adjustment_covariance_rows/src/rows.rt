@@ -5,56 +5,24 @@ ghost use mathlib.Core.Bool.{true};
 ghost use mathlib.Core.List.{[]};
 ghost use Prim.Native.Nat.{_+_, _*_, _≤_, _<_};
 ghost use lib.ListN.{length, getD};
-ghost use lib.Ieee.{nan, binary64, mul};
+ghost use lib.Ieee.{nan};
 ghost use Rattle.arithmetic.specs.Numbers.{plusZero};
 ghost use Rattle.algebra.specs.Fold.{fold};
-ghost use Rattle.algebra.specs.Table.{row};
 ghost use Rattle.algebra.specs.Kind.{floats};
-ghost use Rattle.algebra.specs.Product.{sum};
+ghost use Rattle.algebra.specs.Product.{at};
 ghost use Rattle.algebra_large.specs.joints.Slab.{rowsAt, putRow, Holds};
 ghost use Rattle.adjustment.specs.Blocks.{placesBefore};
-ghost use Rattle.adjustment.specs.Covariance.{directedCell, groupCell, blockCell, residualCell, gCell};
+ghost use Rattle.adjustment.specs.Covariance.{groupCell, blockCell, residualCell, gCell};
 ghost use Rattle.adjustment_covariance.specs.joints.Bounds.{Placed};
 ghost use Rattle.adjustment_covariance.specs.joints.Lent.{design, Lent};
+use crate::cells::cell_of;
 use crate::cells::directed_cell;
 use crate::cells::group_column;
 use adjustment::Block;
 use adjustment::Place;
 
-// Row i of Z_g E: a cell for each effect, made once for the row.
-pub fn directed_row(
-    z: &[f64],
-    zs: usize,
-    n: usize,
-    columns: usize,
-    t: Place,
-    g: usize,
-    i: usize,
-) -> [f64; 2]
-    requires { ⌜ Holds zs 0 n columns (length (now z)) × Placed t columns × (g < t .groups) × (i < n) ⌝ }
-    ensures { λ u. ⌜ u ≡ row plusZero 2 (t .effects) (directedCell (rowsAt zs 0 n columns (now (z .entry))) t g i) ⌝ }
-{
-    let mut out = [0.0; 2];
-    for b in 0..t.effects {
-        out[b] = directed_cell(z, zs, n, columns, t, g, i, b);
-    }
-    out
-}
-
-// The sum over the effects of u's cells times those of Z at from: a cell of (Z_g E) Z_gᵀ.
-pub fn effects_sum(z: &[f64], from: usize, effects: usize, u: [f64; 2]) -> f64
-    requires { ⌜ (from + effects ≤ length (now z)) × (effects ≤ 2) ⌝ }
-    ensures { λ x. ⌜ x ≡ sum floats effects (λ b. mul binary64 (getD u b nan) (getD (now (z .entry)) (from + b) nan)) ⌝ }
-{
-    let mut total = 0.0;
-    for b in 0..effects {
-        total = total + u[b] * z[from + b];
-    }
-    total
-}
-
-// Each cell gains the term of a group, whose columns of Z are those from k on: the sum over its effects, u being its row of Z_g E.
-pub fn gain_effects(
+// Each cell gains the term of a group of one effect: u times column k of Z.
+pub fn gain_one(
     out: &mut [f64],
     d: usize,
     m: usize,
@@ -64,16 +32,39 @@ pub fn gain_effects(
     columns: usize,
     lo: usize,
     k: usize,
-    effects: usize,
-    u: [f64; 2],
+    u: f64,
 )
-    requires { ⌜ (d + m ≤ length (now out)) × Holds zs 0 n columns (length (now z)) × (lo + m ≤ n) × (k + effects ≤ columns) × (effects ≤ 2) ⌝ }
-    ensures { λ e. ⌜ now (out .exit) ≡ putRow d m (λ j. floats .plus (getD (now (out .entry)) (d + j) nan) (sum floats effects (λ b. mul binary64 (getD u b nan) (getD (now (z .entry)) (0 + (lo + j) * zs + k + b) nan)))) (now (out .entry)) ⌝ }
+    requires { ⌜ (d + m ≤ length (now out)) × Holds zs 0 n columns (length (now z)) × (lo + m ≤ n) × (k < columns) ⌝ }
+    ensures { λ e. ⌜ now (out .exit) ≡ putRow d m (λ j. floats .plus (getD (now (out .entry)) (d + j) nan) (floats .plus plusZero (floats .times u (at floats (rowsAt zs 0 n columns (now (z .entry))) (lo + j) k)))) (now (out .entry)) ⌝ }
 {
     for j in 0..m {
-        let from = algebra_large::rows::start(0, zs, lo + j, n, columns, z.len());
-        let term = effects_sum(z, from + k, effects, u);
-        out[d + j] = out[d + j] + term;
+        let x = cell_of(z, zs, n, columns, lo + j, k);
+        out[d + j] = out[d + j] + (0.0 + u * x);
+    }
+}
+
+// Each cell gains the term of a group of two effects: u times column k of Z, and v times column l.
+pub fn gain_two(
+    out: &mut [f64],
+    d: usize,
+    m: usize,
+    z: &[f64],
+    zs: usize,
+    n: usize,
+    columns: usize,
+    lo: usize,
+    k: usize,
+    u: f64,
+    l: usize,
+    v: f64,
+)
+    requires { ⌜ (d + m ≤ length (now out)) × Holds zs 0 n columns (length (now z)) × (lo + m ≤ n) × (k < columns) × (l < columns) ⌝ }
+    ensures { λ e. ⌜ now (out .exit) ≡ putRow d m (λ j. floats .plus (getD (now (out .entry)) (d + j) nan) (floats .plus (floats .plus plusZero (floats .times u (at floats (rowsAt zs 0 n columns (now (z .entry))) (lo + j) k))) (floats .times v (at floats (rowsAt zs 0 n columns (now (z .entry))) (lo + j) l)))) (now (out .entry)) ⌝ }
+{
+    for j in 0..m {
+        let x = cell_of(z, zs, n, columns, lo + j, k);
+        let y = cell_of(z, zs, n, columns, lo + j, l);
+        out[d + j] = out[d + j] + (0.0 + u * x + v * y);
     }
 }
 
@@ -95,8 +86,14 @@ pub fn gain_group(
     ensures { λ e. ⌜ now (out .exit) ≡ putRow d m (λ j. floats .plus (getD (now (out .entry)) (d + j) nan) (groupCell (rowsAt zs 0 n columns (now (z .entry))) t g i (lo + j))) (now (out .entry)) ⌝ }
 {
     let k = group_column(t, columns, g, 0);
-    let u = directed_row(z, zs, n, columns, t, g, i);
-    gain_effects(out, d, m, z, zs, n, columns, lo, k, t.effects, u);
+    let u = directed_cell(z, zs, n, columns, t, g, i, 0);
+    if t.effects == 1 {
+        gain_one(out, d, m, z, zs, n, columns, lo, k, u);
+        return;
+    }
+    let l = group_column(t, columns, g, 1);
+    let v = directed_cell(z, zs, n, columns, t, g, i, 1);
+    gain_two(out, d, m, z, zs, n, columns, lo, k, u, l, v);
 }
 
 // Each cell gains the terms of all groups, by rising index.
