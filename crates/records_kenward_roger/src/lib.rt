@@ -44,19 +44,22 @@ pub fn kenward_roger_modcomp_data(
     ensures { λ r. ⌜ now (w .exit) ≡ accepted r (adjusted c (now (s .entry)) .w) (now (w .entry)) ⌝ }
     ensures { λ r. ⌜ now (rotations .exit) ≡ accepted r (adjusted c (now (s .entry)) .rotations) (now (rotations .entry)) ⌝ }
 {
-    // Six squares of 24 rows of 24, and six parts of 24 rows of 6.
+    // Room for six squares of 24 rows of 24 and six parts of 24 rows of 6. A series of fewer specimens is lent the front of it, with a stride of their number, so that no more is cleared than it uses.
     let mut work = [0.0; 3456];
     let mut narrow = [0.0; 864];
     let p = z.coefficients;
+    let n = z.specimens;
+    let squares = 6 * (n * n);
+    let parts = 36 * n;
     let blocks = records_series::blocks_of(s, z.blocks);
     let theta = records_sheet_parts::three_at(sheet, 723, z.thetas);
     let weights = records_sheet_parts::twenty_four_at(sheet, 726, z.specimens);
     let phi = cells_at(sheet, 750, 6, p, p);
     let cells = &sheet[..];
     vcov_adj16_with_pw(
-        &mut work,
-        24,
-        &mut narrow,
+        &mut work[..squares],
+        n,
+        &mut narrow[..parts],
         &cells[0..144],
         6,
         &cells[144..720],

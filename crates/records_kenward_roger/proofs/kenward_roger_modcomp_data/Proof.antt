@@ -1,5 +1,8 @@
 -- `records_kenward_roger::kenward_roger_modcomp_data` meets its contract.
-use mathlib.Core.Path.{refl, _∙_}
+use Prim.Native.Nat.{ℕ, _*_, _≤_}
+use native.Mathlib.Nat.{mul-le-mul-left}
+use mathlib.Core.Path.{_≡_, refl, sym, _∙_}
+use lib.Seq.{length-take-le}
 use native.Mathlib.Omega.{arith}
 use Rattle.adjustment.specs.Adjusted.{Adjustment}
 use borrow.Author.Needs.{needs}
@@ -13,6 +16,34 @@ use Rattle.records_series.proofs.blocks_of.Reads as blocks-of-reads
 use Rattle.records_sheet_parts.proofs.cells_at.Reads as cells-at-reads
 use Rattle.records_sheet_parts.proofs.three_at.Reads as three-at-reads
 use Rattle.records_sheet_parts.proofs.twenty_four_at.Reads as twenty-four-at-reads
+
+-- a square of at most 24 rows
+square-small : (n : ℕ) → n ≤ 24 → n * n ≤ 576
+square-small n h = omega (arith, mul-le-mul-left n h)
+
+same-most : {a b : ℕ} → a ≡ b → a ≤ b
+same-most e = omega (arith, e)
+
+mul-squares : tie.Need-mul-squares
+mul-squares c =
+    let a = c .before .args in
+    let g = c .before .pre in
+    let h = small-is (a .s .now) (g .0) (a .z) (a .sheet .now) (g .1) (g .2) in
+    omega (arith, square-small (a .z .specimens) (h .specimens))
+
+mul-squares-2 : tie.Need-mul-squares-2
+mul-squares-2 c =
+    let a = c .before .args in
+    let g = c .before .pre in
+    let h = small-is (a .s .now) (g .0) (a .z) (a .sheet .now) (g .1) (g .2) in
+    omega (arith, square-small (a .z .specimens) (h .specimens))
+
+mul-parts : tie.Need-mul-parts
+mul-parts c =
+    let a = c .before .args in
+    let g = c .before .pre in
+    let h = small-is (a .s .now) (g .0) (a .z) (a .sheet .now) (g .1) (g .2) in
+    omega (arith, h .specimens)
 
 blocks-of-requires : tie.Need-blocks-of-requires
 blocks-of-requires c κs =
@@ -42,11 +73,25 @@ cells-at-requires c κs =
     let h = small-is (a .s .now) (g .0) (a .z) (a .sheet .now) (g .1) (g .2) in
     (h .coefficients, h .coefficients, h .coefficients, omega (arith, h .coefficients))
 
+array-borrow-prefix-work : tie.Need-array-borrow-prefix-work
+array-borrow-prefix-work c =
+    let a = c .before .before .before .before .before .before .args in
+    let g = c .before .before .before .before .before .before .pre in
+    let h = small-is (a .s .now) (g .0) (a .z) (a .sheet .now) (g .1) (g .2) in
+    omega (arith, square-small (a .z .specimens) (h .specimens))
+
 slice-aggregate-vcov-adj16-with-pw : tie.Need-slice-aggregate-vcov-adj16-with-pw
-slice-aggregate-vcov-adj16-with-pw c = search needs
+slice-aggregate-vcov-adj16-with-pw c = sym (length-take-le _ _ (array-borrow-prefix-work (c .before)))
+
+array-borrow-prefix-narrow : tie.Need-array-borrow-prefix-narrow
+array-borrow-prefix-narrow c =
+    let a = c .before .before .before .before .before .before .before .args in
+    let g = c .before .before .before .before .before .before .before .pre in
+    let h = small-is (a .s .now) (g .0) (a .z) (a .sheet .now) (g .1) (g .2) in
+    omega (arith, h .specimens)
 
 slice-aggregate-vcov-adj16-with-pw-2 : tie.Need-slice-aggregate-vcov-adj16-with-pw-2
-slice-aggregate-vcov-adj16-with-pw-2 c = search needs
+slice-aggregate-vcov-adj16-with-pw-2 c = sym (length-take-le _ _ (array-borrow-prefix-narrow (c .before)))
 
 sub-vcov-adj16-with-pw : tie.Need-sub-vcov-adj16-with-pw
 sub-vcov-adj16-with-pw c = search needs
@@ -77,7 +122,7 @@ vcov-adj16-with-pw-requires c κs =
     let a = c .before .before .before .before .before .before .before .before .before .before .before .before .before .before .before .before .args in
     let g = c .before .before .before .before .before .before .before .before .before .before .before .before .before .before .before .before .pre in
     let h = small-is (a .s .now) (g .0) (a .z) (a .sheet .now) (g .1) (g .2) in (
-      record { high = h .specimens; few = h .coefficients; squares = omega arith; parts = omega arith },
+      record { high = omega arith; few = h .coefficients; squares = same-most (slice-aggregate-vcov-adj16-with-pw (c .before .before .before .before .before .before .before .before .before)); parts = omega (arith, same-most (slice-aggregate-vcov-adj16-with-pw-2 (c .before .before .before .before .before .before .before .before))) },
       record { wide = h .coefficients; fits = let e = x-length (a .s .now) (g .0) (a .z) (a .sheet .now) (g .1) (g .2) in omega (arith, h .specimens, h .coefficients) },
       lent-is (a .s .now) (g .0) (a .z) (a .sheet .now) (g .1) (g .2) _ _ (c .before .before .before .before .before .before .before .before .before .before .before .before .before .before .blocks-of .ensures .0) (c .before .before .before .before .before .before .before .before .before .before .before .before .twenty-four-at .ensures) _ (z-length (a .s .now) (g .0) (a .z) (a .sheet .now) (g .1) (g .2)),
     )
@@ -110,11 +155,16 @@ pub kenward-roger-modcomp-data-spec : {M : Type 1} → statement M
 kenward-roger-modcomp-data-spec =
     tie.close
     (tie.spec
+    mul-squares
+    mul-squares-2
+    mul-parts
     blocks-of-requires
     three-at-requires
     twenty-four-at-requires
     cells-at-requires
+    array-borrow-prefix-work
     slice-aggregate-vcov-adj16-with-pw
+    array-borrow-prefix-narrow
     slice-aggregate-vcov-adj16-with-pw-2
     sub-vcov-adj16-with-pw
     part-vcov-adj16-with-pw-start
