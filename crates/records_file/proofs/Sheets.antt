@@ -59,10 +59,6 @@ pub sheet-at : (t : Table) (s : List ℕ) (n j : ℕ) (d : Float) → j < 835 �
 unfolding sheetAfter
 sheet-at t s n j d l = stored (slotOf t s) (valueOf s) plusZero 835 n j d l
 
-pub length-flags : (t : Table) (s : List ℕ) (n : ℕ) → length (flagsAfter t s n) ≡ 835
-unfolding flagsAfter
-length-flags t s n = stored-length (slotOf t s) (λ i. true) false 835 n
-
 pub length-sheet : (t : Table) (s : List ℕ) (n : ℕ) → length (sheetAfter t s n) ≡ 835
 unfolding sheetAfter
 length-sheet t s n = stored-length (slotOf t s) (valueOf s) plusZero 835 n

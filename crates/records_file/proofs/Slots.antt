@@ -34,14 +34,6 @@ within-inside z s i e =
           (ltb-true _ _ (not-false _ (h .1)), ltb-true _ _ (not-false _ (h .0)));
     }
 
-pub inside-within : (z : Kind) (s : List ℕ) (i : ℕ) → Inside z (countOf s i) (rowOf s i) (columnOf s i) → outOf z s i ≡ false
-unfolding outOf
-inside-within z s i w = rw (lt-ltb (rowOf s i) (z .rows) (w .row)) (go (z .block) refl)
-  where
-    go : (b : Bool) → z .block ≡ b → cond b false (not (ltb (columnOf s i) (z .columns)) || not (ltb (countOf s i) (z .counts))) ≡ false
-    go true e = refl
-    go false e = let h = w .rest e in rw (lt-ltb _ _ (h .1), lt-ltb _ _ (h .0))
-
 pub good-within : (t : Table) (s : List ℕ) (i : ℕ) → badRecord t s i ≡ false → outOf (kindAt t (kindOf s i)) s i ≡ false
 unfolding badRecord
 good-within t s i e = or-false _ _ (or-false _ _ e .0) .0
