@@ -42,11 +42,3 @@ take-more a at xs i h =
     let k : at + i ≡ at + length (take i xs) = let x = length-take-le i xs (omega arith) in omega arith in
     let more : take (i + 1) xs ≡ take i xs ++ (getD xs i 0 ∷ []) = ap (λ (n : ℕ). take n xs) (add-one i) ∙ take-suc xs i 0 h in
     rw (k, more) (sets-append a at (take i xs) (getD xs i 0 ∷ []))
-
--- a text put at the front of the slice, which fits 512 bytes
-pub whole : {m : ℕ} {a b : List ℕ} {r : ℕ} {xs ys : List ℕ} → Put m a 0 xs b r → m ≤ 512 → xs ≡ ys → (r ≡ length ys) × (b ≡ sets a 0 ys) × (r ≤ 512)
-whole {m} {a} {b} {r} {xs} {ys} p h e =
-    let k : length xs ≡ length ys = ap length e in
-    let u = p .moved in
-    let v = p .short in
-    (omega arith, p .stored ∙ ap (sets a 0) e, omega arith)

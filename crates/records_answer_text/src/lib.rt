@@ -1,16 +1,17 @@
-// What the program prints of a run, as bytes in a lent slice. Each part is put at a cursor, and the cursor after it is returned.
+// What the program prints of a run, as bytes in a lent slice of any length. Each part is put at a cursor, and the cursor after it is returned, so that lines can follow one another; no other byte changes.
+// The parts that a program needs for lines of its own are public.
 ghost use mathlib.Core.Path.{_≡_};
 ghost use mathlib.Core.List.{[], _∷_};
 ghost use Prim.Native.Nat.{_+_, _≤_, _<_};
 ghost use lib.ListN.{length};
-ghost use lib.Seq.{sets};
 ghost use Rattle.records.specs.Text.{digit, hexadecimal, decimal, numberText, markText, fieldsText, coefficientLine, testLine, coefficientLines, refusalText, linesText, textOf};
 ghost use Rattle.records_answer_text.specs.joints.Cursor.{Put};
 use arithmetic::plain::to_bits;
 use tests::Entry;
 use tests::Number;
 
-fn put_text(out: &mut [u8], at: usize, text: &[u8]) -> usize
+// A given text, byte by byte.
+pub fn put_text(out: &mut [u8], at: usize, text: &[u8]) -> usize
     requires { ⌜ at + length (now text) ≤ length (now out) ⌝ }
     ensures { λ r. ⌜ Put (length (now (text .entry))) (now (out .entry)) at (now (text .entry)) (now (out .exit)) r ⌝ }
 {
@@ -34,7 +35,8 @@ fn letter(d: u64) -> u8
     }
 }
 
-fn put_digit(out: &mut [u8], at: usize, d: u64) -> usize
+// One digit. What has more is put digit by digit.
+pub fn put_digit(out: &mut [u8], at: usize, d: u64) -> usize
     requires { ⌜ (d < 16) × (at + 1 ≤ length (now out)) ⌝ }
     ensures { λ r. ⌜ Put 1 (now (out .entry)) at (digit d ∷ []) (now (out .exit)) r ⌝ }
 {
@@ -43,7 +45,7 @@ fn put_digit(out: &mut [u8], at: usize, d: u64) -> usize
 }
 
 // The low n hexadecimal digits of w: those of w / 16 come before its last.
-fn put_hexadecimal(out: &mut [u8], at: usize, n: usize, w: u64) -> usize
+pub fn put_hexadecimal(out: &mut [u8], at: usize, n: usize, w: u64) -> usize
     requires { ⌜ at + n ≤ length (now out) ⌝ }
     ensures { λ r. ⌜ Put n (now (out .entry)) at (hexadecimal n w) (now (out .exit)) r ⌝ }
 {
@@ -55,7 +57,7 @@ fn put_hexadecimal(out: &mut [u8], at: usize, n: usize, w: u64) -> usize
 }
 
 // The decimal digits of w, n of them at most: those of w / 10, if there are any, come before its last.
-fn put_decimal(out: &mut [u8], at: usize, n: usize, w: u64) -> usize
+pub fn put_decimal(out: &mut [u8], at: usize, n: usize, w: u64) -> usize
     requires { ⌜ at + n ≤ length (now out) ⌝ }
     ensures { λ r. ⌜ Put n (now (out .entry)) at (decimal n w) (now (out .exit)) r ⌝ }
 {
@@ -70,7 +72,7 @@ fn put_decimal(out: &mut [u8], at: usize, n: usize, w: u64) -> usize
 }
 
 // A number's 16 digits, or none.
-fn put_number(out: &mut [u8], at: usize, number: Number) -> usize
+pub fn put_number(out: &mut [u8], at: usize, number: Number) -> usize
     requires { ⌜ at + 16 ≤ length (now out) ⌝ }
     ensures { λ r. ⌜ Put 16 (now (out .entry)) at (numberText number) (now (out .exit)) r ⌝ }
 {
@@ -92,7 +94,7 @@ fn put_mark(out: &mut [u8], at: usize, inside: bool) -> usize
 }
 
 // The fields that a coefficient's line and the contrast's have alike.
-fn put_fields(out: &mut [u8], at: usize, e: Entry) -> usize
+pub fn put_fields(out: &mut [u8], at: usize, e: Entry) -> usize
     requires { ⌜ at + 56 ≤ length (now out) ⌝ }
     ensures { λ r. ⌜ Put 56 (now (out .entry)) at (fieldsText e) (now (out .exit)) r ⌝ }
 {
@@ -138,47 +140,47 @@ fn put_test(out: &mut [u8], at: usize, e: Entry) -> usize
 }
 
 // The refusal and its number, of which a u32 has ten digits at most.
-fn put_refusal(out: &mut [u8], number: u32) -> usize
-    requires { ⌜ 19 ≤ length (now out) ⌝ }
-    ensures { λ r. ⌜ Put 19 (now (out .entry)) 0 (refusalText number) (now (out .exit)) r ⌝ }
+fn put_refusal(out: &mut [u8], at: usize, number: u32) -> usize
+    requires { ⌜ at + 19 ≤ length (now out) ⌝ }
+    ensures { λ r. ⌜ Put 19 (now (out .entry)) at (refusalText number) (now (out .exit)) r ⌝ }
 {
-    let at = put_text(out, 0, b"refused ");
+    let at = put_text(out, at, b"refused ");
     let at = put_decimal(out, at, 10, number as u64);
     put_text(out, at, b"\n")
 }
 
 // The lines of the six coefficients.
-fn put_coefficients(out: &mut [u8], es: [Entry; 7]) -> usize
-    requires { ⌜ 378 ≤ length (now out) ⌝ }
-    ensures { λ r. ⌜ Put 378 (now (out .entry)) 0 (coefficientLines 6 es) (now (out .exit)) r ⌝ }
+fn put_coefficients(out: &mut [u8], at: usize, es: [Entry; 7]) -> usize
+    requires { ⌜ at + 378 ≤ length (now out) ⌝ }
+    ensures { λ r. ⌜ Put 378 (now (out .entry)) at (coefficientLines 6 es) (now (out .exit)) r ⌝ }
 {
-    let mut at = 0;
+    let mut next = at;
     let mut i = 0;
     while i < 6 {
         let e = es[i];
-        at = put_coefficient(out, at, i, e);
+        next = put_coefficient(out, next, i, e);
         i += 1;
     }
-    at
+    next
 }
 
 // The lines of the entries in use.
-fn put_lines(out: &mut [u8], es: [Entry; 7]) -> usize
-    requires { ⌜ 439 ≤ length (now out) ⌝ }
-    ensures { λ r. ⌜ Put 439 (now (out .entry)) 0 (linesText es) (now (out .exit)) r ⌝ }
+fn put_lines(out: &mut [u8], at: usize, es: [Entry; 7]) -> usize
+    requires { ⌜ at + 439 ≤ length (now out) ⌝ }
+    ensures { λ r. ⌜ Put 439 (now (out .entry)) at (linesText es) (now (out .exit)) r ⌝ }
 {
     let contrast = es[6];
-    let at = put_coefficients(out, es);
+    let at = put_coefficients(out, at, es);
     put_test(out, at, contrast)
 }
 
-// All that is printed of a run: its refusal, or its lines. Returns how many bytes it takes; those after it stay.
-pub fn text_of(number: u32, es: [Entry; 7], out: &mut [u8]) -> usize
-    requires { ⌜ 512 ≤ length (now out) ⌝ }
-    ensures { λ r. ⌜ (r ≡ length (textOf number es)) × (now (out .exit) ≡ sets (now (out .entry)) 0 (textOf number es)) × (r ≤ 512) ⌝ }
+// All that is printed of a run: its refusal, or its lines. 439 bytes are what six coefficients' lines and a contrast's take at most; a refusal takes fewer.
+pub fn put_run(out: &mut [u8], at: usize, number: u32, es: [Entry; 7]) -> usize
+    requires { ⌜ at + 439 ≤ length (now out) ⌝ }
+    ensures { λ r. ⌜ Put 439 (now (out .entry)) at (textOf number es) (now (out .exit)) r ⌝ }
 {
     if number != 0 {
-        return put_refusal(out, number);
+        return put_refusal(out, at, number);
     }
-    put_lines(out, es)
+    put_lines(out, at, es)
 }

@@ -18,7 +18,7 @@ use adjustment_kr_vcov_adj::vcov_adj16_with_pw;
 use arithmetic_cutoffs::Cutoffs;
 use arithmetic_cutoffs::document_cutoffs;
 use records_answer_bytes::put_answer;
-use records_answer_text::text_of;
+use records_answer_text::put_run;
 use records_series::SeriesSizes;
 use records_sheet_parts::cells_at;
 use records_sheet_parts::six_at;
@@ -199,5 +199,5 @@ pub fn text(records: &[u8], out: &mut [u8; 512]) -> usize
     let mut number: u32 = 0;
     let mut made: usize = 0;
     let es = judge(document_cutoffs(), records, &mut number, &mut made);
-    text_of(number, es, out)
+    put_run(out, 0, number, es)
 }

@@ -3,7 +3,7 @@
 ghost use Prim.Native.Nat.{_≤_};
 ghost use lib.ListN.{length};
 use arithmetic_cutoffs::document_cutoffs;
-use records_answer_text::text_of;
+use records_answer_text::put_run;
 use tests_entries::no_entry;
 
 // A bar for a newline.
@@ -37,7 +37,7 @@ fn print_satterthwaite(file: &[u8]) {
     let mut es = [no_entry(); 7];
     es[6] = e;
     let mut out = [0u8; 512];
-    let n = text_of(number, es, &mut out);
+    let n = put_run(&mut out, 0, number, es);
     print_barred(out, n);
 }
 

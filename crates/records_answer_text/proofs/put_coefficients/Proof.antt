@@ -1,5 +1,5 @@
 -- `records_answer_text::put_coefficients` meets its contract: after i turns the first i lines stand.
-use Prim.Native.Nat.{ℕ, _≤_, _<_, _-_, _*_}
+use Prim.Native.Nat.{ℕ, _≤_, _<_, _+_, _-_, _*_}
 use native.Mathlib.Omega.{arith}
 use borrow.Author.Needs.{needs}
 use mathlib.Core.Path.{_≡_, refl, ap, _∙_}
@@ -12,14 +12,14 @@ use Rattle.records_answer_text.proofs.put_coefficients.Statement.{state
 use Rattle.records_answer_text.proofs.put_coefficients.Tie as tie
 
 abbrev Inv-loop : tie.InvT-loop
-Inv-loop out₀ es at₀ i₀ out at i = (i ≤ 6) × (length es ≡ 7) × (378 ≤ length out₀) × (length out ≡ length out₀) × Put (63 * i) out₀ 0 (coefficientLines i es) out at
+Inv-loop out₀ at es next₀ i₀ out next i = (i ≤ 6) × (length es ≡ 7) × (at + 378 ≤ length out₀) × (length out ≡ length out₀) × Put (63 * i) out₀ at (coefficientLines i es) out next
 
 abbrev μ-loop : tie.MeasureT-loop
-μ-loop out₀ es at₀ i₀ out at i = 6 - i
+μ-loop out₀ at es next₀ i₀ out next i = 6 - i
 
 loop-holds : tie.Need-loop-holds Inv-loop μ-loop
 unfolding coefficientLines
-loop-holds c = (omega arith, search needs, c .before .pre, refl, stay 0 _ 0)
+loop-holds c = (omega arith, search needs, c .before .pre, refl, stay 0 _ _)
 
 mul-e : tie.Need-mul-e Inv-loop μ-loop
 mul-e c = omega arith
@@ -45,12 +45,12 @@ loop-again c =
     let l = c .before .before .before .before .before .before in
     let g = l .before .before .args in
     let p = c .before .before .put-coefficient in
-    let h : l .loop .i < length (g .t2) = omega arith in (
+    let h : l .loop .i < length (g .t3) = omega arith in (
       omega arith,
       l .loop .inv .1,
       l .loop .inv .2,
       p .kept .0 ∙ l .loop .inv .3,
-      coefficients-more (l .loop .i) (g .t2) h (l .loop .inv .4) (p .ensures),
+      coefficients-more (l .loop .i) (g .t3) h (l .loop .inv .4) (p .ensures),
     )
 
 same-length : tie.Need-same-length Inv-loop μ-loop
@@ -61,7 +61,7 @@ returns c =
     let l = c .before in
     let g = l .before .before .args in
     let six : l .loop .i ≡ 6 = omega arith in
-    named (l .loop .inv .4) (ap (λ (k : ℕ). coefficientLines k (g .t2)) six) (omega arith)
+    named (l .loop .inv .4) (ap (λ (k : ℕ). coefficientLines k (g .t3)) six) (omega arith)
 
 pub put-coefficients-spec : {M : Type 1} → statement M
 put-coefficients-spec =

@@ -30,7 +30,7 @@ returns c =
     let test = c .before .before in
     let lines = test .before .before .before .before in
     let start = lines .before .before .before .before in
-    let es = start .args .t2 in
+    let es = start .args .t3 in
     let last : testLine (getD es 6 past) ≡ testLine (getD es 6 noEntry) = ap testLine (getD-any es 6 past noEntry (omega arith)) in
     named (then (lines .put-coefficients .ensures) (test .put-test .ensures)) (ap (λ (t : List ℕ). coefficientLines 6 es ++ t) last) (omega arith)
 
