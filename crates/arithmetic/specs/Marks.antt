@@ -25,6 +25,10 @@ marked x b = record { value = x; inside = b }
 abbrev pub given : Float → Marked
 given x = marked x true
 
+-- whether it is inside: every step up to it was
+abbrev pub isInside : Marked → Bool
+isInside a = a .inside
+
 -- the mark of a step on a and b with the rounded result r: both operands are inside and in range, and the result is in range
 unfoldable pub stepMark : Marked → Marked → Float → Bool
 stepMark a b r = a .inside && b .inside && (inRange (a .value) && inRange (b .value)) && inRange r

@@ -1,6 +1,7 @@
 // The marked steps: + - * / and the square root on numbers that carry their mark.
 ghost use mathlib.Core.Path.{_≡_};
-ghost use Rattle.arithmetic.specs.Marks.{inRange, stepMark, lostProduct, lostQuotient, given, markedAdd, markedSub, markedMul, markedDiv, markedRoot, markedMagnitude, also};
+ghost use Rattle.arithmetic.specs.Numbers.{plusZero};
+ghost use Rattle.arithmetic.specs.Marks.{inRange, stepMark, lostProduct, lostQuotient, given, isInside, markedAdd, markedSub, markedMul, markedDiv, markedRoot, markedMagnitude, also};
 use arithmetic::Marked;
 use arithmetic::plain::is_zero;
 use arithmetic::plain::magnitude;
@@ -47,6 +48,20 @@ pub fn given(x: f64) -> Marked
         value: x,
         inside: true,
     }
+}
+
+// +0, from which sums start.
+pub fn zero_of() -> Marked
+    ensures { λ r. ⌜ r ≡ given plusZero ⌝ }
+{
+    given(0.0)
+}
+
+// Whether every step up to a was inside.
+pub fn is_inside(a: Marked) -> bool
+    ensures { λ r. ⌜ r ≡ isInside a ⌝ }
+{
+    a.inside
 }
 
 pub fn add(a: Marked, b: Marked) -> Marked
