@@ -1,7 +1,6 @@
 -- The bytes of the converted file by their positions: what is kept, and what a rewritten record holds. For any change and any file, its length a multiple of 16 or not.
-use Prim.Native.Nat.{ℕ, _+_, _-_, _*_, _/_, _%_, _^_, _≤_, _<_}
+use Prim.Native.Nat.{ℕ, _+_, _-_, _*_, _/_, _%_, _≤_, _<_}
 use native.Mathlib.Omega.{arith}
-use native.Mathlib.Nat.{div-add-mod}
 use native.Mathlib.Decide.{decLt}
 use mathlib.Core.Path.{_≡_, refl, sym, ap, _∙_}
 use mathlib.Core.Bool.{Bool, true, false, _&&_}
@@ -12,32 +11,9 @@ use lib.Ieee.Bits.{is-true}
 use Rattle.algebra.specs.Table.{row}
 use Rattle.algebra.proofs.TableLaws.{row-at}
 use Rattle.algebra.proofs.FoldLaws.{length-span}
-use Rattle.records.specs.Bytes.{byte, word, long, bytesOf}
+use Rattle.records.specs.Bytes.{byte, bytesOf}
 use Rattle.records.specs.File.{count, kindOf}
 use Rattle.converter.specs.Converted.{Change, newBits, newByte, converted}
-
--- ---- eight bytes hold a number below 2 ^ 64
-four : (w w1 w2 w3 w4 b0 b1 b2 b3 : ℕ) → 256 * w1 + b0 ≡ w → 256 * w2 + b1 ≡ w1 → 256 * w3 + b2 ≡ w2 → 256 * w4 + b3 ≡ w3
-    → b0 + 256 * b1 + 65536 * b2 + 16777216 * b3 + 4294967296 * w4 ≡ w
-four w w1 w2 w3 w4 b0 b1 b2 b3 e0 e1 e2 e3 = omega (arith, e0, ap (λ (z : ℕ). 256 * z) e1, ap (λ (z : ℕ). 65536 * z) e2, ap (λ (z : ℕ). 16777216 * z) e3)
-
-pub long-bytes : (w : ℕ) → w < 2 ^ 64 → long (bytesOf 8 w) 0 ≡ w
-unfolding long word bytesOf
-long-bytes w h =
-    let w1 = w / 256 in
-    let w2 = w1 / 256 in
-    let w3 = w2 / 256 in
-    let w4 = w3 / 256 in
-    let w5 = w4 / 256 in
-    let w6 = w5 / 256 in
-    let w7 = w6 / 256 in
-    let w8 = w7 / 256 in
-    both w w4 w8 (w % 256 + 256 * (w1 % 256) + 65536 * (w2 % 256) + 16777216 * (w3 % 256)) (w4 % 256 + 256 * (w5 % 256) + 65536 * (w6 % 256) + 16777216 * (w7 % 256))
-    (four w w1 w2 w3 w4 (w % 256) (w1 % 256) (w2 % 256) (w3 % 256) (div-add-mod w 256) (div-add-mod w1 256) (div-add-mod w2 256) (div-add-mod w3 256))
-    (four w4 w5 w6 w7 w8 (w4 % 256) (w5 % 256) (w6 % 256) (w7 % 256) (div-add-mod w4 256) (div-add-mod w5 256) (div-add-mod w6 256) (div-add-mod w7 256)) h
-  where
-    both : (w w4 w8 a b : ℕ) → a + 4294967296 * w4 ≡ w → b + 4294967296 * w8 ≡ w4 → w < 2 ^ 64 → a + 4294967296 * b ≡ w
-    both w w4 w8 a b e f h = omega arith
 
 -- ---- the positions of record i
 at-quotient : (i o : ℕ) → o < 16 → (16 * i + o) / 16 ≡ i

@@ -1,96 +1,89 @@
--- The numbers in the cells of the converted file, for any change and any table of kinds: a cell of a kind that is not rewritten keeps its number, any other holds the f64 product with
--- the power of two of its kind and row, and this product is the number scaled where the number scaled is an f64 number.
-use Prim.Native.Nat.{ℕ, _<_}
-use mathlib.Core.Path.{_≡_, refl, sym, ap, _∙_, subst}
-use mathlib.Core.Bool.{Bool, true, false, not, _&&_, _||_}
+-- The numbers in the cells of a file, with any table of kinds: they are f64 numbers; a record that lies within the sizes has its cell's indices as its own fields; and in a file that names no cell
+-- twice a record's value is the number in its cell.
+use Prim.Native.Nat.{ℕ, zero, suc, _<_, _≤_}
+use native.Mathlib.Omega.{arith}
+use mathlib.Core.Path.{_≡_, refl, sym}
+use mathlib.Core.Bool.{Bool, true, false, _||_, cond}
 use mathlib.Core.List.{List}
-use lib.IntN.{ℤ}
-use lib.Dec.{T, eqb, eqb→eq}
-use lib.Ieee.{Float, binary64, fits, mul}
+use mathlib.Core.Logic.{_⊎_, inl, inr}
+use lib.Dec.{T}
+use lib.Ieee.{binary64, fits}
 use lib.Ieee.Bits.{ofBits-fits}
-use lib.Ieee.Fits.{and-l, and-r}
-use Rattle.arithmetic.specs.Numbers.{plusZero, isFinite}
-use Rattle.arithmetic.specs.Scale.{scale, powerOfTwo}
-use Rattle.arithmetic.proofs.PlainLaws.{of-eq, finite-scale}
-use Rattle.arithmetic.proofs.PowerOfTwo.{scale-is-mul}
+use borrow.Author.Tests.{eqb-true}
+use Rattle.arithmetic.specs.Numbers.{plusZero}
+use Rattle.arithmetic.proofs.PlainLaws.{clash}
+use Rattle.records.specs.declared.Field.{Field}
+use Rattle.records.specs.declared.Field.the-variants.{Index, Number, Unused}
+use Rattle.records.specs.declared.Kind.{Kind}
 use Rattle.records.specs.Scan.{any, last}
-use Rattle.records.specs.Kinds.{Table, kindAt}
-use Rattle.records.specs.File.{count, kindOf, rowOf, columnOf, countOf, bitsOf, valueOf, isCell, cell, badRecord, notFinite}
-use Rattle.converter.specs.Converted.{Change, converted}
-use Rattle.converter.proofs.Fields.{Alike, converted-alike, bits-other, value-other, value-new}
-use Rattle.records.proofs.ScanLaws.{any-same, last-both, last-holds}
-use Rattle.converter.proofs.SameFile.{count-same, isCell-same, badRecord-same}
-
--- a record that names a cell has its kind and row
-pub isCell-names : (t : Table) (s : List ℕ) (k n r c i : ℕ) → isCell t s k n r c i ≡ true → (kindOf s i ≡ k) × (rowOf s i ≡ r)
-unfolding isCell
-isCell-names t s k n r c i h =
-    let A = eqb (kindOf s i) k in
-    let B = eqb (rowOf s i) r in
-    let C = kindAt t k .block || (eqb (countOf s i) n && eqb (columnOf s i) c) in
-    let q : T (A && B) = and-l (A && B) C (of-eq h) in
-    (eqb→eq (kindOf s i) k (and-l A B q), eqb→eq (rowOf s i) r (and-r A B q))
+use Rattle.records.specs.Kinds.{holds, indexOf, Table, kindAt}
+use Rattle.records.specs.File.{count, kindOf, rowOf, columnOf, countOf, bitsOf, valueOf, cellCount, cellRow, cellColumn, isCell, cell, again, beyond}
+use Rattle.records.proofs.ScanLaws.{or-false, any-none, last-holds}
+use Rattle.records.proofs.Slots.{within, cell-names, names-cell}
+use Rattle.converter.specs.ReadAlike.{isNumber, numbered}
 
 pub cell-fits : (t : Table) (s : List ℕ) (k n r c : ℕ) → T (fits binary64 (cell t s k n r c))
 unfolding cell fits
 cell-fits t s k n r c = last-holds (λ x. T (fits binary64 x)) (count s) (isCell t s k n r c) (valueOf s) plusZero tt (λ i l p. ofBits-fits binary64 (bitsOf s i))
 
-zero-product : (u : ℤ) → plusZero ≡ mul binary64 plusZero (powerOfTwo u)
-unfolding fits
-zero-product u = sym (scale-is-mul binary64 u plusZero tt)
+-- ---- the fields of a record within the sizes
+held-index : (f : Field) (x : ℕ) → isNumber f ≡ false → holds f x ≡ true → indexOf f x ≡ x
+unfolding isNumber holds indexOf
+held-index (Index limit) x e h = refl
+held-index Number x e h = clash refl e
+held-index Unused x e h = sym (eqb-true x 0 h)
 
-module _ (g : Change) (s : List ℕ) where
-  a : Alike s (converted g s)
-  a = converted-alike g s
+-- they are the indices of the cell that it names
+pub record Own (t : Table) (s : List ℕ) (i : ℕ) : Type 0 where
+  pub row : cellRow t s i ≡ rowOf s i
+  pub column : cellColumn t s i ≡ columnOf s i
+  pub number : cellCount t s i ≡ countOf s i
 
-  module _ (t : Table) (k n r c : ℕ) where
-    -- any relation between +0 and +0 and between the values of the records that name the cell holds of the cell
-    cell-both : (R : Float → Float → Type 0) → R plusZero plusZero → ((i : ℕ) → i < count s → isCell t s k n r c i ≡ true → R (valueOf s i) (valueOf (converted g s) i))
-        → R (cell t s k n r c) (cell t (converted g s) k n r c)
-    unfolding cell
-    cell-both R z h =
-        subst (λ (m : ℕ). R (last (count s) (isCell t s k n r c) (valueOf s) plusZero) (last m (isCell t (converted g s) k n r c) (valueOf (converted g s)) plusZero)) (sym (count-same a))
-        (last-both R (count s) (isCell t s k n r c) (isCell t (converted g s) k n r c) (valueOf s) (valueOf (converted g s)) plusZero plusZero (λ i l. sym (isCell-same a t k n r c i)) z h)
+pub own-fields : (t : Table) (s : List ℕ) (i : ℕ) → beyond t s i ≡ false → numbered (kindAt t (kindOf s i)) ≡ false → Own t s i
+unfolding beyond
+own-fields t s i b e =
+    let z : Kind = kindAt t (kindOf s i) in
+    let w = within z s i b in
+    let f = or-false (isNumber (z .count) || isNumber (z .row)) (isNumber (z .column)) e in
+    let h = or-false (isNumber (z .count)) (isNumber (z .row)) (f .0) in
+    record { row = held-index (z .row) (rowOf s i) (h .1) (w .row); column = held-index (z .column) (columnOf s i) (f .1) (w .column); number = held-index (z .count) (countOf s i) (h .0) (w .number) }
 
-    pub cell-other : g .rewrites k ≡ false → cell t (converted g s) k n r c ≡ cell t s k n r c
-    cell-other e = cell-both (λ x y. y ≡ x) refl (λ i l p. value-other g s i (ap (g .rewrites) (isCell-names t s k n r c i p .0) ∙ e))
+-- ---- the last that passes is i, where i passes and none after it
+last-at {ℓ} : {A : Type ℓ} (n : ℕ) (p : ℕ → Bool) (f : ℕ → A) (d : A) (i : ℕ) → i < n → p i ≡ true → ((j : ℕ) → i < j → j < n → p j ≡ false) → last n p f d ≡ f i
+unfolding last
+last-at zero p f d i l e h = absurd (omega arith)
+last-at (suc n) p f d i l e h = go (native.Mathlib.Nat.eq-or-lt-of-le (below i n l)) (λ k. last-at n p f d i k e (λ j a b. h j a (up j n b)))
+  where
+    below : (i n : ℕ) → i < suc n → i ≤ n
+    below i n h = omega arith
 
-    pub cell-product : g .rewrites k ≡ true → cell t (converted g s) k n r c ≡ mul binary64 (cell t s k n r c) (powerOfTwo (g .shift k r))
-    cell-product e =
-        cell-both (λ x y. y ≡ mul binary64 x (powerOfTwo (g .shift k r))) (zero-product (g .shift k r))
-        (λ i l p. let q = isCell-names t s k n r c i p in subst (λ (v : ℕ). valueOf (converted g s) i ≡ mul binary64 (valueOf s i) (powerOfTwo (g .shift k v))) (q .1)
-        (subst (λ (v : ℕ). valueOf (converted g s) i ≡ mul binary64 (valueOf s i) (powerOfTwo (g .shift v (rowOf s i)))) (q .0) (value-new g s i l (ap (g .rewrites) (q .0) ∙ e))))
+    up : (i n : ℕ) → i < n → i < suc n
+    up i n h = omega arith
 
--- ---- a file whose rewritten values can all be scaled
--- each value that the change rewrites is, times its power of two, an f64 number again
-pub record Exact (g : Change) (s : List ℕ) : Type 0 where
-  pub again : (i : ℕ) → i < count s → g .rewrites (kindOf s i) ≡ true → T (fits binary64 (scale (g .shift (kindOf s i) (rowOf s i)) (valueOf s i)))
+    end : (n : ℕ) → n < suc n
+    end n = omega arith
 
-module _ (g : Change) (s : List ℕ) (h : Exact g s) where
-  -- exact scaling by powers of two: what f64 multiplication gives is the value scaled
-  pub value-exact : (i : ℕ) → i < count s → g .rewrites (kindOf s i) ≡ true → valueOf (converted g s) i ≡ scale (g .shift (kindOf s i) (rowOf s i)) (valueOf s i)
-  value-exact i l e = value-new g s i l e ∙ scale-is-mul binary64 (g .shift (kindOf s i) (rowOf s i)) (valueOf s i) (h .again i l e)
+    go : (i ≡ n) ⊎ (i < n) → (i < n → last n p f d ≡ f i) → cond (p n) (f n) (last n p f d) ≡ f i
+    go (inl q) k = rw (← q, e)
+    go (inr q) k = rw (h n q (end n)) (k q)
 
-  pub notFinite-same : (i : ℕ) → i < count s → notFinite (converted g s) i ≡ notFinite s i
-  unfolding notFinite
-  notFinite-same i l = ap not (go (g .rewrites (kindOf s i)) refl)
+module _ (t : Table) (s : List ℕ) where
+  -- the records of the cell that record i names
+  abbrev named : ℕ → ℕ → Bool
+  named i = isCell t s (kindOf s i) (cellCount t s i) (cellRow t s i) (cellColumn t s i)
+
+  named-back : (i j : ℕ) → named i j ≡ true → named j i ≡ true
+  named-back i j h =
+      let q = cell-names t s (kindOf s i) (cellCount t s i) (cellRow t s i) (cellColumn t s i) j h in
+      names-cell t s (kindOf s j) (cellCount t s j) (cellRow t s j) (cellColumn t s j) i (record { kind = sym (q .kind); row = sym (q .row); number = sym (q .number); column = sym (q .column) })
+
+  pub value-is-cell : any (count s) (again t s) ≡ false → (i : ℕ) → i < count s → cell t s (kindOf s i) (cellCount t s i) (cellRow t s i) (cellColumn t s i) ≡ valueOf s i
+  unfolding cell again
+  value-is-cell h i l =
+      last-at (count s) (named i) (valueOf s) plusZero i l
+      (names-cell t s (kindOf s i) (cellCount t s i) (cellRow t s i) (cellColumn t s i) i (record { kind = refl; row = refl; number = refl; column = refl }))
+      (λ j a b. go j a (named i j) refl (any-none j (named j) i a (any-none (count s) (again t s) j b h)))
     where
-      go : (w : Bool) → g .rewrites (kindOf s i) ≡ w → isFinite (valueOf (converted g s) i) ≡ isFinite (valueOf s i)
-      go true e = ap isFinite (value-exact i l e) ∙ finite-scale (g .shift (kindOf s i) (rowOf s i)) (valueOf s i)
-      go false e = ap isFinite (value-other g s i e)
-
-  pub anyNotFinite-same : any (count (converted g s)) (notFinite (converted g s)) ≡ any (count s) (notFinite s)
-  anyNotFinite-same = ap (λ (n : ℕ). any n (notFinite (converted g s))) (count-same (converted-alike g s)) ∙ any-same (count s) (notFinite (converted g s)) (notFinite s) notFinite-same
-
-  -- a cell moves whether a record names it or not
-  pub cell-moves : (t : Table) (k n r c : ℕ) → g .rewrites k ≡ true → cell t (converted g s) k n r c ≡ scale (g .shift k r) (cell t s k n r c)
-  cell-moves t k n r c e =
-      cell-both g s t k n r c (λ x y. y ≡ scale (g .shift k r) x) refl
-      (λ i l p. let q = isCell-names t s k n r c i p in subst (λ (v : ℕ). valueOf (converted g s) i ≡ scale (g .shift k v) (valueOf s i)) (q .1)
-      (subst (λ (v : ℕ). valueOf (converted g s) i ≡ scale (g .shift v (rowOf s i)) (valueOf s i)) (q .0) (value-exact i l (ap (g .rewrites) (q .0) ∙ e))))
-
--- the records that refuse a file by themselves are the same, where no block's bits are rewritten
-pub anyBad-same : (g : Change) (s : List ℕ) (t : Table) → ((k : ℕ) → kindAt t k .block ≡ true → g .rewrites k ≡ false) → any (count (converted g s)) (badRecord t (converted g s)) ≡ any (count s) (badRecord t s)
-anyBad-same g s t h =
-    ap (λ (n : ℕ). any n (badRecord t (converted g s))) (count-same (converted-alike g s))
-    ∙ any-same (count s) (badRecord t (converted g s)) (badRecord t s) (λ i l. badRecord-same (converted-alike g s) t i (λ b. bits-other g s i (h (kindOf s i) b)))
+      go : (j : ℕ) → i < j → (w : Bool) → named i j ≡ w → named j i ≡ false → named i j ≡ false
+      go j a true e f = clash (named-back i j e) f
+      go j a false e f = e

@@ -1,13 +1,13 @@
 -- The laws of the converted file.
 pub mod Bytes
+pub mod Rewritten
 pub mod Fields
 pub mod SameFile
-pub mod SameSeries
 pub mod Cells
-pub mod Limits
-pub mod Refusals
-pub mod Named
+pub mod ReadAlike
+pub mod Among
 pub mod Series
+pub mod Refusals
 pub mod SameSizes
 pub mod Input
 pub mod Satterthwaite

@@ -1,15 +1,15 @@
--- Two files whose records name the same cells (`Alike`) get the same answers to every question on cells and sizes, with any table of kinds.
-use Prim.Native.Nat.{ℕ, _+_, _/_}
-use mathlib.Core.Path.{_≡_, refl, ap, _∙_}
-use mathlib.Core.Bool.{Bool, true, false, not, _||_, cond}
-use mathlib.Core.List.{List}
+-- Two files whose records have the same fields (`Alike`) get the same answers to every question on cells and sizes, with any table of kinds.
+use Prim.Native.Nat.{ℕ, _+_, _/_, _%_}
+use mathlib.Core.Path.{_≡_, ap, _∙_}
+use mathlib.Core.Bool.{Bool, not, _&&_, _||_, cond}
+use mathlib.Core.List.{List, [], _∷_}
 use lib.Dec.{eqb}
 use Rattle.records.specs.declared.Kind.{Kind}
 use Rattle.records.specs.Scan.{any, most}
-use Rattle.records.specs.Kinds.{Table, kindAt}
-use Rattle.records.specs.File.{count, kindOf, rowOf, columnOf, paddingOf, countOf, bitsOf, outOf, badRecord, isCell, again, has, rows, columns, present, beyond, missing}
-use Rattle.converter.proofs.Fields.{Alike}
+use Rattle.records.specs.Kinds.{Table, kindAt, kindNumbers, valueHolds}
+use Rattle.records.specs.File.{count, kindOf, rowOf, columnOf, paddingOf, bitsOf, outOf, badRecord, cellCount, cellRow, cellColumn, isCell, again, has, rows, columns, present, beyond, missing, lengthReasons, formReasons}
 use Rattle.records.proofs.ScanLaws.{any-same, most-same}
+use Rattle.converter.specs.ReadAlike.{Alike}
 
 module _ {s s' : List ℕ} (a : Alike s s') where
   pub count-same : count s' ≡ count s
@@ -30,7 +30,11 @@ module _ {s s' : List ℕ} (a : Alike s s') where
   pub present-same : (k : ℕ) → present s' k ≡ present s k
   present-same k = ap (λ (n : ℕ). not (eqb n 0)) (rows-same k)
 
-  pub outOf-same : (k : Kind) (i : ℕ) → outOf k s' i ≡ outOf k s i
+  -- some record passes where each passes as it did
+  any-records : (p' p : ℕ → Bool) → ((i : ℕ) → p' i ≡ p i) → any (count s') p' ≡ any (count s) p
+  any-records p' p h = ap (λ (n : ℕ). any n p') count-same ∙ any-same (count s) p' p (λ i l. h i)
+
+  outOf-same : (k : Kind) (i : ℕ) → outOf k s' i ≡ outOf k s i
   unfolding outOf
   outOf-same k i = rw (a .place i, a .column i, a .number i)
 
@@ -38,43 +42,41 @@ module _ {s s' : List ℕ} (a : Alike s s') where
   unfolding isCell
   isCell-same t k n r c i = rw (a .kind i, a .place i, a .number i, a .column i)
 
-  pub again-same : (t : Table) (i : ℕ) → again t s' i ≡ again t s i
+  again-same : (t : Table) (i : ℕ) → again t s' i ≡ again t s i
   unfolding again
   again-same t i =
-      any-same i (isCell t s' (kindOf s' i) (countOf s' i) (rowOf s' i) (columnOf s' i)) (isCell t s (kindOf s' i) (countOf s' i) (rowOf s' i) (columnOf s' i))
-      (λ j l. isCell-same t (kindOf s' i) (countOf s' i) (rowOf s' i) (columnOf s' i) j)
+      any-same i (isCell t s' (kindOf s' i) (cellCount t s' i) (cellRow t s' i) (cellColumn t s' i)) (isCell t s (kindOf s' i) (cellCount t s' i) (cellRow t s' i) (cellColumn t s' i))
+      (λ j l. isCell-same t (kindOf s' i) (cellCount t s' i) (cellRow t s' i) (cellColumn t s' i) j)
       ∙ rw (a .kind i, a .place i, a .number i, a .column i)
 
-  pub has-same : (t : Table) (k n r c : ℕ) → has t s' k n r c ≡ has t s k n r c
+  has-same : (t : Table) (k n r c : ℕ) → has t s' k n r c ≡ has t s k n r c
   unfolding has
-  has-same t k n r c =
-      ap (λ (z : ℕ). any z (isCell t s' k n r c)) count-same ∙ any-same (count s) (isCell t s' k n r c) (isCell t s k n r c) (λ i l. isCell-same t k n r c i)
+  has-same t k n r c = any-records (isCell t s' k n r c) (isCell t s k n r c) (isCell-same t k n r c)
 
-  pub beyond-same : (z : Table) (i : ℕ) → beyond z s' i ≡ beyond z s i
+  beyond-same : (t : Table) (i : ℕ) → beyond t s' i ≡ beyond t s i
   unfolding beyond
-  beyond-same z i = outOf-same (kindAt z (kindOf s' i)) i ∙ ap (λ (k : ℕ). outOf (kindAt z k) s i) (a .kind i)
+  beyond-same t i = outOf-same (kindAt t (kindOf s' i)) i ∙ ap (λ (k : ℕ). outOf (kindAt t k) s i) (a .kind i)
 
-  pub missing-same : (t z : Table) (k : ℕ) → missing t z s' k ≡ missing t z s k
+  missing-same : (t : Table) (k : ℕ) → missing t s' k ≡ missing t s k
   unfolding missing
-  missing-same t z k =
-      any-same (kindAt z k .counts) _ _ (λ n l. any-same (kindAt z k .rows) _ _ (λ r l. any-same (kindAt z k .columns) _ _ (λ c l. ap not (has-same t k n r c))))
+  missing-same t k =
+      ap (λ (b : Bool). not (kindAt t k .sparse) && b) (any-same _ _ _ (λ n l. any-same _ _ _ (λ r l. any-same _ _ _ (λ c l. ap not (has-same t k n r c)))))
 
-  -- a block's value bits are unused, so that they have to stay 0
-  pub badRecord-same : (t : Table) (i : ℕ) → (kindAt t (kindOf s i) .block ≡ true → bitsOf s' i ≡ bitsOf s i) → badRecord t s' i ≡ badRecord t s i
+  -- the value bits hold what they held
+  badRecord-same : (t : Table) (i : ℕ) → valueHolds (kindAt t (kindOf s i) .value) (bitsOf s' i) ≡ valueHolds (kindAt t (kindOf s i) .value) (bitsOf s i) → badRecord t s' i ≡ badRecord t s i
   unfolding badRecord
   badRecord-same t i h =
-      ap (λ (k : ℕ). outOf (kindAt t k) s' i || not (eqb (paddingOf s' i) 0) || cond (kindAt t k .block) (not (eqb (bitsOf s' i) 0)) false) (a .kind i)
-      ∙ ap (λ (b : Bool). b || not (eqb (paddingOf s' i) 0) || cond (kindAt t (kindOf s i) .block) (not (eqb (bitsOf s' i) 0)) false) (outOf-same (kindAt t (kindOf s i)) i)
-      ∙ ap (λ (n : ℕ). outOf (kindAt t (kindOf s i)) s i || not (eqb n 0) || cond (kindAt t (kindOf s i) .block) (not (eqb (bitsOf s' i) 0)) false) (a .padding i)
-      ∙ ap (λ (b : Bool). outOf (kindAt t (kindOf s i)) s i || not (eqb (paddingOf s i) 0) || b) (go (kindAt t (kindOf s i) .block) h)
-    where
-      go : (b : Bool) → (b ≡ true → bitsOf s' i ≡ bitsOf s i) → cond b (not (eqb (bitsOf s' i) 0)) false ≡ cond b (not (eqb (bitsOf s i) 0)) false
-      go true h = ap (λ (n : ℕ). not (eqb n 0)) (h refl)
-      go false h = refl
+      ap (λ (k : ℕ). outOf (kindAt t k) s' i || not (eqb (paddingOf s' i) 0) || not (valueHolds (kindAt t k .value) (bitsOf s' i))) (a .kind i)
+      ∙ ap (λ (b : Bool). b || not (eqb (paddingOf s' i) 0) || not (valueHolds (kindAt t (kindOf s i) .value) (bitsOf s' i))) (outOf-same (kindAt t (kindOf s i)) i)
+      ∙ ap (λ (n : ℕ). outOf (kindAt t (kindOf s i)) s i || not (eqb n 0) || not (valueHolds (kindAt t (kindOf s i) .value) (bitsOf s' i))) (a .padding i)
+      ∙ ap (λ (b : Bool). outOf (kindAt t (kindOf s i)) s i || not (eqb (paddingOf s i) 0) || not b) h
 
-  -- the scans of all records
-  pub anyAgain-same : (t : Table) → any (count s') (again t s') ≡ any (count s) (again t s)
-  anyAgain-same t = ap (λ (n : ℕ). any n (again t s')) count-same ∙ any-same (count s) (again t s') (again t s) (λ i l. again-same t i)
+  -- ---- the refusals
+  pub length-same : lengthReasons s' ≡ lengthReasons s
+  unfolding lengthReasons
+  length-same = ap (λ (n : ℕ). (2, not (eqb (n % 16) 0)) ∷ []) (a .size)
 
-  pub anyBeyond-same : (z : Table) → any (count s') (beyond z s') ≡ any (count s) (beyond z s)
-  anyBeyond-same z = ap (λ (n : ℕ). any n (beyond z s')) count-same ∙ any-same (count s) (beyond z s') (beyond z s) (λ i l. beyond-same z i)
+  pub form-same : (limit sized : Table) → ((i : ℕ) → valueHolds (kindAt limit (kindOf s i) .value) (bitsOf s' i) ≡ valueHolds (kindAt limit (kindOf s i) .value) (bitsOf s i)) → formReasons limit sized s' ≡ formReasons limit sized s
+  unfolding formReasons
+  form-same limit sized h =
+      rw (any-records (badRecord limit s') (badRecord limit s) (λ i. badRecord-same limit i (h i)), any-records (again sized s') (again sized s) (again-same sized), any-same kindNumbers (missing sized s') (missing sized s) (λ k l. missing-same sized k), any-records (beyond sized s') (beyond sized s) (beyond-same sized))

@@ -1,4 +1,4 @@
--- What a file that is not refused gives to the run: sizes within document 01's limits, and f64 numbers in the cells that the run reads.
+-- What a Kenward–Roger file that is not refused gives to the run: sizes within document 01's limits, whatever the limit of specimens, and f64 numbers in the cells that the run reads.
 use Prim.Native.Nat.{ℕ, _+_, _<_, _≤_, max}
 use native.Mathlib.Omega.{arith}
 use mathlib.Core.Path.{_≡_, refl, sym, ap, _∙_, subst}
@@ -18,36 +18,31 @@ use Rattle.adjustment.specs.declared.Block.{Block}
 use Rattle.adjustment.specs.Blocks.{noBlock, blockAt, places, placesBefore}
 use Rattle.adjustment.specs.Covariance.{matrices}
 use Rattle.records.specs.Scan.{any, total}
-use Rattle.records.specs.Kinds.{kindAt, kenwardRoger}
-use Rattle.records.specs.File.{rows, columns}
-use Rattle.records.specs.Series.{specimens, coefficients, zColumns, blockCount, thetas, contrastRows, cellValue, blockOf, badSize, design, phi, beta, betaH, contrast, sigma2}
+use Rattle.records.specs.Kinds.{kindAt, kenwardRogerKinds, limits, kenwardRoger}
+use Rattle.records.specs.File.{columns}
+use Rattle.records.specs.Series.{coefficients, blockCount, contrastRows, kinds, cellValue, blockOf, badSize, design, phi, beta, betaH, contrast, sigma2}
 use Rattle.records.proofs.ScanLaws.{or-false, total-same, fold-total}
-use Rattle.converter.proofs.Cells.{cell-fits}
-use Rattle.converter.proofs.Limits.{rows-bound, columns-bound}
+use Rattle.records.proofs.Limits.{rows-within, columns-within}
 use Rattle.records.proofs.AcceptedSeries.{AcceptedSeries}
+use Rattle.converter.proofs.Cells.{cell-fits}
 
-pub at-least : (x b : ℕ) → 1 ≤ b → x ≤ b → max 1 x ≤ b
+-- ---- sizes that no limit of specimens bounds: "coefficients p 1–6", "blocks 0–3", "contrast rows 1–6"
+at-least : (x b : ℕ) → 1 ≤ b → x ≤ b → max 1 x ≤ b
 at-least x b h k = omega arith
 
 pub record Sized (s : List ℕ) : Type 0 where
-  pub specimens : specimens s ≤ 24
+  pub some : 1 ≤ coefficients s
   pub coefficients : coefficients s ≤ 6
-  pub some : 1 ≤ Rattle.records.specs.Series.coefficients s
-  pub columns : zColumns s ≤ 24
   pub blocks : blockCount s ≤ 3
-  pub thetas : thetas s ≤ 3
   pub contrast : contrastRows s ≤ 6
 
-pub sized : (s : List ℕ) → AcceptedSeries s → Sized s
-unfolding kindAt kenwardRoger
-sized s c = record {
-  specimens = at-least (rows s 1) 24 (omega arith) (rows-bound kenwardRoger s 1 (c .good));
-  coefficients = at-least (columns s 1) 6 (omega arith) (columns-bound kenwardRoger s 1 refl (c .good));
+pub sized : (w : ℕ) (s : List ℕ) → AcceptedSeries w s → Sized s
+unfolding kindAt kenwardRogerKinds limits
+sized w s c = record {
   some = first (columns s 1);
-  columns = columns-bound kenwardRoger s 2 refl (c .good);
-  blocks = rows-bound kenwardRoger s 3 (c .good);
-  thetas = rows-bound kenwardRoger s 4 (c .good);
-  contrast = rows-bound kenwardRoger s 9 (c .good);
+  coefficients = at-least (columns s 1) 6 (omega arith) (columns-within (kenwardRoger w) s (c .good) 1 6 refl);
+  blocks = rows-within (kenwardRoger w) s (c .good) 3 3 refl;
+  contrast = rows-within (kenwardRoger w) s (c .good) 9 6 refl;
 }
   where
     first : (x : ℕ) → 1 ≤ max 1 x
@@ -55,15 +50,15 @@ sized s c = record {
 
 -- ---- the blocks' parameters
 -- "block parameters at most 3": the matrices are one more
-pub matrices-bound : (s : List ℕ) → AcceptedSeries s → matrices (design s) ≤ 4
+pub matrices-bound : (w : ℕ) (s : List ℕ) → AcceptedSeries w s → matrices (design s) ≤ 4
 unfolding badSize placesBefore design
-matrices-bound s c =
+matrices-bound w s c =
     let b : ℕ = blockCount s in
     let n : ℕ = total b (λ i. places (blockOf s i)) in
     let h : n ≤ 3 = ltb-false 3 n (or-false (any b (λ i. not (eqb (blockOf s i .effects) 1 || eqb (blockOf s i .effects) 2) || eqb (blockOf s i .groups) 0)) (ltb 3 n) (c .sized) .1) in
     let e : fold 0 b (λ i z. z + places (blockAt (row noBlock 3 b (blockOf s)) i)) 0 ≡ n =
     fold-total b (λ i. places (blockAt (row noBlock 3 b (blockOf s)) i))
-    ∙ total-same b (λ i. places (blockAt (row noBlock 3 b (blockOf s)) i)) (λ i. places (blockOf s i)) (λ i l. ap (λ (x : Block). places x) (row-at noBlock 3 b (blockOf s) i noBlock l (sized s c .blocks))) in
+    ∙ total-same b (λ i. places (blockAt (row noBlock 3 b (blockOf s)) i)) (λ i. places (blockOf s i)) (λ i l. ap (λ (x : Block). places x) (row-at noBlock 3 b (blockOf s) i noBlock l (sized w s c .blocks))) in
     less (fold 0 b (λ i z. z + places (blockAt (row noBlock 3 b (blockOf s)) i)) 0) n e h
   where
     less : (x n : ℕ) → x ≡ n → n ≤ 3 → x + 1 ≤ 4
@@ -88,16 +83,16 @@ module _ (s : List ℕ) (hp : coefficients s ≤ 6) where
   phi-at i j h l = table-at plusZero 6 6 (coefficients s) (coefficients s) (cellValue s 6) i j nan h l hp hp
 
   pub beta-fits : (i : ℕ) → i < coefficients s → T (fits binary64 (getD (beta s) i nan))
-  beta-fits i l = subst (λ (x : Float). T (fits binary64 x)) (sym (beta-at i l)) (cell-fits kenwardRoger s 8 0 i 0)
+  beta-fits i l = subst (λ (x : Float). T (fits binary64 x)) (sym (beta-at i l)) (cell-fits (kinds s) s 8 0 i 0)
 
   pub betaH-fits : (i : ℕ) → i < coefficients s → T (fits binary64 (getD (betaH s) i nan))
-  betaH-fits i l = subst (λ (x : Float). T (fits binary64 x)) (sym (betaH-at i l)) (cell-fits kenwardRoger s 10 0 i 0)
+  betaH-fits i l = subst (λ (x : Float). T (fits binary64 x)) (sym (betaH-at i l)) (cell-fits (kinds s) s 10 0 i 0)
 
   pub contrast-fits : contrastRows s ≤ 6 → (i j : ℕ) → i < contrastRows s → j < coefficients s → T (fits binary64 (at floats (contrast s) i j))
-  contrast-fits hr i j h l = subst (λ (x : Float). T (fits binary64 x)) (sym (contrast-at hr i j h l)) (cell-fits kenwardRoger s 9 0 i j)
+  contrast-fits hr i j h l = subst (λ (x : Float). T (fits binary64 x)) (sym (contrast-at hr i j h l)) (cell-fits (kinds s) s 9 0 i j)
 
   pub phi-fits : (i j : ℕ) → i < coefficients s → j < coefficients s → T (fits binary64 (at floats (phi s) i j))
-  phi-fits i j h l = subst (λ (x : Float). T (fits binary64 x)) (sym (phi-at i j h l)) (cell-fits kenwardRoger s 6 0 i j)
+  phi-fits i j h l = subst (λ (x : Float). T (fits binary64 x)) (sym (phi-at i j h l)) (cell-fits (kinds s) s 6 0 i j)
 
 pub sigma2-fits : (s : List ℕ) → T (fits binary64 (sigma2 s))
-sigma2-fits s = cell-fits kenwardRoger s 7 0 0 0
+sigma2-fits s = cell-fits (kinds s) s 7 0 0 0

@@ -1,24 +1,65 @@
--- The same laws at the Satterthwaite call's change: it rewrites no block, for there is none.
-use Prim.Native.Nat.{ℕ}
-use mathlib.Core.Path.{_≡_, refl}
-use mathlib.Core.Bool.{Bool, true, false}
+-- What the Satterthwaite call reads in the converted file, from the one law that it is read alike: the same sizes, cells that stay or move, and the same refusals before any computing.
+use Prim.Native.Nat.{ℕ, max}
+use mathlib.Core.Path.{_≡_, refl, ap, _∙_}
+use mathlib.Core.Bool.{true, false}
 use mathlib.Core.List.{List}
 use lib.IntN.{ℤ}
-use Rattle.arithmetic.proofs.PlainLaws.{clash}
+use Rattle.arithmetic.specs.Scale.{scale}
+use Rattle.records.specs.declared.Sizes.{Sizes}
+use Rattle.records.specs.declared.Value.the-variants.{Float as FloatBits}
 use Rattle.records.specs.Scan.{any}
-use Rattle.records.specs.Kinds.{kindAt, satterthwaite}
-use Rattle.records.specs.File.{count, badRecord}
-use Rattle.converter.specs.Converted.{satterthwaiteChange, converted}
-use Rattle.converter.proofs.Cells.{anyBad-same}
-use Rattle.converter.proofs.Limits.{among}
+use Rattle.records.specs.Kinds.{Table, kindAt, satterthwaiteKinds, limits, satterthwaite}
+use Rattle.records.specs.File.{count, cell, beyond, formReasons}
+use Rattle.records.specs.Parameters.{coefficients, contrastRows, parameters, sizes, kinds, cellValue, valueReasons, reasons}
+use Rattle.converter.specs.Converted.{satterthwaiteShift, satterthwaiteChange, converted}
+use Rattle.converter.specs.ReadAlike.{Exact, OnFloats, isNumber, numbered, ReadAlike}
+use Rattle.converter.proofs.Among.{among}
+use Rattle.converter.proofs.ReadAlike.{converted-reads-alike}
 
-pub satterthwaite-no-blocks : (k : ℤ) (kind : ℕ) → kindAt satterthwaite kind .block ≡ true → satterthwaiteChange k .rewrites kind ≡ false
-unfolding kindAt satterthwaite
-satterthwaite-no-blocks k kind h = go (satterthwaiteChange k .rewrites kind) refl
-  where
-    go : (b : Bool) → satterthwaiteChange k .rewrites kind ≡ b → satterthwaiteChange k .rewrites kind ≡ false
-    go true e = clash h (among 8 10 30 31 (λ z. kindAt satterthwaite z .block ≡ false) refl refl refl refl kind e)
-    go false e = e
+-- β, β_H, v and the Jacobians: f64 bits, in cells that the fields name, at any sizes
+parameters-floats : (k : ℤ) (z : Sizes) → OnFloats (satterthwaiteChange k) (satterthwaiteKinds z)
+unfolding kindAt satterthwaiteKinds
+parameters-floats k z = among 8 10 30 31 (λ j. kindAt (satterthwaiteKinds z) j .value ≡ FloatBits) refl refl refl refl
 
-pub satterthwaite-bad-same : (k : ℤ) (s : List ℕ) → any (count (converted (satterthwaiteChange k) s)) (badRecord satterthwaite (converted (satterthwaiteChange k) s)) ≡ any (count s) (badRecord satterthwaite s)
-satterthwaite-bad-same k s = anyBad-same (satterthwaiteChange k) s satterthwaite (satterthwaite-no-blocks k)
+pub parameters-numbered : (k : ℤ) (z : Sizes) (kind : ℕ) → satterthwaiteChange k .rewrites kind ≡ true → numbered (kindAt (satterthwaiteKinds z) kind) ≡ false
+unfolding kindAt satterthwaiteKinds isNumber
+parameters-numbered k z = among 8 10 30 31 (λ j. numbered (kindAt (satterthwaiteKinds z) j) ≡ false) refl refl refl refl
+
+module _ (k : ℤ) (s : List ℕ) where
+  abbrev s' : List ℕ
+  s' = converted (satterthwaiteChange k) s
+
+  alike : ReadAlike (satterthwaiteChange k) satterthwaite (kinds s) s (converted (satterthwaiteChange k) s)
+  alike = converted-reads-alike (satterthwaiteChange k) satterthwaite (kinds s) s (parameters-floats k (limits 0))
+
+  pub p-same : coefficients (converted (satterthwaiteChange k) s) ≡ coefficients s
+  p-same = ap (max 1) (alike .sameRows 8)
+
+  pub q-same : contrastRows (converted (satterthwaiteChange k) s) ≡ contrastRows s
+  q-same = ap (max 1) (alike .sameRows 9)
+
+  pub n-same : parameters (converted (satterthwaiteChange k) s) ≡ parameters s
+  n-same = rw (alike .sameRows 32, alike .sameColumns 32)
+
+  sizes-same : sizes s' ≡ sizes s
+  unfolding sizes
+  sizes-same = rw (alike .sameRows 8, alike .sameRows 9, alike .sameRows 10, alike .sameRows 32, alike .sameColumns 32)
+
+  kinds-same : kinds s' ≡ kinds s
+  kinds-same = ap satterthwaiteKinds sizes-same
+
+  pub stays : (kind n r c : ℕ) → satterthwaiteChange k .rewrites kind ≡ false → cellValue (converted (satterthwaiteChange k) s) kind n r c ≡ cellValue s kind n r c
+  stays kind n r c e = ap (λ (t : Table). cell t s' kind n r c) kinds-same ∙ alike .keptCell kind n r c e
+
+  form-same : formReasons satterthwaite (kinds s') s' ≡ formReasons satterthwaite (kinds s) s
+  form-same = ap (λ (t : Table). formReasons satterthwaite t s') kinds-same ∙ alike .sameForm
+
+  module _ (h : Exact (satterthwaiteChange k) s) where
+    pub scales : any (count s) (beyond (kinds s) s) ≡ false → (kind n r c : ℕ) → satterthwaiteChange k .rewrites kind ≡ true
+        → cellValue (converted (satterthwaiteChange k) s) kind n r c ≡ scale (satterthwaiteShift k kind n r c) (cellValue s kind n r c)
+    scales within kind n r c e =
+        ap (λ (t : Table). cell t s' kind n r c) kinds-same ∙ alike .scaledCell h within kind n r c e (parameters-numbered k (sizes s) kind e)
+
+    pub reasons-same : reasons (converted (satterthwaiteChange k) s) ≡ reasons s
+    unfolding reasons valueReasons
+    reasons-same = rw (alike .sameLength, form-same, alike .sameFinite h)

@@ -1,6 +1,6 @@
 -- Document 01, demand 3, the verdict survives a change of converter: what it says of the Kenward–Roger call on the bytes of a record file, over the definitions that the C function
 -- promises (the number that it returns, the seven entries, the bytes that it writes). Under another converter sigma2 is 4 ^ k times what it was, β and β_H 2 ^ k times, and row r of the contrast
--- 2 ^ (m r) times, each value as f64 multiplication gives it.
+-- 2 ^ (m r) times, each value as f64 multiplication gives it. w is the limit of specimens, 24 at the panel.
 use Prim.Native.Nat.{ℕ, _<_, _≤_}
 use mathlib.Core.Path.{_≡_}
 use mathlib.Core.Bool.{true}
@@ -16,26 +16,41 @@ use Rattle.converter.specs.Converted.{kenwardRogerChange, converted}
 use Rattle.converter.specs.AnswerBytes.{SameAnswer}
 
 -- "a run is inside when all its entries are": those in use, which are the coefficients' and, where the file has a contrast, entry 6
-pub record AllInside (c : Cutoffs) (s : List ℕ) : Type 0 where
-  pub coefficient : (i : ℕ) → i < coefficients s → getD (entries c s) i noEntry .inside ≡ true
-  pub contrast : 0 < contrastRows s → getD (entries c s) 6 noEntry .inside ≡ true
+pub record AllInside (w : ℕ) (c : Cutoffs) (s : List ℕ) : Type 0 where
+  pub coefficient : (i : ℕ) → i < coefficients s → getD (entries w c s) i noEntry .inside ≡ true
+  pub contrast : 0 < contrastRows s → getD (entries w c s) 6 noEntry .inside ≡ true
 
 -- "F, df and rank are its verdict, and a run's verdict is the verdicts of all its entries": s' is accepted, and each of its entries has the rank, F and df of the entry of s, none
 -- where that has none; the marks may differ
-pub record SameVerdicts (c : Cutoffs) (s s' : List ℕ) : Type 0 where
-  pub accepted : number c s' ≡ 0
-  pub verdicts : map verdict (entries c s') ≡ map verdict (entries c s)
+pub record SameVerdicts (w : ℕ) (c : Cutoffs) (s s' : List ℕ) : Type 0 where
+  pub accepted : number w c s' ≡ 0
+  pub verdicts : map verdict (entries w c s') ≡ map verdict (entries w c s)
 
 -- P of a file and of what another converter makes of it: every file that is accepted with all entries inside, whatever the cutoffs, k from -32 to 32 and for each contrast row an m of its
 -- own from -32 to 32
-abbrev pub EverySeries : (Cutoffs → List ℕ → List ℕ → Type 0) → Type 0
-EverySeries P =
-    (c : Cutoffs) (s : List ℕ) (k : ℤ) (m : ℕ → ℤ) → natAbs k ≤ 32 → ((r : ℕ) → r < contrastRows s → natAbs (m r) ≤ 32) → number c s ≡ 0 → AllInside c s
-    → P c s (converted (kenwardRogerChange k m) s)
+abbrev pub SeriesAt : (ℕ → Cutoffs → List ℕ → List ℕ → Type 0) → ℕ → Type 0
+SeriesAt P w =
+    (c : Cutoffs) (s : List ℕ) (k : ℤ) (m : ℕ → ℤ) → natAbs k ≤ 32 → ((r : ℕ) → r < contrastRows s → natAbs (m r) ≤ 32) → number w c s ≡ 0 → AllInside w c s
+    → P w c s (converted (kenwardRogerChange k m) s)
 
--- THE THIRD DEMAND, for the Kenward–Roger call: in entries, and in its 168 answer bytes
+-- with every limit of specimens: each that a byte can name, and any other, since nothing here turns on it
+abbrev pub EverySeries : (ℕ → Cutoffs → List ℕ → List ℕ → Type 0) → Type 0
+EverySeries P = (w : ℕ) → SeriesAt P w
+
+-- the same answer bytes, 168 of them, but for the marks
+abbrev pub SameAnswers : ℕ → Cutoffs → List ℕ → List ℕ → Type 0
+SameAnswers w c s s' = SameAnswer 168 (written w c s) (returned w c s') (written w c s')
+
+-- THE THIRD DEMAND, for the Kenward–Roger call: in entries, and in its answer bytes
 abbrev pub KenwardRogerDemand : Type 0
 KenwardRogerDemand = EverySeries SameVerdicts
 
 abbrev pub KenwardRogerAnswer : Type 0
-KenwardRogerAnswer = EverySeries (λ c s s'. SameAnswer 168 (written c s) (returned c s') (written c s'))
+KenwardRogerAnswer = EverySeries SameAnswers
+
+-- and at the panel, "specimens n 1–24"
+abbrev pub PanelDemand : Type 0
+PanelDemand = SeriesAt SameVerdicts 24
+
+abbrev pub PanelAnswer : Type 0
+PanelAnswer = SeriesAt SameAnswers 24

@@ -34,14 +34,14 @@ use Rattle.tests.specs.declared.Entry.{Entry}
 use Rattle.tests.specs.Answer.{noEntry, numberOf}
 use Rattle.records.specs.Bytes.{word, long, bytesOf}
 use Rattle.records.specs.Scan.{any, most, last, total}
-use Rattle.records.specs.Kinds.{kindAt, kenwardRoger}
-use Rattle.records.specs.File.{outOf, badRecord, isCell, again, has, cell as cellOf, rows, columns, beyond, missing, notFinite}
-use Rattle.records.specs.Series.{coefficients, sizes, blockOf as blockAt, incomplete, badSize, badWeight, misfit, zeroContrast, reasons, design, phi, beta, betaH, contrast, sigma2}
-use Rattle.records.specs.Bench.{recordOf}
+use Rattle.records.specs.Kinds.{kindAt, holds, width, indexOf, valueHolds, kenwardRogerKinds, limits}
+use Rattle.records.specs.File.{outOf, badRecord, isCell, again, has, cell as cellOf, rows, columns, beyond, missing, notFinite, lengthReasons, formReasons}
+use Rattle.records.specs.Series.{coefficients, sizes, blockOf as blockAt, badSize, badWeight, misfit, zeroContrast, sizeReasons, valueReasons, reasons, design, phi, beta, betaH, contrast, sigma2}
+use Rattle.records.specs.Written.{recordOf}
 use Rattle.records.specs.KenwardRogerCall.{run}
 use Rattle.tests.specs.Verdict.{verdict}
 use Rattle.converter_run.specs.joints.ConvertedInput.{Input}
-use Rattle.converter.specs.Converted.{kenwardRogerShift, kenwardRogerChange, newBits, newByte, converted}
+use Rattle.converter.specs.Converted.{kenwardRogerShift, kenwardRogerChange, rewritten, newBits, newByte, converted}
 use Rattle.converter.specs.SeriesDemand.{AllInside}
 use Rattle.converter_theorems.proofs.ReadCall.{Reads, Runs, Witness, read-accepted, read-entries, read-inside, witness}
 use Rattle.tests.specs.Both.{stackSeen, squareOne, isPositive}
@@ -98,7 +98,7 @@ batchDesign = record {
   x = (one ∷ plusZero ∷ []) ∷ (one ∷ one ∷ []) ∷ (one ∷ plusZero ∷ []) ∷ (one ∷ one ∷ []) ∷ (one ∷ plusZero ∷ []) ∷ (one ∷ one ∷ []) ∷ [];
   z = (one ∷ plusZero ∷ plusZero ∷ []) ∷ (one ∷ plusZero ∷ plusZero ∷ []) ∷ (plusZero ∷ one ∷ plusZero ∷ []) ∷ (plusZero ∷ one ∷ plusZero ∷ []) ∷ (plusZero ∷ plusZero ∷ one ∷ []) ∷ (plusZero ∷ plusZero ∷ one ∷ []) ∷ [];
   weighted = true;
-  weights = one ∷ one ∷ one ∷ fin false 1 (pos 1) ∷ fin false 1 (pos 1) ∷ fin false 1 (pos 1) ∷ replicate 18 plusZero;
+  weights = one ∷ one ∷ one ∷ fin false 1 (pos 1) ∷ fin false 1 (pos 1) ∷ fin false 1 (pos 1) ∷ [];
   blocks = record { effects = 1; groups = 3 } ∷ replicate 2 noBlock;
   count = 1;
   theta = fin false 1 (negsuc 0) ∷ replicate 2 plusZero;
@@ -111,7 +111,7 @@ abbrev batchInput : Input
 batchInput = record { sigma2 = fin false 1 (pos 2); beta = fin false 3 (pos 2) ∷ fin false 1 (pos 1) ∷ replicate 4 plusZero; betaH = fin false 5 (pos 1) ∷ one ∷ replicate 4 plusZero; contrast = (one ∷ plusZero ∷ replicate 4 plusZero) ∷ (one ∷ one ∷ replicate 4 plusZero) ∷ replicate 4 (replicate 6 plusZero) }
 
 reads : Reads batchFile batchDesign batchPhi 2 batchInput
-unfolding design phi beta betaH contrast table row blank fold reasons first sizes incomplete badSize badWeight misfit zeroContrast blockAt outOf badRecord isCell again has cellOf rows columns beyond missing notFinite kindAt kenwardRoger any most last total word long bytesOf isFinite isZero ofBits le eq
+unfolding design phi beta betaH contrast table row blank fold reasons lengthReasons formReasons sizeReasons valueReasons first sizes badSize badWeight misfit zeroContrast blockAt outOf badRecord isCell again has cellOf rows columns beyond missing notFinite kindAt holds width indexOf valueHolds kenwardRogerKinds limits any most last total word long bytesOf isFinite isZero ofBits le eq
 reads = record { design = refl; phi = refl; input = refl; contrast = refl; passes = refl }
 
 two-coefficients : coefficients batchFile ≡ 2
@@ -150,7 +150,7 @@ first-two zero h = refl
 first-two (suc zero) h = refl
 first-two (suc (suc i)) h = absurd (omega arith)
 
-batch-inside : AllInside documentCutoffs batchFile
+batch-inside : AllInside 24 documentCutoffs batchFile
 batch-inside = read-inside reads runs 2 two-coefficients first-two refl
 
 -- k = 3, m 0 = -2 and m 1 = 4: sigma2 256, β (96, 16), contrast (1/4, 0) and (16, 16), β_H (80, 8)
@@ -168,7 +168,7 @@ abbrev pub batchShifted : List ℕ
 batchShifted = batchBytes 0x4070000000000000 0x4058000000000000 0x4030000000000000 0x3fd0000000000000 0 0x4030000000000000 0x4030000000000000 0x4054000000000000 0x4020000000000000
 
 shifted : converted (kenwardRogerChange (pos 3) powers) batchFile ≡ batchShifted
-unfolding converted newByte newBits kenwardRogerShift row fold word long bytesOf mul ofBits toBits
+unfolding converted newByte newBits rewritten kenwardRogerShift row fold word long bytesOf mul ofBits toBits
 shifted = refl
 
 pub batch-example : Witness batchFile (pos 3) powers batchShifted (map verdict batchEntries)

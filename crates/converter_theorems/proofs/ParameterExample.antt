@@ -27,13 +27,13 @@ use Rattle.tests.specs.declared.Entry.{Entry}
 use Rattle.records.specs.Bytes.{word, long, bytesOf}
 use Rattle.algebra.specs.Reasons.{first}
 use Rattle.records.specs.Scan.{any, most, last}
-use Rattle.records.specs.Kinds.{kindAt, satterthwaite}
-use Rattle.records.specs.File.{outOf, badRecord, isCell, again, has, cell as cellOf, rows, columns, beyond, missing, notFinite}
-use Rattle.records.specs.Bench.{recordOf}
-use Rattle.records.specs.Parameters.{sizes, incomplete, reasons, jacobians, inputs}
+use Rattle.records.specs.Kinds.{kindAt, holds, width, indexOf, valueHolds, satterthwaiteKinds, limits}
+use Rattle.records.specs.File.{outOf, badRecord, isCell, again, has, cell as cellOf, rows, columns, beyond, missing, notFinite, lengthReasons, formReasons}
+use Rattle.records.specs.Written.{recordOf}
+use Rattle.records.specs.Parameters.{sizes, valueReasons, reasons, jacobians, inputs}
 use Rattle.records.specs.SatterthwaiteCall.{number, entry, returned, written}
 use Rattle.tests.specs.Verdict.{Verdict, verdict}
-use Rattle.converter.specs.Converted.{satterthwaiteShift, satterthwaiteChange, newBits, newByte, converted}
+use Rattle.converter.specs.Converted.{satterthwaiteShift, satterthwaiteChange, rewritten, newBits, newByte, converted}
 use Rattle.converter.specs.AnswerBytes.{SameAnswer}
 use Rattle.converter.specs.ParametersDemand.{SameVerdict}
 use Rattle.converter_theorems.proofs.ParametersCall.{number-is, entry-is}
@@ -79,7 +79,7 @@ record Says : Type 0 where
   pub passes : first (reasons parameterFile ++ ((11, false) ∷ [])) ≡ 0
 
 says : Says
-unfolding inputs jacobians table row blank fold reasons first sizes incomplete outOf badRecord isCell again has cellOf rows columns beyond missing notFinite kindAt satterthwaite any most last word long bytesOf isFinite isZero ofBits le eq
+unfolding inputs jacobians table row blank fold reasons lengthReasons formReasons valueReasons first sizes outOf badRecord isCell again has cellOf rows columns beyond missing notFinite kindAt holds width indexOf valueHolds satterthwaiteKinds limits any most last word long bytesOf isFinite isZero ofBits le eq
 says = record { inputs = refl; passes = refl }
 
 -- ---- what the test makes of it: F 2.5, df 4, rank 2, inside
@@ -110,7 +110,7 @@ abbrev pub parameterShifted : List ℕ
 parameterShifted = parameterBytes 0x3ff0000000000000 0x3fd0000000000000 0x3fd0000000000000 0x3fb0000000000000
 
 shifted : converted (satterthwaiteChange (negsuc 1)) parameterFile ≡ parameterShifted
-unfolding converted newByte newBits satterthwaiteShift row fold word long bytesOf mul ofBits toBits
+unfolding converted newByte newBits rewritten satterthwaiteShift row fold word long bytesOf mul ofBits toBits
 shifted = refl
 
 pub record ParameterExample : Type 0 where

@@ -1,8 +1,7 @@
 -- What a Satterthwaite file that is not refused gives to the test: sizes within document 01's limits, where the numbers stand, and that they are f64 numbers.
 use Prim.Native.Nat.{ℕ, _<_, _≤_, max}
 use native.Mathlib.Omega.{arith}
-use mathlib.Core.Path.{_≡_, refl, sym, subst}
-use mathlib.Core.Bool.{not}
+use mathlib.Core.Path.{_≡_, sym, subst}
 use mathlib.Core.List.{List, []}
 use lib.Dec.{T}
 use lib.ListN.{getD, replicate, length-replicate}
@@ -13,30 +12,23 @@ use Rattle.algebra.specs.Kind.{floats}
 use Rattle.algebra.specs.Product.{at}
 use Rattle.algebra.proofs.FoldLaws.{span-at}
 use Rattle.algebra.proofs.TableLaws.{row-at, table-at}
-use Rattle.records.specs.Kinds.{kindAt, satterthwaite}
-use Rattle.records.specs.File.{rows, columns}
+use Rattle.records.specs.Kinds.{limits}
+use Rattle.records.specs.File.{rows}
 use Rattle.tests.proofs.SatterthwaiteSurvives.{InputSizes}
-use Rattle.records.specs.Parameters.{coefficients, contrastRows, parameters, sizes, cellValue, jacobians, inputs}
+use Rattle.records.specs.Parameters.{coefficients, contrastRows, parameters, sizes, kinds, cellValue, jacobians, inputs}
 use Rattle.records.proofs.AcceptedParameters.{AcceptedParameters}
+use Rattle.records.proofs.Limits.{parameters-below}
 use Rattle.converter.proofs.Cells.{cell-fits}
-use Rattle.converter.proofs.Limits.{rows-bound, columns-bound}
-use Rattle.converter.proofs.SameSizes.{at-least}
 use Rattle.converter_theorems.proofs.Operands.{Written}
-
-larger : (x y b : ℕ) → x ≤ b → y ≤ b → max x y ≤ b
-larger x y b h k = omega arith
 
 positive : (x : ℕ) → 0 < max 1 x
 positive x = omega arith
 
 pub inputs-sized : (s : List ℕ) → AcceptedParameters s → InputSizes (inputs s)
-unfolding kindAt satterthwaite inputs
-inputs-sized s c = record {
-  p = at-least (rows s 8) 6 (omega arith) (rows-bound satterthwaite s 8 (c .good));
-  some = positive (rows s 9);
-  q = at-least (rows s 9) 6 (omega arith) (rows-bound satterthwaite s 9 (c .good));
-  n = at-least (max (rows s 32) (columns s 32)) 4 (omega arith) (larger (rows s 32) (columns s 32) 4 (rows-bound satterthwaite s 32 (c .good)) (columns-bound satterthwaite s 32 refl (c .good)));
-}
+unfolding sizes limits inputs
+inputs-sized s c =
+    let b = parameters-below s (c .good) in
+    record { p = b .coefficients; some = positive (rows s 9); q = b .contrasts; n = b .parameters }
 
 -- ---- where the numbers stand
 module _ (s : List ℕ) (z : InputSizes (inputs s)) where
@@ -81,7 +73,7 @@ module _ (s : List ℕ) (z : InputSizes (inputs s)) where
 
   -- each is an f64 number
   fine : {x : Float} (k n r c : ℕ) → x ≡ cellValue s k n r c → T (fits binary64 x)
-  fine k n r c e = subst (λ (x : Float). T (fits binary64 x)) (sym e) (cell-fits satterthwaite s k n r c)
+  fine k n r c e = subst (λ (x : Float). T (fits binary64 x)) (sym e) (cell-fits (kinds s) s k n r c)
 
   pub inputs-written : Written (inputs s)
   unfolding inputs

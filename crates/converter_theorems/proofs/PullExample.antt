@@ -32,16 +32,16 @@ use Rattle.tests.specs.declared.Entry.{Entry}
 use Rattle.tests.specs.Answer.{noEntry, numberOf}
 use Rattle.records.specs.Bytes.{word, long, bytesOf}
 use Rattle.records.specs.Scan.{any, most, last, total}
-use Rattle.records.specs.Kinds.{kindAt, kenwardRoger}
-use Rattle.records.specs.File.{outOf, badRecord, isCell, again, has, cell as cellOf, rows, columns, beyond, missing, notFinite}
-use Rattle.records.specs.Series.{coefficients, sizes, blockOf as blockAt, incomplete, badSize, badWeight, misfit, zeroContrast, reasons, design, phi, beta, betaH, contrast, sigma2}
+use Rattle.records.specs.Kinds.{kindAt, holds, width, indexOf, valueHolds, kenwardRogerKinds, limits}
+use Rattle.records.specs.File.{outOf, badRecord, isCell, again, has, cell as cellOf, rows, columns, beyond, missing, notFinite, lengthReasons, formReasons}
+use Rattle.records.specs.Series.{coefficients, sizes, blockOf as blockAt, badSize, badWeight, misfit, zeroContrast, sizeReasons, valueReasons, reasons, design, phi, beta, betaH, contrast, sigma2}
 use Rattle.records.specs.Bench.{pullBytes, pullFile}
 use Rattle.records.specs.KenwardRogerCall.{run, number, entries}
 use Rattle.tests.specs.Verdict.{Verdict, verdict}
 use Rattle.converter_run.specs.joints.ConvertedInput.{Input}
-use Rattle.converter.specs.Converted.{kenwardRogerShift, kenwardRogerChange, newBits, newByte, converted}
+use Rattle.converter.specs.Converted.{kenwardRogerShift, kenwardRogerChange, rewritten, newBits, newByte, converted}
 use Rattle.converter.specs.SeriesDemand.{AllInside}
-use Rattle.converter_theorems.proofs.Theorems.{converter-kenward-roger}
+use Rattle.converter_theorems.proofs.Theorems.{converter-panel}
 use Rattle.converter_theorems.proofs.ReadCall.{Reads, Runs, Witness, read-accepted, read-entries, read-inside, witness}
 use Rattle.tests.specs.Both.{stackSeen, squareOne, isPositive}
 use Rattle.algebra.specs.Reasons.{first}
@@ -54,7 +54,7 @@ pullDesign = record {
   x = (one ∷ []) ∷ (one ∷ []) ∷ [];
   z = [] ∷ [] ∷ [];
   weighted = false;
-  weights = replicate 24 plusZero;
+  weights = [];
   blocks = replicate 3 noBlock;
   count = 0;
   theta = replicate 3 plusZero;
@@ -71,7 +71,7 @@ abbrev pullInput : Input
 pullInput = record { sigma2 = fin false 1 (pos 3); beta = fin false 3 (pos 1) ∷ replicate 5 plusZero; betaH = replicate 6 plusZero; contrast = single one }
 
 reads : Reads pullFile pullDesign pullPhi 1 pullInput
-unfolding design phi beta betaH contrast table row blank fold reasons first sizes incomplete badSize badWeight misfit zeroContrast blockAt outOf badRecord isCell again has cellOf rows columns beyond missing notFinite kindAt kenwardRoger any most last total word long bytesOf isFinite isZero ofBits le eq
+unfolding design phi beta betaH contrast table row blank fold reasons lengthReasons formReasons sizeReasons valueReasons first sizes badSize badWeight misfit zeroContrast blockAt outOf badRecord isCell again has cellOf rows columns beyond missing notFinite kindAt holds width indexOf valueHolds kenwardRogerKinds limits any most last total word long bytesOf isFinite isZero ofBits le eq
 reads = record { design = refl; phi = refl; input = refl; contrast = refl; passes = refl }
 
 one-coefficient : coefficients pullFile ≡ 1
@@ -90,16 +90,16 @@ unfolding adjustmentRefusal adjustmentReasons first outputNotFinite notAllFinite
 runs = record { refusal = refl; adjusted = refl; run = refl }
 
 -- ---- together
-pub pull-accepted : number documentCutoffs pullFile ≡ 0
+pub pull-accepted : number 24 documentCutoffs pullFile ≡ 0
 pull-accepted = read-accepted reads runs
 
-pub pull-entries : entries documentCutoffs pullFile ≡ pullEntries
+pub pull-entries : entries 24 documentCutoffs pullFile ≡ pullEntries
 pull-entries = read-entries reads runs
 
 first-only : (i : ℕ) → i < 1 → 0 ≡ i
 first-only i h = omega arith
 
-pull-inside : AllInside documentCutoffs pullFile
+pull-inside : AllInside 24 documentCutoffs pullFile
 pull-inside = read-inside reads runs 1 one-coefficient (λ i h. subst (λ (j : ℕ). getD pullEntries j noEntry .inside ≡ true) (first-only i h) refl) refl
 
 -- rank 1, F 9, df 1; and no verdict in an entry that is not in use
@@ -117,7 +117,7 @@ abbrev pub pullShifted : List ℕ
 pullShifted = pullBytes 0x40c0000000000000 0x4068000000000000 0x3fc0000000000000
 
 shifted : converted (kenwardRogerChange (pos 5) (λ r. negsuc 2)) pullFile ≡ pullShifted
-unfolding converted newByte newBits kenwardRogerShift row fold word long bytesOf mul ofBits toBits
+unfolding converted newByte newBits rewritten kenwardRogerShift row fold word long bytesOf mul ofBits toBits
 shifted = refl
 
 pub pull-example : Witness pullFile (pos 5) (λ r. negsuc 2) pullShifted pullVerdicts
@@ -125,6 +125,6 @@ pull-example =
     witness pullFile (pos 5) (λ r. negsuc 2) pullShifted pullVerdicts (lit≤ tt) (λ r. lit≤ tt) pull-accepted pull-inside (ap (map verdict) pull-entries) shifted
 
 -- with every k and m from -32 to 32 the example has rank 1, F 9 and df 1 in both entries
-pub pull-every : (k m : ℤ) → natAbs k ≤ 32 → natAbs m ≤ 32 → map verdict (entries documentCutoffs (converted (kenwardRogerChange k (λ r. m)) pullFile)) ≡ pullVerdicts
+pub pull-every : (k m : ℤ) → natAbs k ≤ 32 → natAbs m ≤ 32 → map verdict (entries 24 documentCutoffs (converted (kenwardRogerChange k (λ r. m)) pullFile)) ≡ pullVerdicts
 pull-every k m near nearM =
-    converter-kenward-roger documentCutoffs pullFile k (λ r. m) near (λ r h. nearM) pull-accepted pull-inside .verdicts ∙ ap (map verdict) pull-entries
+    converter-panel documentCutoffs pullFile k (λ r. m) near (λ r h. nearM) pull-accepted pull-inside .verdicts ∙ ap (map verdict) pull-entries

@@ -1,4 +1,4 @@
--- The Kenward–Roger call on a file and on the converted file: the marks of a run that is inside say that each multiplied number scales exactly, so that no refusal comes and all verdicts stay.
+-- The Kenward–Roger call on a file and on the converted file, with any limit of specimens w: the marks of a run that is inside say that each multiplied number scales exactly, so that no refusal comes and all verdicts stay.
 use Prim.Native.Nat.{ℕ, _<_, _≤_}
 use mathlib.Core.Path.{_≡_, refl, sym, ap, _∙_, subst}
 use mathlib.Core.Bool.{Bool, not, cond}
@@ -19,7 +19,8 @@ use Rattle.tests.specs.declared.Entry.{Entry}
 use Rattle.tests.specs.Answer.{noEntry}
 use Rattle.tests.specs.KenwardRoger.{Run}
 use Rattle.algebra.specs.Reasons.{first}
-use Rattle.records.specs.Series.{coefficients, contrastRows, design, phi, sigma2, beta, betaH, contrast, reasons, refusal}
+use Rattle.records.specs.File.{lengthReasons, formReasons}
+use Rattle.records.specs.Series.{coefficients, contrastRows, design, phi, sigma2, beta, betaH, contrast, sizeReasons, valueReasons, reasons, refusal}
 use Rattle.records.specs.KenwardRogerCall.{adjusted, scaled, run, number, entries}
 use Rattle.tests.specs.Verdict.{verdict, verdicts, Inside}
 use Rattle.converter_run.specs.joints.ConvertedInput.{Input, runOn, ConvertedInput, Multiplied, RunSizes, WrittenCells, Written, SeriesSurvives}
@@ -49,42 +50,43 @@ module _ (c : Cutoffs) (s : List ℕ) where
   unfolding run scaled adjusted design
   run-is = refl
 
-  pub number-is : number c s ≡ first (listed (reasons s) (adjustmentRefusal c (design s) (phi s) (sigma2 s)) (run c s .refused))
-  unfolding refusal reasons first
-  number-is =
-      let n : ℕ = adjustmentRefusal c (design s) (phi s) (sigma2 s) in
-      call-number c s
-      ∙ ap (λ (k : ℕ). cond (eqb (refusal s) 0) k (refusal s)) (sym (other-way (eqb n 0) n (cond (run c s .refused) 10 0)))
-      ∙ sym (first-append (reasons s) ((n, not (eqb n 0)) ∷ (10, run c s .refused) ∷ []) refl)
+  module _ (w : ℕ) where
+    pub number-is : number w c s ≡ first (listed (reasons w s) (adjustmentRefusal c (design s) (phi s) (sigma2 s)) (run c s .refused))
+    unfolding refusal reasons lengthReasons formReasons sizeReasons valueReasons first
+    number-is =
+        let n : ℕ = adjustmentRefusal c (design s) (phi s) (sigma2 s) in
+        call-number c s w
+        ∙ ap (λ (k : ℕ). cond (eqb (refusal w s) 0) k (refusal w s)) (sym (other-way (eqb n 0) n (cond (run c s .refused) 10 0)))
+        ∙ sym (first-append (reasons w s) ((n, not (eqb n 0)) ∷ (10, run c s .refused) ∷ []) refl)
 
-  -- an accepted file's entries are the run's
-  pub entries-are : number c s ≡ 0 → entries c s ≡ run c s .entries
-  unfolding entries
-  entries-are e = rw e
+    -- an accepted file's entries are the run's
+    pub entries-are : number w c s ≡ 0 → entries w c s ≡ run c s .entries
+    unfolding entries
+    entries-are e = rw e
 
-  not-refused : number c s ≡ 0 → refusal s ≡ 0
-  unfolding refusal
-  not-refused e =
-      let n : ℕ = adjustmentRefusal c (design s) (phi s) (sigma2 s) in
-      first-front (reasons s) ((n, not (eqb n 0)) ∷ (10, run c s .refused) ∷ []) (sym number-is ∙ e)
+    not-refused : number w c s ≡ 0 → refusal w s ≡ 0
+    unfolding refusal
+    not-refused e =
+        let n : ℕ = adjustmentRefusal c (design s) (phi s) (sigma2 s) in
+        first-front (reasons w s) ((n, not (eqb n 0)) ∷ (10, run c s .refused) ∷ []) (sym number-is ∙ e)
 
 -- ---- a file that is accepted with all entries inside, k and each row's m from -32 to 32
-module _ (c : Cutoffs) (s : List ℕ) (k : ℤ) (m : ℕ → ℤ) (near : natAbs k ≤ 32) (nears : (r : ℕ) → r < contrastRows s → natAbs (m r) ≤ 32) (e : number c s ≡ 0)
-    (inside : AllInside c s) where
+module _ (w : ℕ) (c : Cutoffs) (s : List ℕ) (k : ℤ) (m : ℕ → ℤ) (near : natAbs k ≤ 32) (nears : (r : ℕ) → r < contrastRows s → natAbs (m r) ≤ 32) (e : number w c s ≡ 0)
+    (inside : AllInside w c s) where
   abbrev s' : List ℕ
   s' = converted (kenwardRogerChange k m) s
 
-  taken : AcceptedSeries s
-  taken = accepted-series s (not-refused c s e)
+  taken : AcceptedSeries w s
+  taken = accepted-series w s (not-refused c s w e)
 
   hp : coefficients s ≤ 6
-  hp = sized s taken .coefficients
+  hp = sized w s taken .coefficients
 
   hr : contrastRows s ≤ 6
-  hr = sized s taken .contrast
+  hr = sized w s taken .contrast
 
   sizes : RunSizes (coefficients s) (matrices (design s)) (contrastRows s)
-  sizes = record { some = sized s taken .some; coefficients = hp; matrices = matrices-bound s taken; contrast = hr }
+  sizes = record { some = sized w s taken .some; coefficients = hp; matrices = matrices-bound w s taken; contrast = hr }
 
   cells-written : WrittenCells (coefficients s) (coefficients s) (phi s)
   cells-written = phi-fits s hp
@@ -94,7 +96,7 @@ module _ (c : Cutoffs) (s : List ℕ) (k : ℤ) (m : ℕ → ℤ) (near : natAbs
 
   run-inside : Inside (coefficients s) (contrastRows s) (whole c (design s) (phi s) (contrastRows s) (inputOf s))
   run-inside =
-      let same : whole c (design s) (phi s) (contrastRows s) (inputOf s) .entries ≡ entries c s = sym (entries-are c s e ∙ ap (λ (r : Run). r .entries) (run-is c s)) in
+      let same : whole c (design s) (phi s) (contrastRows s) (inputOf s) .entries ≡ entries w c s = sym (entries-are c s w e ∙ ap (λ (r : Run). r .entries) (run-is c s)) in
       record {
         coefficient = λ i h. ap (λ (es : List Entry). getD es i noEntry .inside) same ∙ inside .coefficient i h;
         contrast = λ h. ap (λ (es : List Entry). getD es 6 noEntry .inside) same ∙ inside .contrast h;
@@ -103,10 +105,10 @@ module _ (c : Cutoffs) (s : List ℕ) (k : ℤ) (m : ℕ → ℤ) (near : natAbs
   -- the converted file's input is the file's, multiplied, and so scaled exactly
   multiplied : Multiplied k m (coefficients s) (contrastRows s) (inputOf s) (inputOf s')
   multiplied = record {
-    sigma2 = sigma2-product k m s hp hr;
-    beta = beta-product k m s hp hr;
-    betaH = λ r. betaH-product k m s hp hr;
-    contrast = contrast-product k m s hp hr;
+    sigma2 = sigma2-product k m s (taken .within) hp hr;
+    beta = beta-product k m s (taken .within) hp hr;
+    betaH = λ r. betaH-product k m s (taken .within) hp hr;
+    contrast = contrast-product k m s (taken .within) hp hr;
   }
 
   scaled-input : ConvertedInput k m (coefficients s) (contrastRows s) (inputOf s) (inputOf s')
@@ -118,9 +120,9 @@ module _ (c : Cutoffs) (s : List ℕ) (k : ℤ) (m : ℕ → ℤ) (near : natAbs
   exact : InputExact k m s
   exact = record {
     variance = subst (λ (x : Float). T (fits binary64 x)) (scaled-input .sigma2) (sigma2-fits s');
-    estimates = λ i l. subst (λ (x : Float). T (fits binary64 x)) (sym (beta-product k m s hp hr i l) ∙ scaled-input .beta i l) (mul-fits binary64 (getD (beta s) i nan) (powerOfTwo k));
-    hypotheses = λ i l r. subst (λ (x : Float). T (fits binary64 x)) (sym (betaH-product k m s hp hr i l) ∙ scaled-input .betaH r i l) (mul-fits binary64 (getD (betaH s) i nan) (powerOfTwo k));
-    lines = λ i j h l. subst (λ (x : Float). T (fits binary64 x)) (sym (contrast-product k m s hp hr i j h l) ∙ scaled-input .contrast i j h l)
+    estimates = λ i l. subst (λ (x : Float). T (fits binary64 x)) (sym (beta-product k m s (taken .within) hp hr i l) ∙ scaled-input .beta i l) (mul-fits binary64 (getD (beta s) i nan) (powerOfTwo k));
+    hypotheses = λ i l r. subst (λ (x : Float). T (fits binary64 x)) (sym (betaH-product k m s (taken .within) hp hr i l) ∙ scaled-input .betaH r i l) (mul-fits binary64 (getD (betaH s) i nan) (powerOfTwo k));
+    lines = λ i j h l. subst (λ (x : Float). T (fits binary64 x)) (sym (contrast-product k m s (taken .within) hp hr i j h l) ∙ scaled-input .contrast i j h l)
         (mul-fits binary64 (at floats (contrast s) i j) (powerOfTwo (m i)));
   }
 
@@ -134,7 +136,7 @@ module _ (c : Cutoffs) (s : List ℕ) (k : ℤ) (m : ℕ → ℤ) (near : natAbs
       run-is c s'
       ∙ ap (λ (d : Design). whole c d (phi s') (contrastRows s') (inputOf s')) (design-same k m s)
       ∙ ap (λ (f : Rows). whole c (design s) f (contrastRows s') (inputOf s')) (phi-same k m s)
-      ∙ ap (λ (n : ℕ). whole c (design s) (phi s) n (inputOf s')) (r-same k m s hp hr)
+      ∙ ap (λ (n : ℕ). whole c (design s) (phi s) n (inputOf s')) (r-same k m s (taken .within) hp hr)
 
   adjustment-after : adjustmentRefusal c (design s') (phi s') (sigma2 s') ≡ adjustmentRefusal c (design s) (phi s) (sigma2 s)
   adjustment-after =
@@ -146,21 +148,21 @@ module _ (c : Cutoffs) (s : List ℕ) (k : ℤ) (m : ℕ → ℤ) (near : natAbs
   refused-after =
       ap (λ (r : Run). r .refused) run-after ∙ survives .run .refusal ∙ sym (ap (λ (r : Run). r .refused) (run-is c s))
 
-  number-after : number c s' ≡ 0
+  number-after : number w c s' ≡ 0
   number-after =
-      number-is c s'
-      ∙ ap (λ (rs : List (ℕ × Bool)). first (listed rs (adjustmentRefusal c (design s') (phi s') (sigma2 s')) (run c s' .refused))) (reasons-converted k m s taken exact)
-      ∙ ap (λ (n : ℕ). first (listed (reasons s) n (run c s' .refused))) adjustment-after
-      ∙ ap (λ (b : Bool). first (listed (reasons s) (adjustmentRefusal c (design s) (phi s) (sigma2 s)) b)) refused-after
-      ∙ sym (number-is c s) ∙ e
+      number-is c s' w
+      ∙ ap (λ (rs : List (ℕ × Bool)). first (listed rs (adjustmentRefusal c (design s') (phi s') (sigma2 s')) (run c s' .refused))) (reasons-converted w k m s taken exact)
+      ∙ ap (λ (n : ℕ). first (listed (reasons w s) n (run c s' .refused))) adjustment-after
+      ∙ ap (λ (b : Bool). first (listed (reasons w s) (adjustmentRefusal c (design s) (phi s) (sigma2 s)) b)) refused-after
+      ∙ sym (number-is c s w) ∙ e
 
   verdicts-after : map verdict (run c s' .entries) ≡ map verdict (run c s .entries)
   unfolding verdicts
   verdicts-after =
       ap (λ (r : Run). map verdict (r .entries)) run-after ∙ survives .run .same ∙ sym (ap (λ (r : Run). map verdict (r .entries)) (run-is c s))
 
-  pub series-same : SameVerdicts c s (converted (kenwardRogerChange k m) s)
+  pub series-same : SameVerdicts w c s (converted (kenwardRogerChange k m) s)
   series-same = record {
     accepted = number-after;
-    verdicts = ap (map verdict) (entries-are c s' number-after) ∙ verdicts-after ∙ sym (ap (map verdict) (entries-are c s e));
+    verdicts = ap (map verdict) (entries-are c s' w number-after) ∙ verdicts-after ∙ sym (ap (map verdict) (entries-are c s w e));
   }

@@ -9,7 +9,7 @@ use Rattle.records.specs.SatterthwaiteCall as satterthwaite
 use Rattle.records.proofs.CallLaws.{returned-is, satterthwaite-returned-is}
 use Rattle.converter.specs.AnswerBytes.{SameAnswer}
 use Rattle.converter.specs.Converted.{kenwardRogerChange, satterthwaiteChange, converted}
-use Rattle.converter.specs.SeriesDemand.{KenwardRogerDemand, KenwardRogerAnswer, SameVerdicts}
+use Rattle.converter.specs.SeriesDemand.{KenwardRogerDemand, KenwardRogerAnswer, PanelDemand, PanelAnswer, SameVerdicts, SameAnswers}
 use Rattle.converter.specs.ParametersDemand.{SatterthwaiteDemand, SatterthwaiteAnswer, SameVerdict}
 use Rattle.converter.proofs.AnswerBytes.{entry-same, answer-same, same-answer}
 use Rattle.converter_theorems.proofs.SeriesCall.{series-same}
@@ -17,10 +17,14 @@ use Rattle.converter_theorems.proofs.ParametersCall.{parameters-same, d
 use Rattle.arithmetic_cutoffs.specs.declared.Cutoffs.{Cutoffs}
 use Rattle.arithmetic_cutoffs.specs.Cutoffs.{documentCutoffs}
 
--- Every file that the Kenward–Roger call accepts with all entries inside: with sigma2 times 4 ^ k, β and β_H times 2 ^ k and each contrast row times its own 2 ^ (m r), the call accepts
+-- Every limit of specimens, and every file that the Kenward–Roger call accepts with it and with all entries inside: with sigma2 times 4 ^ k, β and β_H times 2 ^ k and each contrast row times its own 2 ^ (m r), the call accepts
 -- the file again, and rank, F and df of every entry are the same bits, or none where they were none.
 pub converter-kenward-roger : KenwardRogerDemand
-converter-kenward-roger c s k m near nears e inside = series-same c s k m near nears e inside
+converter-kenward-roger w c s k m near nears e inside = series-same w c s k m near nears e inside
+
+-- at the panel, with at most 24 specimens
+pub converter-panel : PanelDemand
+converter-panel = converter-kenward-roger 24
 
 -- Every file that the Satterthwaite call accepts with its entry inside: with v and each Jacobian times 4 ^ k, β and β_H times 2 ^ k, the call accepts the file again, and rank, F and df
 -- are the same bits, or none where they were none.
@@ -33,17 +37,17 @@ converter-satterthwaite = (
 -- ---- in answer bytes: files with the same verdicts have the same bytes but for the marks
 module _ (c : Cutoffs) where
   -- an accepted file and bytes of the stated length: the call returns 0
-  series-returns : (s : List ℕ) → kenwardRoger.number c s ≡ 0 → (answer : List ℕ) → length answer ≡ 168 → kenwardRoger.returned c s answer ≡ 0
-  series-returns s e answer h = returned-is c s answer ∙ rw h e
+  series-returns : (w : ℕ) (s : List ℕ) → kenwardRoger.number w c s ≡ 0 → (answer : List ℕ) → length answer ≡ 168 → kenwardRoger.returned w c s answer ≡ 0
+  series-returns w s e answer h = returned-is c s w answer ∙ rw h e
 
   parameters-returns : (s : List ℕ) → satterthwaite.number c s ≡ 0 → (answer : List ℕ) → length answer ≡ 24 → satterthwaite.returned c s answer ≡ 0
   parameters-returns s e answer h = satterthwaite-returned-is c s answer ∙ rw h e
 
-  series-answer : (s s' : List ℕ) → kenwardRoger.number c s ≡ 0 → SameVerdicts c s s' → SameAnswer 168 (kenwardRoger.written c s) (kenwardRoger.returned c s') (kenwardRoger.written c s')
+  series-answer : (w : ℕ) (s s' : List ℕ) → kenwardRoger.number w c s ≡ 0 → SameVerdicts w c s s' → SameAnswers w c s s'
   unfolding kenwardRoger.written
-  series-answer s s' e v =
-      same-answer 168 (kenwardRoger.returned c s) (kenwardRoger.returned c s') (answerBytes (kenwardRoger.entries c s)) (answerBytes (kenwardRoger.entries c s')) (series-returns s e)
-      (series-returns s' (v .accepted)) (answer-same (kenwardRoger.entries c s) (kenwardRoger.entries c s') (v .verdicts))
+  series-answer w s s' e v =
+      same-answer 168 (kenwardRoger.returned w c s) (kenwardRoger.returned w c s') (answerBytes (kenwardRoger.entries w c s)) (answerBytes (kenwardRoger.entries w c s')) (series-returns w s e)
+      (series-returns w s' (v .accepted)) (answer-same (kenwardRoger.entries w c s) (kenwardRoger.entries w c s') (v .verdicts))
 
   parameters-answer : (s s' : List ℕ) → satterthwaite.number c s ≡ 0 → SameVerdict c s s' → SameAnswer 24 (satterthwaite.written c s) (satterthwaite.returned c s') (satterthwaite.written c s')
   unfolding satterthwaite.written
@@ -54,8 +58,11 @@ module _ (c : Cutoffs) where
 -- Every file that the Kenward–Roger call accepts with all entries inside: lent any 168 bytes, it returns 0 for the converted file too, and writes every byte that it writes for the
 -- file itself, but byte 19 of each entry, the mark.
 pub answer-kenward-roger : KenwardRogerAnswer
-answer-kenward-roger c s k m near nears e inside =
-    series-answer c s (converted (kenwardRogerChange k m) s) e (converter-kenward-roger c s k m near nears e inside)
+answer-kenward-roger w c s k m near nears e inside =
+    series-answer c w s (converted (kenwardRogerChange k m) s) e (converter-kenward-roger w c s k m near nears e inside)
+
+pub answer-panel : PanelAnswer
+answer-panel = answer-kenward-roger 24
 
 -- Every file that the Satterthwaite call accepts with its entry inside, lent any 24 bytes, likewise.
 pub answer-satterthwaite : SatterthwaiteAnswer

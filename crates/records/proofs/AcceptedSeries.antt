@@ -10,16 +10,16 @@ use borrow.Author.Tests.{eqb-true, not-false}
 use Rattle.arithmetic.specs.Numbers.{plusZero}
 use Rattle.algebra.proofs.ReasonLaws.{NoneHolds, first-none}
 use Rattle.records.specs.Scan.{any}
-use Rattle.records.specs.Kinds.{kenwardRoger}
-use Rattle.records.specs.File.{count, badRecord, again, beyond, notFinite}
-use Rattle.records.specs.Series.{sizes, sigma2, incomplete, badSize, badWeight, misfit, zeroContrast, reasons, refusal}
+use Rattle.records.specs.Kinds.{kindNumbers, kenwardRoger}
+use Rattle.records.specs.File.{count, badRecord, again, beyond, missing, notFinite, lengthReasons, formReasons}
+use Rattle.records.specs.Series.{kinds, sigma2, badSize, badWeight, misfit, zeroContrast, sizeReasons, valueReasons, reasons, refusal}
 
-pub record AcceptedSeries (s : List ℕ) : Type 0 where
+pub record AcceptedSeries (w : ℕ) (s : List ℕ) : Type 0 where
   pub whole : length s % 16 ≡ 0
-  pub good : any (count s) (badRecord kenwardRoger s) ≡ false
-  pub once : any (count s) (again kenwardRoger s) ≡ false
-  pub within : any (count s) (beyond (sizes s) s) ≡ false
-  pub complete : incomplete s ≡ false
+  pub good : any (count s) (badRecord (kenwardRoger w) s) ≡ false
+  pub once : any (count s) (again (kinds s) s) ≡ false
+  pub complete : any kindNumbers (missing (kinds s) s) ≡ false
+  pub within : any (count s) (beyond (kinds s) s) ≡ false
   pub sized : badSize s ≡ false
   pub finite : any (count s) (notFinite s) ≡ false
   pub positive : le (sigma2 s) plusZero ≡ false
@@ -27,16 +27,16 @@ pub record AcceptedSeries (s : List ℕ) : Type 0 where
   pub fits : misfit s ≡ false
   pub nonzero : zeroContrast s ≡ false
 
-pub accepted-series : (s : List ℕ) → refusal s ≡ 0 → AcceptedSeries s
-unfolding refusal reasons
-accepted-series s e =
-    let n : NoneHolds (reasons s) = first-none (reasons s) refl e in
+pub accepted-series : (w : ℕ) (s : List ℕ) → refusal w s ≡ 0 → AcceptedSeries w s
+unfolding refusal reasons lengthReasons formReasons sizeReasons valueReasons
+accepted-series w s e =
+    let n : NoneHolds (reasons w s) = first-none (reasons w s) refl e in
     record {
       whole = eqb-true (length s % 16) 0 (not-false (eqb (length s % 16) 0) (n 0 (lit≤ tt)));
       good = n 1 (lit≤ tt);
       once = n 2 (lit≤ tt);
-      within = n 3 (lit≤ tt);
-      complete = n 4 (lit≤ tt);
+      complete = n 3 (lit≤ tt);
+      within = n 4 (lit≤ tt);
       sized = n 5 (lit≤ tt);
       finite = n 6 (lit≤ tt);
       positive = n 7 (lit≤ tt);

@@ -30,12 +30,13 @@ use Rattle.tests.specs.Basis.{largest, dividedCell, divided, contrastBasis}
 use Rattle.tests.specs.KenwardRoger.{Run, unitRow, coefficientTest, scaledPs, scaledBy, aRows, vRows, tested, withTest, coefficientsTo, runOf}
 use Rattle.records.specs.Bytes.{word, long, bytesOf}
 use Rattle.records.specs.Scan.{any, most, last, total}
-use Rattle.records.specs.Kinds.{kindAt, kenwardRoger}
-use Rattle.records.specs.File.{outOf, badRecord, isCell, again, has, cell as cellOf, rows, columns, beyond, missing, notFinite}
-use Rattle.records.specs.Series.{contrastRows, sizes, blockOf as blockRead, incomplete, badSize, badWeight, misfit, zeroContrast, reasons, refusal, design, phi, beta, betaH, contrast, sigma2}
-use Rattle.records.specs.KenwardRogerCall.{adjusted, scaled, run, number, returned}
+use Rattle.records.specs.Kinds.{kindAt, holds, width, indexOf, valueHolds, kenwardRogerKinds, limits}
+use Rattle.records.specs.Written.{recordOf}
+use Rattle.records.specs.File.{outOf, badRecord, isCell, again, has, cell as cellOf, rows, columns, beyond, missing, notFinite, lengthReasons, formReasons}
+use Rattle.records.specs.Series.{contrastRows, sizes, blockOf as blockRead, badSize, badWeight, misfit, zeroContrast, sizeReasons, valueReasons, reasons, refusal, design, phi, beta, betaH, contrast, sigma2}
+use Rattle.records.specs.KenwardRogerCall.{adjusted, scaled, run, returned}
 use Rattle.records.proofs.CallLaws.{fileAdjustmentRefusal, number-is, returned-is}
-use Rattle.records.proofs.Examples.{recordOf, one as oneBits, plain}
+use Rattle.records.proofs.Examples.{one as oneBits, plain}
 
 -- 9: "n = 2, one group, Z = 1, 1, theta 1e10"
 abbrev pub nineFile : List ℕ
@@ -54,7 +55,7 @@ twoSpecimens z blocks count theta = record {
   x = (one ∷ []) ∷ (one ∷ []) ∷ [];
   z = z;
   weighted = false;
-  weights = replicate 24 plusZero;
+  weights = [];
   blocks = blocks;
   count = count;
   theta = theta ∷ plusZero ∷ plusZero ∷ [];
@@ -80,11 +81,11 @@ abbrev six : Float
 six = fin false 3 (pos 1)
 
 record Says : Type 0 where
-  pub nineTaken : refusal nineFile ≡ 0
+  pub nineTaken : refusal 24 nineFile ≡ 0
   pub nineDesigned : design nineFile ≡ nineDesign
   pub ninePhi : phi nineFile ≡ single half
   pub nineVariance : sigma2 nineFile ≡ eight
-  pub tenTaken : refusal tenFile ≡ 0
+  pub tenTaken : refusal 24 tenFile ≡ 0
   pub tenDesigned : design tenFile ≡ tenDesign
   pub tenPhi : phi tenFile ≡ single plusZero
   pub tenVariance : sigma2 tenFile ≡ eight
@@ -92,7 +93,7 @@ record Says : Type 0 where
   pub tenRows : contrastRows tenFile ≡ 0
 
 says : Says
-unfolding design phi beta betaH contrast table row blank fold refusal reasons first sizes incomplete badSize badWeight misfit zeroContrast blockRead outOf badRecord isCell again has cellOf rows columns beyond missing notFinite kindAt kenwardRoger any most last total word long bytesOf isFinite isZero ofBits le eq
+unfolding design phi beta betaH contrast table row blank fold refusal reasons lengthReasons formReasons sizeReasons valueReasons first sizes badSize badWeight misfit zeroContrast blockRead outOf badRecord isCell again has cellOf rows columns beyond missing notFinite kindAt holds width indexOf valueHolds kenwardRogerKinds limits any most last total word long bytesOf isFinite isZero ofBits le eq
 says = record {
   nineTaken = refl;
   nineDesigned = refl;
@@ -148,20 +149,20 @@ ten-run =
     ∙ ap (λ (n : ℕ). runAt tenDesign (single plusZero) eight (six ∷ replicate 5 plusZero) (betaH tenFile) n (contrast tenFile) .refused) (says .tenRows)
     ∙ makes .tenRefused (betaH tenFile) (contrast tenFile)
 
-late : (c : Cutoffs) (s : List ℕ) (n : ℕ) → refusal s ≡ 0 → cond (eqb (fileAdjustmentRefusal c s) 0) (cond (run c s .refused) 10 0) (fileAdjustmentRefusal c s) ≡ n → returned c s (replicate 168 0) ≡ n
-late c s n h e = returned-is c s (replicate 168 0) ∙ number-is c s ∙ rw h e
+late : (c : Cutoffs) (s : List ℕ) (n : ℕ) → refusal 24 s ≡ 0 → cond (eqb (fileAdjustmentRefusal c s) 0) (cond (run c s .refused) 10 0) (fileAdjustmentRefusal c s) ≡ n → returned 24 c s (replicate 168 0) ≡ n
+late c s n h e = returned-is c s 24 (replicate 168 0) ∙ number-is c s 24 ∙ rw h e
 
 pub record Refused : Type 0 where
   -- 1, "100 answer bytes": whatever the file is
-  pub short : (s : List ℕ) → returned documentCutoffs s (replicate 100 0) ≡ 1
+  pub short : (s : List ℕ) → returned 24 documentCutoffs s (replicate 100 0) ≡ 1
   -- 9, "n = 2, one group, Z = 1, 1, theta 1e10"
-  pub notDefinite : returned documentCutoffs nineFile (replicate 168 0) ≡ 9
+  pub notDefinite : returned 24 documentCutoffs nineFile (replicate 168 0) ≡ 9
   -- 10, "p = 1, Φ = 0"
-  pub zeroPivot : returned documentCutoffs tenFile (replicate 168 0) ≡ 10
+  pub zeroPivot : returned 24 documentCutoffs tenFile (replicate 168 0) ≡ 10
 
 pub refused-calls : Refused
 refused-calls = record {
-  short = λ s. returned-is documentCutoffs s (replicate 100 0);
+  short = λ s. returned-is documentCutoffs s 24 (replicate 100 0);
   notDefinite = late documentCutoffs nineFile 9 (says .nineTaken) (rw nine-adjustment);
   zeroPivot = late documentCutoffs tenFile 10 (says .tenTaken) (rw (ten-adjustment, ten-run));
 }

@@ -1,20 +1,16 @@
 -- Document 01's `pulltest` example and the refusal table's own examples, read by computation over the definitions.
 use Prim.Native.Nat.{ℕ, _+_}
 use mathlib.Core.Path.{_≡_, refl}
-use mathlib.Core.Bool.{Bool, true, false}
 use mathlib.Core.List.{List, [], _∷_, _++_}
 use lib.Ieee.{ofBits, le, eq}
 use Rattle.arithmetic.specs.Numbers.{isFinite, isZero}
 use Rattle.records.specs.Bytes.{word, long, bytesOf}
 use Rattle.algebra.specs.Reasons.{first}
 use Rattle.records.specs.Scan.{any, most, last, total}
-use Rattle.records.specs.Kinds.{kindAt, kenwardRoger}
-use Rattle.records.specs.File.{outOf, badRecord, isCell, again, has, cell, rows, columns, beyond, missing, notFinite}
-use Rattle.records.specs.Series.{sizes, blockOf, incomplete, badSize, badWeight, misfit, zeroContrast, reasons, refusal}
-
--- one record
-abbrev pub recordOf : ℕ → ℕ → ℕ → ℕ → ℕ → List ℕ
-recordOf k r c m b = k ∷ r ∷ c ∷ 0 ∷ (bytesOf 4 m ++ bytesOf 8 b)
+use Rattle.records.specs.Kinds.{kindAt, holds, width, indexOf, valueHolds, kenwardRogerKinds, limits}
+use Rattle.records.specs.Written.{recordOf}
+use Rattle.records.specs.File.{outOf, badRecord, isCell, again, has, cell, rows, columns, beyond, missing, notFinite, lengthReasons, formReasons}
+use Rattle.records.specs.Series.{sizes, blockOf, badSize, badWeight, misfit, zeroContrast, sizeReasons, valueReasons, reasons, refusal}
 
 -- the bits of some numbers
 abbrev pub one : ℕ
@@ -46,36 +42,36 @@ abbrev pub twoThetas : List ℕ
 twoThetas = recordOf 3 0 2 1 0 ++ (recordOf 2 0 1 0 one ++ (recordOf 4 0 0 0 one ++ recordOf 4 1 0 0 one))
 
 pub record Read : Type 0 where
-  pub taken : refusal (with []) ≡ 0
-  pub noContrast : refusal plain ≡ 0
+  pub taken : refusal 24 (with []) ≡ 0
+  pub noContrast : refusal 24 plain ≡ 0
   -- 2, "empty file", and the other causes
-  pub empty : refusal [] ≡ 2
-  pub torn : refusal (0 ∷ []) ≡ 2
-  pub twice : refusal (with (recordOf 1 0 0 0 one)) ≡ 2
-  pub beyondN : refusal (with (recordOf 2 2 0 0 one)) ≡ 2
-  pub badKind : refusal (with (recordOf 11 0 0 0 one)) ≡ 2
+  pub empty : refusal 24 [] ≡ 2
+  pub torn : refusal 24 (0 ∷ []) ≡ 2
+  pub twice : refusal 24 (with (recordOf 1 0 0 0 one)) ≡ 2
+  pub beyondN : refusal 24 (with (recordOf 2 2 0 0 one)) ≡ 2
+  pub badKind : refusal 24 (with (recordOf 11 0 0 0 one)) ≡ 2
   -- "10 without 9 counts as beyond the sizes"; with 9 it is taken
-  pub hypothesisAlone : refusal (plain ++ recordOf 10 0 0 0 one) ≡ 2
-  pub hypothesis : refusal (with (recordOf 10 0 0 0 one)) ≡ 0
+  pub hypothesisAlone : refusal 24 (plain ++ recordOf 10 0 0 0 one) ≡ 2
+  pub hypothesis : refusal 24 (with (recordOf 10 0 0 0 one)) ≡ 0
   -- 3, "block of k = 3"
-  pub manyEffects : refusal (with (recordOf 3 0 3 1 0)) ≡ 3
-  pub allEffects : refusal (with (recordOf 3 0 255 1 0)) ≡ 3
+  pub manyEffects : refusal 24 (with (recordOf 3 0 3 1 0)) ≡ 3
+  pub allEffects : refusal 24 (with (recordOf 3 0 255 1 0)) ≡ 3
   -- 4, "β = infinity"
-  pub infinite : refusal (bare one infinity) ≡ 4
+  pub infinite : refusal 24 (bare one infinity) ≡ 4
   -- 5, "0"
-  pub zeroVariance : refusal (bare 0 one) ≡ 5
+  pub zeroVariance : refusal 24 (bare 0 one) ≡ 5
   -- 6, "-1"
-  pub negativeWeight : refusal (with oneBadWeight) ≡ 6
+  pub negativeWeight : refusal 24 (with oneBadWeight) ≡ 6
   -- 7, "k = 2, two thetas"
-  pub fewThetas : refusal (with twoThetas) ≡ 7
-  pub noGroup : refusal (with (recordOf 3 0 1 1 0)) ≡ 7
+  pub fewThetas : refusal 24 (with twoThetas) ≡ 7
+  pub noGroup : refusal 24 (with (recordOf 3 0 1 1 0)) ≡ 7
   -- 8, "row 0"
-  pub zeroRow : refusal (plain ++ recordOf 9 0 0 0 0) ≡ 8
+  pub zeroRow : refusal 24 (plain ++ recordOf 9 0 0 0 0) ≡ 8
   -- "lowest number first": a file with two faults gives the lower number
-  pub lowestFirst : refusal (bare 0 one ++ oneBadWeight) ≡ 5
+  pub lowestFirst : refusal 24 (bare 0 one ++ oneBadWeight) ≡ 5
 
 pub read : Read
-unfolding refusal reasons first sizes incomplete badSize badWeight misfit zeroContrast blockOf outOf badRecord isCell again has cell rows columns beyond missing notFinite kindAt kenwardRoger any most last total word long bytesOf isFinite isZero ofBits le eq
+unfolding refusal reasons lengthReasons formReasons sizeReasons valueReasons first sizes badSize badWeight misfit zeroContrast blockOf outOf badRecord isCell again has cell rows columns beyond missing notFinite kindAt holds width indexOf valueHolds kenwardRogerKinds limits any most last total word long bytesOf isFinite isZero ofBits le eq
 read = record {
   taken = refl;
   noContrast = refl;

@@ -1,11 +1,12 @@
 -- Laws of the questions of specs/Scan.antt: at n + 1 as a loop counts, of what they say of each number below n, and of two questions that agree below n.
-use Prim.Native.Nat.{ℕ, zero, suc, _+_, _<_, _≤_, max}
+use Prim.Native.Nat.{ℕ, zero, suc, _+_, _-_, _*_, _<_, _≤_, max}
 use mathlib.Core.Path.{_≡_, refl, ap, ap₂, sym, _∙_}
 use mathlib.Core.Bool.{Bool, true, false, _||_, _&&_, cond, false≢true}
 use mathlib.Core.Logic.{⊎-elim}
 use native.Mathlib.Nat.{not-suc-le-zero, le-of-suc-le-suc, eq-or-lt-of-le}
 use native.Mathlib.Numerals.{add-one}
 use native.Mathlib.Omega.{arith}
+use native.Mathlib.Decide.{decLt}
 use borrow.Author.Tests.{le-leb}
 use Rattle.algebra.specs.Fold.{fold}
 use Rattle.records.specs.Scan.{any, most, last, total}
@@ -120,6 +121,13 @@ pub last-same {ℓ} : {A : Type ℓ} (n : ℕ) (p q : ℕ → Bool) (f g : ℕ �
     → last n p f d ≡ last n q g d
 last-same n p q f g d h k = last-both _≡_ n p q f g d d h refl k
 
+-- the last that passes is i, where i passes and none after it
+pub last-at {ℓ} : {A : Type ℓ} (n : ℕ) (p : ℕ → Bool) (f : ℕ → A) (d : A) (i : ℕ) → i < n → p i ≡ true → ((j : ℕ) → i < j → j < n → p j ≡ false) → last n p f d ≡ f i
+unfolding last
+last-at zero p f d i l e h = absurd (not-suc-le-zero l)
+last-at (suc n) p f d i l e h =
+    ⊎-elim (λ q. rw (← q, e)) (λ q. rw (h n q (omega arith)) (last-at n p f d i q e (λ j a b. h j a (omega arith)))) (eq-or-lt-of-le (le-of-suc-le-suc l))
+
 -- what holds of every answer holds of the last
 pub last-holds {ℓ κ} : {A : Type ℓ} (P : A → Type κ) (n : ℕ) (p : ℕ → Bool) (f : ℕ → A) (d : A) → P d → ((i : ℕ) → i < n → p i ≡ true → P (f i)) → P (last n p f d)
 last-holds P n p f d z k = last-both (λ x y. P x) n p p f f d d (λ i l. refl) z k
@@ -135,10 +143,44 @@ unfolding total
 total-le n zero f l = let e : n ≡ 0 = omega arith in rw e (omega arith)
 total-le n (suc m) f l = ⊎-elim (λ q. rw q (omega arith)) (λ k. let z = total-le n m f (le-of-suc-le-suc k) in omega arith) (eq-or-lt-of-le l)
 
+-- and with its terms
+pub total-grows : (n : ℕ) (f g : ℕ → ℕ) → ((i : ℕ) → i < n → f i ≤ g i) → total n f ≤ total n g
+unfolding total
+total-grows zero f g h = omega arith
+total-grows (suc n) f g h = let x = total-grows n f g (λ i l. h i (omega arith)) in let y = h n (omega arith) in omega arith
+
 pub total-same : (n : ℕ) (f g : ℕ → ℕ) → ((i : ℕ) → i < n → f i ≡ g i) → total n f ≡ total n g
 unfolding total
 total-same zero f g h = refl
 total-same (suc n) f g h = ap₂ _+_ (total-same n f g (λ i l. h i (omega arith))) (h n (omega arith))
+
+-- a total of one number, and of multiples
+pub total-constant : (n w : ℕ) → total n (λ i. w) ≡ n * w
+unfolding total
+total-constant zero w = omega arith
+total-constant (suc n) w = let z = total-constant n w in omega arith
+
+pub total-scaled : (n w : ℕ) (f : ℕ → ℕ) → total n (λ i. w * f i) ≡ w * total n f
+unfolding total
+total-scaled zero w f = omega arith
+total-scaled (suc n) w f = let z = total-scaled n w f in omega arith
+
+-- a number below a total falls into one of its terms
+pub record Falls (n : ℕ) (f : ℕ → ℕ) (i : ℕ) : Type 0 where
+  pub index : ℕ
+  pub below : index < n
+  pub rest : ℕ
+  pub short : rest < f index
+  pub place : total index f + rest ≡ i
+
+pub total-falls : (n : ℕ) (f : ℕ → ℕ) (i : ℕ) → i < total n f → Falls n f i
+unfolding total
+total-falls zero f i l = absurd (not-suc-le-zero l)
+total-falls (suc n) f i l = go (decLt i (total n f)) (total-falls n f i)
+  where
+    go : Dec (i < total n f) → (i < total n f → Falls n f i) → Falls (suc n) f i
+    go (yes h) q = let w = q h in record { index = w .index; below = (let b = w .below in omega arith); rest = w .rest; short = w .short; place = w .place }
+    go (no h) q = record { index = n; below = omega arith; rest = i - total n f; short = omega arith; place = omega arith }
 
 -- a sum that a fold counts up
 pub fold-total : (n : ℕ) (f : ℕ → ℕ) → fold 0 n (λ i x. x + f i) 0 ≡ total n f

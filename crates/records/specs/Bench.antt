@@ -22,7 +22,7 @@ use Rattle.tests.specs.KenwardRoger.{Scaled, Tested, tested}
 use Rattle.tests.specs.VarianceDf.{varianceDf}
 use Rattle.tests.specs.PooledDf.{tolerance, getFstatDdf}
 use Rattle.tests.specs.Satterthwaite.{Inputs, Outcome, satterthwaite}
-use Rattle.records.specs.Bytes.{bytesOf}
+use Rattle.records.specs.Written.{recordOf}
 use Rattle.records.specs.KenwardRogerCall.{number, entries}
 use Rattle.records.specs.Text.{codes, textOf}
 
@@ -76,10 +76,6 @@ inputsI q a = record { p = 2; q = q; n = 1; l = unit; beta = four ∷ one ∷ []
 abbrev pub outcomeI : Float → Float → ℕ → Outcome
 outcomeI f df rank = record { refused = false; entry = record { f = Is f; df = Is df; rank = rank; inside = true } }
 
--- one record: kind, row, column, count and f64 bits
-abbrev pub recordOf : ℕ → ℕ → ℕ → ℕ → ℕ → List ℕ
-recordOf k r c m b = k ∷ r ∷ c ∷ 0 ∷ (bytesOf 4 m ++ bytesOf 8 b)
-
 -- `pulltest`'s example as a file, with the bits of sigma2, β and the contrast: "X 1,1, Φ 0.5 .."
 abbrev pub pullBytes : ℕ → ℕ → ℕ → List ℕ
 pullBytes v b l =
@@ -117,4 +113,4 @@ pub record BenchExamples : Type 0 where
   pub k : (adjustmentRefusal documentCutoffs designK phiK one ≡ 0) × (at floats (adjustment documentCutoffs designK phiK .phiA) 0 0 ≡ half)
       × (at floats (adjustment documentCutoffs designK phiK .w) 0 0 ≡ decimal 200000000 0)
   -- "For X 1,1, Φ 0.5, sigma2 8, β 6, contrast 1 it prints, whole:"
-  pub pulltest : textOf (number documentCutoffs pullFile) (entries documentCutoffs pullFile) ≡ codes "coef 0 rank 1 F 4022000000000000 df 3ff0000000000000 inside\ntest rank 1 F 4022000000000000 df 3ff0000000000000 inside\n"
+  pub pulltest : textOf (number 24 documentCutoffs pullFile) (entries 24 documentCutoffs pullFile) ≡ codes "coef 0 rank 1 F 4022000000000000 df 3ff0000000000000 inside\ntest rank 1 F 4022000000000000 df 3ff0000000000000 inside\n"

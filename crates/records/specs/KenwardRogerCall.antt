@@ -1,4 +1,4 @@
--- Document 01, "kenward_roger.rs": the whole Kenward–Roger call, from the bytes of a file and the cutoffs to its number, its entries and the lent bytes.
+-- Document 01, "kenward_roger.rs": the whole Kenward–Roger call, from the limit of specimens, the cutoffs and the bytes of a file to its number, its entries and the lent bytes.
 use Prim.Native.Nat.{ℕ}
 use mathlib.Core.Bool.{Bool, not, cond}
 use mathlib.Core.List.{List, [], _∷_, _++_}
@@ -12,8 +12,9 @@ use Rattle.tests.specs.Answer.{noEntry}
 use Rattle.records.specs.Layout.{answerBytes}
 use Rattle.tests.specs.KenwardRoger.{Scaled, scaledBy, Run, runOf}
 use Rattle.algebra.specs.Reasons.{first}
-use Rattle.records.specs.Series.{reasons, coefficients, contrastRows, design, phi, sigma2, beta, betaH, contrast}
+use Rattle.records.specs.Series.{reasons, specimens, coefficients, contrastRows, design, phi, sigma2, beta, betaH, contrast}
 
+-- ---- what is computed of a file that the reader does not refuse
 module _ (c : Cutoffs) (s : List ℕ) where
   -- the adjustment of the file's series, in residual units, and what the tests start from, scaled by sigma2
   unfoldable pub adjusted : Adjustment
@@ -26,9 +27,15 @@ module _ (c : Cutoffs) (s : List ℕ) where
   unfoldable pub run : Run
   run = runOf c scaled (beta s) (betaH s) (contrastRows s) (contrast s)
 
-  -- what refuses a file, in document 01's order: the reader's reasons, then the adjustment's 9, 10, 10 and 4, then a zero pivot in any one test
+  -- a zero pivot in any one test
+  unfoldable pub testReasons : List (ℕ × Bool)
+  testReasons = (10, run .refused) ∷ []
+
+-- ---- the call, with the limit of specimens w
+module _ (w : ℕ) (c : Cutoffs) (s : List ℕ) where
+  -- what refuses a file, in document 01's order: the reader's reasons, then the adjustment's 9, 10, 10 and 4, then the tests'
   unfoldable pub allReasons : List (ℕ × Bool)
-  allReasons = reasons s ++ (adjustmentReasons c (design s) (phi s) (sigma2 s) ++ ((10, run .refused) ∷ []))
+  allReasons = reasons w s ++ (adjustmentReasons c (design s) (phi s) (sigma2 s) ++ testReasons c s)
 
   -- "Each returns its number (accepted: 0)"
   unfoldable pub number : ℕ
@@ -36,11 +43,15 @@ module _ (c : Cutoffs) (s : List ℕ) where
 
   -- the seven entries of an accepted file; none is in use where it is refused
   unfoldable pub entries : List Entry
-  entries = cond (eqb number 0) (run .entries) (replicate 7 noEntry)
+  entries = cond (eqb number 0) (run c s .entries) (replicate 7 noEntry)
 
   -- the rotations made on IE in the adjustment of an accepted file: "The diagonal is the answer, with the number of rotations made"; 0 where it is refused
   unfoldable pub rotations : ℕ
-  rotations = cond (eqb number 0) (adjusted .rotations) 0
+  rotations = cond (eqb number 0) (adjusted c s .rotations) 0
+
+  -- and the specimens of its run
+  unfoldable pub specimensRun : ℕ
+  specimensRun = cond (eqb number 0) (specimens s) 0
 
   -- what refuses a call, and what it returns for the lent bytes: 1, "lent length is not the stated one", 168 bytes
   unfoldable pub returnedReasons : List ℕ → List (ℕ × Bool)

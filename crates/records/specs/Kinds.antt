@@ -1,55 +1,117 @@
 -- Document 01: "Kinds: 1 X; 2 Z (absent is 0); 3 block (row its number, column k, count m, bits 0); 4 theta; 5 weight; 6 Φ; 7 sigma2; 8 β; 9 contrast; 10 β_H. Kinds 1, 2, 6, 9 use
--- row and column; 4, 5, 8, 10 the row; .. unused fields are 0." "The Satterthwaite call reads kinds 8, 9, 10, 30 v, 31 Jacobian (count its number, from 0) and 32 A, the last
--- three by row and column". "Kinds of the other call are bad."
-use Prim.Native.Nat.{ℕ, _-_}
+-- row and column; 4, 5, 8, 10 the row; indices start at 0 and unused fields are 0." "The Satterthwaite call reads kinds 8, 9, 10, 30 v, 31 Jacobian (count its number, from 0) and 32 A, the
+-- last three by row and column". "Kinds of the other call are bad."
+use Prim.Native.Nat.{ℕ}
 use mathlib.Core.Bool.{Bool, true, false, cond}
 use mathlib.Core.List.{List, [], _∷_}
-use lib.Dec.{ltb}
-use lib.ListN.{getD}
+use lib.Dec.{eqb, ltb}
+use Rattle.records.specs.declared.Field.{Field}
+use Rattle.records.specs.declared.Field.the-variants.{Index, Number, Unused}
+use Rattle.records.specs.declared.Value.{Value}
+use Rattle.records.specs.declared.Value.the-variants.{Float, Unused as NoValue}
 use Rattle.records.specs.declared.Kind.{Kind}
+use Rattle.records.specs.declared.Sizes.{Sizes}
 
--- How many counts, rows and columns the records of a kind may name: indices run from 0. A field that the kind does not use may name one, 0; a kind that the call does not read may
--- name no row.
-abbrev pub cells : ℕ → ℕ → ℕ → Kind
-cells counts rows columns = record { counts = counts; rows = rows; columns = columns; block = false }
+-- ---- one field
+-- what it may hold: an index is below its limit, a number is any, and "unused fields are 0"
+unfoldable pub holds : Field → ℕ → Bool
+holds (Index limit) x = ltb x limit
+holds Number x = true
+holds Unused x = eqb x 0
 
+-- how many cells it tells apart, and the index by which it names one: a number and an unused field tell none apart
+unfoldable pub width : Field → ℕ
+width (Index limit) = limit
+width Number = 1
+width Unused = 1
+
+unfoldable pub indexOf : Field → ℕ → ℕ
+indexOf (Index limit) x = x
+indexOf Number x = 0
+indexOf Unused x = 0
+
+-- what the value bits may be
+unfoldable pub valueHolds : Value → ℕ → Bool
+valueHolds Float bits = true
+valueHolds NoValue bits = eqb bits 0
+
+-- ---- one kind
+-- named by row and column, by the row alone, by count, row and column, or one cell alone
+abbrev pub byRowAndColumn : ℕ → ℕ → Kind
+byRowAndColumn rows columns = record { count = Unused; row = Index rows; column = Index columns; value = Float; sparse = false }
+
+abbrev pub byRow : ℕ → Kind
+byRow rows = record { count = Unused; row = Index rows; column = Unused; value = Float; sparse = false }
+
+abbrev pub byCount : ℕ → ℕ → ℕ → Kind
+byCount counts rows columns = record { count = Index counts; row = Index rows; column = Index columns; value = Float; sparse = false }
+
+abbrev pub alone : Kind
+alone = record { count = Unused; row = Unused; column = Unused; value = Float; sparse = false }
+
+-- "2 Z (absent is 0)"
+abbrev pub absentIsZero : ℕ → ℕ → Kind
+absentIsZero rows columns = record { count = Unused; row = Index rows; column = Index columns; value = Float; sparse = true }
+
+-- "3 block (row its number, column k, count m, bits 0)": k and m are numbers and no indices
+abbrev pub blockKind : ℕ → Kind
+blockKind rows = record { count = Number; row = Index rows; column = Number; value = NoValue; sparse = false }
+
+-- a kind that the call does not read: no row is below its limit
 abbrev pub unread : Kind
-unread = cells 0 0 0
+unread = record { count = Unused; row = Index 0; column = Unused; value = NoValue; sparse = false }
 
--- a block's count and column are its groups m and effects k, numbers and no indices; its value bits are unused
-abbrev pub blocks : ℕ → Kind
-blocks rows = record { counts = 1; rows = rows; columns = 1; block = true }
-
--- the kinds of a call by their numbers: those from 0 to 10, and those from 30 on
-pub record Table : Type 0 where
-  pub low : List Kind
-  pub high : List Kind
+-- ---- the table of a call: its kinds by their numbers
+abbrev pub Table : Type 0
+Table = List (ℕ × Kind)
 
 unfoldable pub kindAt : Table → ℕ → Kind
-kindAt t k = cond (ltb k 30) (getD (t .low) k unread) (getD (t .high) (k - 30) unread)
+kindAt [] k = unread
+kindAt (e ∷ t) k = cond (eqb k (e .0)) (e .1) (kindAt t k)
 
--- document 01's limits
--- 0, X, Z, block, theta, weight, Φ, sigma2, β, contrast, β_H
-unfoldable pub kenwardRoger : Table
-kenwardRoger = record {
-  low = unread
-      ∷ cells 1 24 6
-      ∷ cells 1 24 24
-      ∷ blocks 3
-      ∷ cells 1 3 1
-      ∷ cells 1 24 1
-      ∷ cells 1 6 6
-      ∷ cells 1 1 1
-      ∷ cells 1 6 1
-      ∷ cells 1 6 6
-      ∷ cells 1 6 1
-      ∷ [];
-  high = [];
-}
+-- every call's kinds have numbers below this
+abbrev pub kindNumbers : ℕ
+kindNumbers = 33
 
--- 0 to 7, β, contrast, β_H; then v, Jacobian, A
-unfoldable pub satterthwaite : Table
-satterthwaite = record {
-  low = unread ∷ unread ∷ unread ∷ unread ∷ unread ∷ unread ∷ unread ∷ unread ∷ cells 1 6 1 ∷ cells 1 6 6 ∷ cells 1 6 1 ∷ [];
-  high = cells 1 6 6 ∷ cells 4 6 6 ∷ cells 1 4 4 ∷ [];
-}
+-- What sizes leave each kind: X, Z, block, theta, weight, Φ, sigma2, β, contrast, β_H. "Kinds 2 to 5, 9, 10 may be absent wholly": where there are no weights or no β_H, no row of them is left.
+unfoldable pub kenwardRogerKinds : Sizes → Table
+kenwardRogerKinds z =
+    (1, byRowAndColumn (z .specimens) (z .coefficients))
+    ∷ (2, absentIsZero (z .specimens) (z .columns))
+    ∷ (3, blockKind (z .blocks))
+    ∷ (4, byRow (z .thetas))
+    ∷ (5, byRow (cond (z .weighted) (z .specimens) 0))
+    ∷ (6, byRowAndColumn (z .coefficients) (z .coefficients))
+    ∷ (7, alone)
+    ∷ (8, byRow (z .coefficients))
+    ∷ (9, byRowAndColumn (z .contrasts) (z .coefficients))
+    ∷ (10, byRow (cond (z .hypothesis) (z .coefficients) 0))
+    ∷ []
+
+-- β, contrast, β_H; v, Jacobian, A
+unfoldable pub satterthwaiteKinds : Sizes → Table
+satterthwaiteKinds z =
+    (8, byRow (z .coefficients))
+    ∷ (9, byRowAndColumn (z .contrasts) (z .coefficients))
+    ∷ (10, byRow (cond (z .hypothesis) (z .coefficients) 0))
+    ∷ (30, byRowAndColumn (z .coefficients) (z .coefficients))
+    ∷ (31, byCount (z .parameters) (z .coefficients) (z .coefficients))
+    ∷ (32, byRowAndColumn (z .parameters) (z .parameters))
+    ∷ []
+
+-- The calls have numbers: 0 is Kenward and Roger's, any other Satterthwaite's.
+unfoldable pub kindsOf : ℕ → Sizes → Table
+kindsOf call z = cond (eqb call 0) (kenwardRogerKinds z) (satterthwaiteKinds z)
+
+-- Document 01, "Limits": "specimens n 1–24; coefficients p 1–6; random columns 0–24; blocks 0–3 .. block parameters at most 3 over all blocks; contrast rows 1–6; Satterthwaite parameters
+-- 1–4". The limit of specimens and of random columns is w, 24 at the panel. Limits are sizes: the largest that a file may have.
+unfoldable pub limits : ℕ → Sizes
+limits w = record { specimens = w; coefficients = 6; columns = w; blocks = 3; thetas = 3; contrasts = 6; parameters = 4; weighted = true; hypothesis = true }
+
+-- so that what a call's records may name at all is the table at the limits
+abbrev pub kenwardRoger : ℕ → Table
+kenwardRoger w = kenwardRogerKinds (limits w)
+
+-- no kind of this call names specimens, so that their limit is of no account
+abbrev pub satterthwaite : Table
+satterthwaite = satterthwaiteKinds (limits 0)

@@ -2,7 +2,9 @@
 pub mod Scan
 pub mod Bytes
 pub mod Kinds
+pub mod Cells
 pub mod File
+pub mod Written
 pub mod Series
 pub mod Parameters
 pub mod Layout

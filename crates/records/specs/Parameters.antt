@@ -1,18 +1,18 @@
 -- Document 01, "kenward_roger.rs (66 lines) and records": "The Satterthwaite call reads kinds 8, 9, 10, 30 v, 31 Jacobian (count its number, from 0) and 32 A, the last three by row and column, only
 -- 10 optional; p comes from β, the parameters from A. Kinds of the other call are bad." What a file of this call says, and the refusals 2 and 4.
-use Prim.Native.Nat.{ℕ, _%_, max}
-use mathlib.Core.Bool.{Bool, not, cond}
-use mathlib.Core.List.{List, [], _∷_}
-use lib.Dec.{eqb}
-use lib.ListN.{length, replicate}
+use Prim.Native.Nat.{ℕ, max}
+use mathlib.Core.Bool.{Bool, false}
+use mathlib.Core.List.{List, [], _∷_, _++_}
+use lib.ListN.{replicate}
 use lib.Ieee.{Float}
 use Rattle.arithmetic.specs.Numbers.{plusZero}
 use Rattle.algebra.specs.Fold.{span}
 use Rattle.algebra.specs.Table.{row, table, blank}
 use Rattle.algebra.specs.Reasons.{first}
+use Rattle.records.specs.declared.Sizes.{Sizes}
 use Rattle.records.specs.Scan.{any}
-use Rattle.records.specs.Kinds.{Table, cells, unread, satterthwaite}
-use Rattle.records.specs.File.{count, cell, rows, columns, present, badRecord, again, beyond, missing, notFinite}
+use Rattle.records.specs.Kinds.{Table, satterthwaiteKinds, satterthwaite}
+use Rattle.records.specs.File.{count, cell, rows, columns, present, notFinite, lengthReasons, formReasons}
 use Rattle.tests.specs.Satterthwaite.{Inputs}
 
 -- There is a coefficient, a contrast row and a parameter: a file without misses its first cell.
@@ -25,45 +25,37 @@ contrastRows s = max 1 (rows s 9)
 abbrev pub parameters : List ℕ → ℕ
 parameters s = max 1 (max (rows s 32) (columns s 32))
 
--- What the sizes leave each kind: 0 to 7, β, contrast, β_H; v, Jacobian, A.
-unfoldable pub sizes : List ℕ → Table
+-- "only 10 optional"
+unfoldable pub sizes : List ℕ → Sizes
 sizes s = record {
-  low = unread
-      ∷ unread
-      ∷ unread
-      ∷ unread
-      ∷ unread
-      ∷ unread
-      ∷ unread
-      ∷ unread
-      ∷ cells 1 (coefficients s) 1
-      ∷ cells 1 (contrastRows s) (coefficients s)
-      ∷ cells 1 (cond (present s 10) (coefficients s) 0) 1
-      ∷ [];
-  high = cells 1 (coefficients s) (coefficients s) ∷ cells (parameters s) (coefficients s) (coefficients s) ∷ cells 1 (parameters s) (parameters s) ∷ [];
+  specimens = 0;
+  coefficients = coefficients s;
+  columns = 0;
+  blocks = 0;
+  thetas = 0;
+  contrasts = contrastRows s;
+  parameters = parameters s;
+  weighted = false;
+  hypothesis = present s 10;
 }
 
--- 2, "missing": every cell has to be there
-unfoldable pub incomplete : List ℕ → Bool
-incomplete s = any 33 (missing satterthwaite (sizes s) s)
+-- what the sizes leave each kind
+abbrev pub kinds : List ℕ → Table
+kinds s = satterthwaiteKinds (sizes s)
 
--- what refuses a file before anything is computed, in order
+-- what refuses a file before anything is computed, in order: its length and form, its values
+unfoldable pub valueReasons : List ℕ → List (ℕ × Bool)
+valueReasons s = (4, any (count s) (notFinite s)) ∷ []
+
 unfoldable pub reasons : List ℕ → List (ℕ × Bool)
-reasons s =
-    (2, not (eqb (length s % 16) 0))
-    ∷ (2, any (count s) (badRecord satterthwaite s))
-    ∷ (2, any (count s) (again satterthwaite s))
-    ∷ (2, any (count s) (beyond (sizes s) s))
-    ∷ (2, incomplete s)
-    ∷ (4, any (count s) (notFinite s))
-    ∷ []
+reasons s = lengthReasons s ++ (formReasons satterthwaite (kinds s) s ++ valueReasons s)
 
 unfoldable pub refusal : List ℕ → ℕ
 refusal s = first (reasons s)
 
 -- ---- what a file that is not refused sends; cell (r, c) of number n of a kind
 abbrev pub cellValue : List ℕ → ℕ → ℕ → ℕ → ℕ → Float
-cellValue s k n r c = cell satterthwaite s k n r c
+cellValue s k n r c = cell (kinds s) s k n r c
 
 unfoldable pub jacobians : List ℕ → List (List (List Float))
 jacobians s =

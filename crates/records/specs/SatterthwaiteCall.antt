@@ -16,9 +16,13 @@ module _ (c : Cutoffs) (s : List ℕ) where
   unfoldable pub outcome : Outcome
   outcome = test c (inputs s)
 
-  -- the refusals are 1, 2, 4 and 11; 11 is "several-row V has an eigenvalue not finite or ≤ 0"
+  -- 11, "several-row V has an eigenvalue not finite or ≤ 0"
+  unfoldable pub testReasons : List (ℕ × Bool)
+  testReasons = (11, outcome .refused) ∷ []
+
+  -- the refusals are 1, 2, 4 and 11
   unfoldable pub allReasons : List (ℕ × Bool)
-  allReasons = reasons s ++ ((11, outcome .refused) ∷ [])
+  allReasons = reasons s ++ testReasons
 
   unfoldable pub number : ℕ
   number = first allReasons

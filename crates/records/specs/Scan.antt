@@ -1,6 +1,6 @@
 -- Questions over the numbers below n: whether one passes, the largest answer, the last that passes.
 use Prim.Native.Nat.{ℕ, zero, suc, _+_, max}
-use mathlib.Core.Bool.{Bool, true, false, _||_, cond}
+use mathlib.Core.Bool.{Bool, false, _||_, cond}
 
 -- some i below n passes
 unfoldable pub any : ℕ → (ℕ → Bool) → Bool

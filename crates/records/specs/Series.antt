@@ -1,9 +1,8 @@
 -- Document 01, "kenward_roger.rs (66 lines) and records" and "Refusals": a Kenward–Roger series as its file gives it, and the refusals 2 to 8, which come before any computing.
-use Prim.Native.Nat.{ℕ, _+_, _*_, _/_, _%_, max}
-use mathlib.Core.Bool.{Bool, true, false, not, _&&_, _||_, cond}
-use mathlib.Core.List.{List, [], _∷_}
+use Prim.Native.Nat.{ℕ, _+_, _*_, max}
+use mathlib.Core.Bool.{Bool, not, _&&_, _||_, cond}
+use mathlib.Core.List.{List, [], _∷_, _++_}
 use lib.Dec.{eqb, ltb}
-use lib.ListN.{length}
 use lib.Ieee.{Float, le}
 use Rattle.arithmetic.specs.Numbers.{plusZero, isZero}
 use Rattle.algebra.specs.Table.{row, table}
@@ -12,9 +11,10 @@ use Rattle.adjustment.specs.declared.Block.{Block}
 use Rattle.adjustment.specs.Blocks.{noBlock, places}
 use Rattle.adjustment.specs.Covariance.{Design}
 use Rattle.algebra.specs.Reasons.{first}
+use Rattle.records.specs.declared.Sizes.{Sizes}
 use Rattle.records.specs.Scan.{any, last, total}
-use Rattle.records.specs.Kinds.{Table, cells, blocks, unread, kenwardRoger}
-use Rattle.records.specs.File.{count, columnOf, countOf, isCell, cell, rows, columns, present, badRecord, again, beyond, missing, notFinite}
+use Rattle.records.specs.Kinds.{Table, kenwardRogerKinds, kenwardRoger}
+use Rattle.records.specs.File.{count, columnOf, countOf, isCell, cell, rows, columns, present, notFinite, lengthReasons, formReasons}
 
 -- "n and p come from the largest X indices; Z columns, blocks, thetas and contrast rows from their own kind." A series has a specimen and a coefficient: a file with no X misses its
 -- first cell.
@@ -36,27 +36,31 @@ thetas s = rows s 4
 abbrev pub contrastRows : List ℕ → ℕ
 contrastRows s = rows s 9
 
--- What the sizes leave each kind: 0, X, Z, block, theta, weight, Φ, sigma2, β, contrast, β_H. "Kinds 2 to 5, 9, 10 may be absent wholly (β_H is then 0); 10 without 9 counts as beyond the sizes."
-unfoldable pub sizes : List ℕ → Table
+-- a weight for each specimen, or none
+abbrev pub weightCount : List ℕ → ℕ
+weightCount s = cond (present s 5) (specimens s) 0
+
+-- "Kinds 2 to 5, 9, 10 may be absent wholly (β_H is then 0); 10 without 9 counts as beyond the sizes."
+unfoldable pub sizes : List ℕ → Sizes
 sizes s = record {
-  low = unread
-      ∷ cells 1 (specimens s) (coefficients s)
-      ∷ cells 1 (specimens s) (zColumns s)
-      ∷ blocks (blockCount s)
-      ∷ cells 1 (thetas s) 1
-      ∷ cells 1 (cond (present s 5) (specimens s) 0) 1
-      ∷ cells 1 (coefficients s) (coefficients s)
-      ∷ cells 1 1 1
-      ∷ cells 1 (coefficients s) 1
-      ∷ cells 1 (contrastRows s) (coefficients s)
-      ∷ cells 1 (cond (present s 10 && present s 9) (coefficients s) 0) 1
-      ∷ [];
-  high = [];
+  specimens = specimens s;
+  coefficients = coefficients s;
+  columns = zColumns s;
+  blocks = blockCount s;
+  thetas = thetas s;
+  contrasts = contrastRows s;
+  parameters = 0;
+  weighted = present s 5;
+  hypothesis = present s 10 && present s 9;
 }
+
+-- what the sizes leave each kind
+abbrev pub kinds : List ℕ → Table
+kinds s = kenwardRogerKinds (sizes s)
 
 -- the number in a cell of a kind that is named by row and column
 abbrev pub cellValue : List ℕ → ℕ → ℕ → ℕ → Float
-cellValue s k r c = cell kenwardRoger s k 0 r c
+cellValue s k r c = cell (kinds s) s k 0 r c
 
 abbrev pub sigma2 : List ℕ → Float
 sigma2 s = cellValue s 7 0 0
@@ -65,13 +69,9 @@ sigma2 s = cellValue s 7 0 0
 unfoldable pub blockOf : List ℕ → ℕ → Block
 blockOf s b =
     record {
-      effects = last (count s) (isCell kenwardRoger s 3 0 b 0) (columnOf s) 0;
-      groups = last (count s) (isCell kenwardRoger s 3 0 b 0) (countOf s) 0;
+      effects = last (count s) (isCell (kinds s) s 3 0 b 0) (columnOf s) 0;
+      groups = last (count s) (isCell (kinds s) s 3 0 b 0) (countOf s) 0;
     }
-
--- 2, "missing": every cell has to be there, but Z's, where "absent is 0"
-unfoldable pub incomplete : List ℕ → Bool
-incomplete s = any 11 (λ k. not (eqb k 2) && missing kenwardRoger (sizes s) s k)
 
 -- 3, "a size outside its limits": a block of other than 1 or 2 effects or without a group, or more than 3 block parameters. Any other size is bounded by 2.
 unfoldable pub badSize : List ℕ → Bool
@@ -93,24 +93,24 @@ misfit s =
 unfoldable pub zeroContrast : List ℕ → Bool
 zeroContrast s = present s 9 && not (any (contrastRows s) (λ r. any (coefficients s) (λ c. not (isZero (cellValue s 9 r c)))))
 
--- "Refusals, lowest number first": what refuses a file before anything is computed, in order
-unfoldable pub reasons : List ℕ → List (ℕ × Bool)
-reasons s =
-    (2, not (eqb (length s % 16) 0))
-    ∷ (2, any (count s) (badRecord kenwardRoger s))
-    ∷ (2, any (count s) (again kenwardRoger s))
-    ∷ (2, any (count s) (beyond (sizes s) s))
-    ∷ (2, incomplete s)
-    ∷ (3, badSize s)
-    ∷ (4, any (count s) (notFinite s))
+-- "Refusals, lowest number first": what refuses a file before anything is computed, in order: its length and form, its sizes, its values. w is the limit of specimens.
+unfoldable pub sizeReasons : List ℕ → List (ℕ × Bool)
+sizeReasons s = (3, badSize s) ∷ []
+
+unfoldable pub valueReasons : List ℕ → List (ℕ × Bool)
+valueReasons s =
+    (4, any (count s) (notFinite s))
     ∷ (5, le (sigma2 s) plusZero)
     ∷ (6, badWeight s)
     ∷ (7, misfit s)
     ∷ (8, zeroContrast s)
     ∷ []
 
-unfoldable pub refusal : List ℕ → ℕ
-refusal s = first (reasons s)
+unfoldable pub reasons : ℕ → List ℕ → List (ℕ × Bool)
+reasons w s = lengthReasons s ++ (formReasons (kenwardRoger w) (kinds s) s ++ (sizeReasons s ++ valueReasons s))
+
+unfoldable pub refusal : ℕ → List ℕ → ℕ
+refusal w s = first (reasons w s)
 
 -- ---- the series of a file that is not refused
 unfoldable pub design : List ℕ → Design
@@ -120,7 +120,7 @@ design s = record {
   x = table plusZero (specimens s) (coefficients s) (specimens s) (coefficients s) (cellValue s 1);
   z = table plusZero (specimens s) (zColumns s) (specimens s) (zColumns s) (cellValue s 2);
   weighted = present s 5;
-  weights = row plusZero 24 (specimens s) (λ i. cellValue s 5 i 0);
+  weights = row plusZero (weightCount s) (weightCount s) (λ i. cellValue s 5 i 0);
   blocks = row noBlock 3 (blockCount s) (blockOf s);
   count = blockCount s;
   theta = row plusZero 3 (thetas s) (λ i. cellValue s 4 i 0);

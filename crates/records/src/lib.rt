@@ -1,9 +1,36 @@
 // The record files: their definitions (specs/), and what the table of kinds says of one kind.
 
-// What the records of a kind may name: how many counts, rows and columns. Of a block the count and the column are numbers and no indices.
+// What a field of a record is: an index below a limit, a number of its own, or unused.
+pub enum Field {
+    Index(usize),
+    Number,
+    Unused,
+}
+
+// What the eight value bytes of a record are: the bits of an f64, or unused.
+pub enum Value {
+    Float,
+    Unused,
+}
+
+// What the records of a kind have in each field, and whether a cell may be absent, as Z's may.
 pub struct Kind {
-    pub counts: usize,
-    pub rows: usize,
+    pub count: Field,
+    pub row: Field,
+    pub column: Field,
+    pub value: Value,
+    pub sparse: bool,
+}
+
+// The sizes of a file: specimens, coefficients, columns of Z, blocks, thetas, contrast rows, Satterthwaite's parameters; whether there are weights, and β_H.
+pub struct Sizes {
+    pub specimens: usize,
+    pub coefficients: usize,
     pub columns: usize,
-    pub block: bool,
+    pub blocks: usize,
+    pub thetas: usize,
+    pub contrasts: usize,
+    pub parameters: usize,
+    pub weighted: bool,
+    pub hypothesis: bool,
 }

@@ -3,9 +3,8 @@ ghost use mathlib.Core.Path.{_≡_};
 ghost use Prim.Native.Nat.{ℕ, _≤_};
 ghost use Rattle.adjustment.specs.Blocks.{blockAt};
 ghost use Rattle.records.specs.Scan.{any};
-ghost use Rattle.records_series.specs.joints.Gathered.{Small};
-ghost use Rattle.records_series.specs.joints.Checks.{wrongBlock, parametersIn, columnsIn, badSizeIn, misfitIn};
-use records_series::SeriesSizes;
+ghost use Rattle.records_block_limits.specs.joints.Checks.{wrongBlock, parametersIn, columnsIn, badSizeIn, misfitIn};
+use records::Sizes;
 
 fn wrong_block(b: adjustment::Block) -> bool
     ensures { λ r. ⌜ r ≡ wrongBlock b ⌝ }
@@ -67,8 +66,8 @@ pub fn bad_size(blocks: [adjustment::Block; 3], n: usize) -> bool
 }
 
 // The blocks do not fit Z's columns or the thetas: number 7.
-pub fn misfit(z: SeriesSizes, blocks: [adjustment::Block; 3]) -> bool
-    requires { ⌜ Small z × ((b : ℕ) → (blockAt blocks b .effects ≤ 255) × (blockAt blocks b .groups ≤ 4294967295)) ⌝ }
+pub fn misfit(z: Sizes, blocks: [adjustment::Block; 3]) -> bool
+    requires { ⌜ (z .blocks ≤ 3) × ((b : ℕ) → (blockAt blocks b .effects ≤ 255) × (blockAt blocks b .groups ≤ 4294967295)) ⌝ }
     ensures { λ r. ⌜ r ≡ misfitIn z blocks ⌝ }
 {
     let n = z.blocks;

@@ -1,15 +1,22 @@
 // The whole Satterthwaite call: the bytes of a file in, a number and an entry out (ddf).
 ghost use mathlib.Core.Path.{_≡_};
+ghost use mathlib.Core.Bool.{false};
+ghost use Prim.Native.Nat.{_≤_};
+ghost use lib.ListN.{length, replicate};
+ghost use Rattle.arithmetic.specs.Numbers.{plusZero};
 ghost use Rattle.arithmetic_cutoffs.specs.Cutoffs.{documentCutoffs};
-ghost use Rattle.tests.specs.Satterthwaite.{satterthwaite};
-ghost use Rattle.records_satterthwaite.specs.joints.Gathered.{Small, inputsFrom};
+ghost use Rattle.tests.specs.Satterthwaite.{satterthwaite as testOf};
+ghost use Rattle.records.specs.Kinds.{satterthwaiteKinds, satterthwaite};
+ghost use Rattle.records.specs.Cells.{slotCount};
+ghost use Rattle.records.specs.File.{count};
+ghost use Rattle.records.specs.Parameters.{kinds, refusal};
+ghost use Rattle.records_sheet.specs.joints.Sheet.{firstSlots, sheetAfter};
+ghost use Rattle.records_ddf.specs.joints.Gathered.{inputsFrom};
 ghost use Rattle.records.specs.SatterthwaiteCall.{number as fileNumber, entry, returned, written};
 use arithmetic_cutoffs::Cutoffs;
 use arithmetic_cutoffs::document_cutoffs;
+use records::Sizes;
 use records_answer_bytes::put_entry;
-use records_satterthwaite::ParameterSizes;
-use records_satterthwaite::refusal;
-use records_satterthwaite::sizes_of;
 use records_sheet_parts::cells_at;
 use records_sheet_parts::six_at;
 use records_sheet_parts::stack_at;
@@ -17,21 +24,50 @@ use tests::Entry;
 use tests_ddf::satterthwaite::satterthwaite_contrast_f_test;
 use tests_entries::no_entry;
 
+// The number with which a file is refused before anything is computed; 0 where it is not, and then the lent sheet holds the file's numbers. The flags are all clear at first and the sheet is all +0, with a
+// slot for every cell that the limits allow.
+fn refusal(s: &[u8], flags: &mut [bool], sheet: &mut [f64]) -> u32
+    requires { ⌜ (now flags ≡ replicate (length (now flags)) false) × (slotCount satterthwaite ≤ length (now flags)) ⌝ }
+    requires { ⌜ (now sheet ≡ replicate (length (now sheet)) plusZero) × (slotCount satterthwaite ≤ length (now sheet)) ⌝ }
+    ensures { λ r. ⌜ r ≡ refusal (now (s .entry)) ⌝ }
+    ensures { λ r. ⌜ (r ≡ 0 → now (sheet .exit) ≡ sheetAfter (length (now (sheet .entry))) (kinds (now (s .entry))) (now (s .entry)) (count (now (s .entry)))) ⌝ }
+{
+    let formed = records_form::form_refusal(1, 1, s, flags);
+    if formed != 0 {
+        return formed;
+    }
+    if records_file::any_not_finite(s) {
+        return 4;
+    }
+    let z = records_sizes::parameter_sizes(s);
+    let firsts = records_sheet::first_slots(1, z);
+    records_sheet::fill_sheet(1, z, &firsts, s, sheet);
+    0
+}
+
 // The test of what the sheet says.
-fn test(c: Cutoffs, sheet: &[f64; 835], z: ParameterSizes, refused: &mut bool) -> Entry
-    requires { ⌜ Small z ⌝ }
-    ensures { λ r. ⌜ r ≡ satterthwaite c (inputsFrom (now (sheet .entry)) z) .entry ⌝ }
-    ensures { λ r. ⌜ now (refused .exit) ≡ satterthwaite c (inputsFrom (now (sheet .entry)) z) .refused ⌝ }
+fn test(c: Cutoffs, sheet: &[f64], firsts: &[usize; 34], z: Sizes, refused: &mut bool) -> Entry
+    requires { ⌜ (z .coefficients ≤ 6) × (z .contrasts ≤ 6) × (z .parameters ≤ 4) ⌝ }
+    requires { ⌜ (now firsts ≡ firstSlots (satterthwaiteKinds z)) × (slotCount (satterthwaiteKinds z) ≤ length (now sheet)) ⌝ }
+    ensures { λ r. ⌜ r ≡ testOf c (inputsFrom (now (sheet .entry)) z) .entry ⌝ }
+    ensures { λ r. ⌜ now (refused .exit) ≡ testOf c (inputsFrom (now (sheet .entry)) z) .refused ⌝ }
 {
     let p = z.coefficients;
     let q = z.contrasts;
     let n = z.parameters;
-    let beta = six_at(sheet, 0, p);
-    let l = cells_at(sheet, 6, 6, q, p);
-    let beta_h = six_at(sheet, 42, p);
-    let v = cells_at(sheet, 48, 6, p, p);
-    let js = stack_at(sheet, 84, n, p);
-    let a = cells_at(sheet, 228, 4, n, n);
+    // β, the contrast, β_H, v, the Jacobians and A start here.
+    let estimates = firsts[8];
+    let contrast = firsts[9];
+    let hypotheses = firsts[10];
+    let variance = firsts[30];
+    let jacobians = firsts[31];
+    let parameters = firsts[32];
+    let beta = six_at(sheet, estimates, p);
+    let l = cells_at(sheet, contrast, q, p);
+    let beta_h = six_at(sheet, hypotheses, records_kinds::given(z.hypothesis, p));
+    let v = cells_at(sheet, variance, p, p);
+    let js = stack_at(sheet, jacobians, n, p);
+    let a = cells_at(sheet, parameters, n, n);
     satterthwaite_contrast_f_test(c, beta, v, l, js, a, beta_h, p, q, n, refused)
 }
 
@@ -40,15 +76,17 @@ pub fn judge(c: Cutoffs, s: &[u8], number: &mut u32) -> Entry
     ensures { λ r. ⌜ r ≡ entry c (now (s .entry)) ⌝ }
     ensures { λ r. ⌜ now (number .exit) ≡ fileNumber c (now (s .entry)) ⌝ }
 {
-    let early = refusal(s);
+    let mut flags = [false; 256];
+    let mut sheet = [0.0; 256];
+    let early = refusal(s, &mut flags, &mut sheet);
     if early != 0 {
         *number = early;
         return no_entry();
     }
-    let z = sizes_of(s);
-    let sheet = records_sheet::sheet_of(true, s);
+    let z = records_sizes::parameter_sizes(s);
+    let firsts = records_sheet::first_slots(1, z);
     let mut refused = false;
-    let e = test(c, &sheet, z, &mut refused);
+    let e = test(c, &sheet, &firsts, z, &mut refused);
     if refused {
         *number = 11;
         return no_entry();
@@ -57,19 +95,27 @@ pub fn judge(c: Cutoffs, s: &[u8], number: &mut u32) -> Entry
     e
 }
 
-// The call: its number, and the entry's 24 bytes where the number is 0. A refusal leaves the lent bytes as they were.
-pub fn call(records: &[u8], answer: &mut [u8]) -> u32
-    ensures { λ r. ⌜ r ≡ returned documentCutoffs (now (records .entry)) (now (answer .entry)) ⌝ }
-    ensures { λ r. ⌜ now (answer .exit) ≡ written documentCutoffs (now (records .entry)) (now (answer .entry)) ⌝ }
+// The call with its cutoffs: its number, and the entry's 24 bytes where the number is 0. A refusal leaves the lent bytes as they were.
+pub fn call_with(c: Cutoffs, records: &[u8], answer: &mut [u8]) -> u32
+    ensures { λ r. ⌜ r ≡ returned c (now (records .entry)) (now (answer .entry)) ⌝ }
+    ensures { λ r. ⌜ now (answer .exit) ≡ written c (now (records .entry)) (now (answer .entry)) ⌝ }
 {
     if answer.len() != 24 {
         return 1;
     }
     let mut number: u32 = 0;
-    let e = judge(document_cutoffs(), records, &mut number);
+    let e = judge(c, records, &mut number);
     if number != 0 {
         return number;
     }
     put_entry(answer, 0, e);
     0
+}
+
+// The call of the office application, with document 01's cutoffs.
+pub fn call(records: &[u8], answer: &mut [u8]) -> u32
+    ensures { λ r. ⌜ r ≡ returned documentCutoffs (now (records .entry)) (now (answer .entry)) ⌝ }
+    ensures { λ r. ⌜ now (answer .exit) ≡ written documentCutoffs (now (records .entry)) (now (answer .entry)) ⌝ }
+{
+    call_with(document_cutoffs(), records, answer)
 }

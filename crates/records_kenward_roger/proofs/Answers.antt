@@ -1,5 +1,5 @@
--- The answer of an accepted file: which entries are in use, what is printed of them, and that the answer bytes give every entry back. Acceptance is the one premise.
-use Prim.Native.Nat.{ℕ, zero, suc, _<_}
+-- The answer of an accepted file: which entries are in use, what is printed of them, and that the answer bytes give every entry back. Acceptance, with a limit of at least one specimen, is the one premise.
+use Prim.Native.Nat.{ℕ, zero, suc, _<_, _≤_}
 use native.Mathlib.Omega.{arith}
 use native.Mathlib.Decide.{ℕ-discrete}
 use mathlib.Core.Path.{_≡_, refl, sym, ap, _∙_}
@@ -29,6 +29,7 @@ use Rattle.records.specs.Series.{coefficients, contrastRows, refusal, beta, bet
 use Rattle.records.specs.Layout.{entryBytes, answerBytes, entryFrom}
 use Rattle.records.specs.Text.{textOf, seriesText}
 use Rattle.records.specs.KenwardRogerCall.{scaled, run, number, entries, returned, written}
+use Rattle.records.proofs.AcceptedSeries.{AcceptedSeries, accepted-series}
 use Rattle.records_series.proofs.Accepted.{limits}
 use Rattle.records_answer_bytes.proofs.LayoutLaws.{Held, number-held, unused-zero, read-back, determined}
 use Rattle.records_answer_text.proofs.TextLaws.{text-accepted}
@@ -107,57 +108,60 @@ run-seven c s beta betaH rows l = go (eqb rows 0)
     go true = alone
     go false = set-seven (coefficientsTo (s .p) c s beta .entries) 6 (contrastTest c s beta betaH rows l .entry) alone (tested-held c s beta betaH (contrastBasis rows (s .p) l))
 
--- ---- for every cutoffs
-module _ (c : Cutoffs) (s : List ℕ) where
-  entries-seven : Seven (entries c s)
+-- ---- for every limit of specimens and every cutoffs
+module _ (w : ℕ) (c : Cutoffs) (s : List ℕ) where
+  entries-seven : Seven (entries w c s)
   unfolding entries run
-  entries-seven = go (eqb (number c s) 0)
+  entries-seven = go (eqb (number w c s) 0)
     where
       go : (b : Bool) → Seven (cond b (run c s .entries) (replicate 7 noEntry))
       go true = run-seven c (scaled c s) (beta s) (betaH s) (contrastRows s) (contrast s)
       go false = none-seven
 
   -- EACH ENTRY IS READ BACK from the answer bytes whole: F, df, the rank and the mark
-  pub file-read-back : (i : ℕ) → i < 7 → entryFrom (answerBytes (entries c s)) i ≡ getD (entries c s) i noEntry
-  file-read-back i l = let e = entries-seven .long in let w = entries-seven .held i in read-back (entries c s) i noEntry (omega arith) (w .0) (w .1)
+  pub file-read-back : (i : ℕ) → i < 7 → entryFrom (answerBytes (entries w c s)) i ≡ getD (entries w c s) i noEntry
+  file-read-back i l = let e = entries-seven .long in let k = entries-seven .held i in read-back (entries w c s) i noEntry (omega arith) (k .0) (k .1)
 
   -- the same of the 168 bytes that an accepting call has filled
-  pub call-read-back : (answer : List ℕ) → returned c s answer ≡ 0 → (i : ℕ) → i < 7 → entryFrom (written c s answer) i ≡ getD (entries c s) i noEntry
+  pub call-read-back : (answer : List ℕ) → returned w c s answer ≡ 0 → (i : ℕ) → i < 7 → entryFrom (written w c s answer) i ≡ getD (entries w c s) i noEntry
   unfolding written
-  call-read-back answer h i l = rw (eq-eqb (returned c s answer) 0 h) (file-read-back i l)
+  call-read-back answer h i l = rw (eq-eqb (returned w c s answer) 0 h) (file-read-back i l)
 
-  module _ (h : number c s ≡ 0) where
-    taken : refusal s ≡ 0
-    taken = go (ℕ-discrete (refusal s) 0)
+  module _ (some : 1 ≤ w) (h : number w c s ≡ 0) where
+    taken : refusal w s ≡ 0
+    taken = go (ℕ-discrete (refusal w s) 0)
       where
-        go : Dec (refusal s ≡ 0) → refusal s ≡ 0
+        go : Dec (refusal w s ≡ 0) → refusal w s ≡ 0
         go (yes e) = e
-        go (no n) = early-number c s (refusal s) refl n ∙ h
+        go (no n) = early-number w c s (refusal w s) refl n ∙ h
+
+    facts : AcceptedSeries w s
+    facts = accepted-series w s taken
 
     -- AN ENTRY IS IN USE EXACTLY WHERE ITS RANK IS NOT 0: those of the file's coefficients, and entry 6 where the file has a contrast
-    pub file-in-use : (i : ℕ) → inUse (coefficients s) (contrastRows s) i ≡ not (eqb (getD (entries c s) i noEntry .rank) 0)
+    pub file-in-use : (i : ℕ) → inUse (coefficients s) (contrastRows s) i ≡ not (eqb (getD (entries w c s) i noEntry .rank) 0)
     unfolding run scaled scaledBy
     file-in-use i =
-        in-use-is c (scaled c s) (beta s) (betaH s) (contrastRows s) (contrast s) (limits s taken .coefficients) (limits s taken .contrasts) (contrast-given s taken) i
-        ∙ ap (λ (es : List Entry). not (eqb (getD es i noEntry .rank) 0)) (run-entries c s (run c s .entries) refl (sym h))
+        in-use-is c (scaled c s) (beta s) (betaH s) (contrastRows s) (contrast s) (limits w some s facts .coefficients) (limits w some s facts .contrasts) (contrast-given w some s facts) i
+        ∙ ap (λ (es : List Entry). not (eqb (getD es i noEntry .rank) 0)) (run-entries w c s (run c s .entries) refl (sym h))
 
     -- WHAT IS PRINTED: a `coef` line for each coefficient, and a `test` line exactly where the file has a contrast
-    pub text-is : textOf (number c s) (entries c s) ≡ seriesText (coefficients s) (contrastRows s) (entries c s)
-    text-is = sym (text-accepted (number c s) (entries c s) h) ∙ lines-are (coefficients s) (contrastRows s) (entries c s) (limits s taken .coefficients) file-in-use
+    pub text-is : textOf (number w c s) (entries w c s) ≡ seriesText (coefficients s) (contrastRows s) (entries w c s)
+    text-is = sym (text-accepted (number w c s) (entries w c s) h) ∙ lines-are (coefficients s) (contrastRows s) (entries w c s) (limits w some s facts .coefficients) file-in-use
 
     -- "Unused entries are zero."
-    pub unused-bytes : (i : ℕ) → inUse (coefficients s) (contrastRows s) i ≡ false → entryBytes (getD (entries c s) i noEntry) ≡ replicate 24 0
+    pub unused-bytes : (i : ℕ) → inUse (coefficients s) (contrastRows s) i ≡ false → entryBytes (getD (entries w c s) i noEntry) ≡ replicate 24 0
     unfolding run scaled scaledBy
     unused-bytes i e =
-        ap (λ (es : List Entry). entryBytes (getD es i noEntry)) (sym (run-entries c s (run c s .entries) refl (sym h)))
+        ap (λ (es : List Entry). entryBytes (getD es i noEntry)) (sym (run-entries w c s (run c s .entries) refl (sym h)))
         ∙ ap entryBytes (unused-entry c (scaled c s) (beta s) (betaH s) (contrastRows s) (contrast s) i e) ∙ unused-zero
 
 -- SO THE BYTES DETERMINE THE ANSWER: equal bytes are equal entries
-pub file-determined : (c d : Cutoffs) (s t : List ℕ) → answerBytes (entries c s) ≡ answerBytes (entries d t) → entries c s ≡ entries d t
-file-determined c d s t same =
-    let a = entries-seven c s in
-    let b = entries-seven d t in
+pub file-determined : (w v : ℕ) (c d : Cutoffs) (s t : List ℕ) → answerBytes (entries w c s) ≡ answerBytes (entries v d t) → entries w c s ≡ entries v d t
+file-determined w v c d s t same =
+    let a = entries-seven w c s in
+    let b = entries-seven v d t in
     let m = a .long in
     let n = b .long in
-    ext-getD noEntry (entries c s) (entries d t) (m ∙ sym n)
-    (λ i l. determined (entries c s) (entries d t) i noEntry l (omega arith) (a .held i .0) (a .held i .1) (b .held i .0) (b .held i .1) same)
+    ext-getD noEntry (entries w c s) (entries v d t) (m ∙ sym n)
+    (λ i l. determined (entries w c s) (entries v d t) i noEntry l (omega arith) (a .held i .0) (a .held i .1) (b .held i .0) (b .held i .1) same)

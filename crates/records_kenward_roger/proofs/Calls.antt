@@ -1,61 +1,175 @@
--- What the code reads off a file's sheet is the series of the file, and so the adjustment and the run are the file's own.
-use Prim.Native.Nat.{ℕ, _+_, _≤_}
+-- What the code reads off a series' sheet is the series of the file, and so the adjustment and the run are the file's own.
+use Prim.Native.Nat.{ℕ, _+_, _-_, _*_, _<_, _≤_}
 use native.Mathlib.Omega.{arith}
 use mathlib.Core.Path.{_≡_, refl, ap, ap₂, _∙_}
+use mathlib.Core.Bool.{Bool, true, false, cond, _&&_}
 use mathlib.Core.List.{List}
-use lib.ListN.{getD, length, take, drop, replicate, length-replicate, length-drop}
-use lib.Seq.{length-take-le}
-use Rattle.arithmetic.specs.Numbers.{plusZero}
-use Rattle.algebra.proofs.FoldLaws.{length-span}
-use Rattle.adjustment_covariance.specs.joints.Bounds.{Sound}
+use lib.ListN.{getD, length, take, drop}
 use lib.Ieee.{Float, nan}
-use Rattle.algebra.specs.Table.{row}
-use Rattle.algebra_large.specs.joints.Slab.{rowsAt}
-use Rattle.adjustment.specs.declared.Block.{Block}
 use Rattle.arithmetic_cutoffs.specs.declared.Cutoffs.{Cutoffs}
+use Rattle.algebra.specs.Table.{row}
 use Rattle.algebra.specs.Small.{Rows}
+use Rattle.algebra_large.specs.joints.Slab.{rowsAt, Holds}
+use Rattle.adjustment.specs.declared.Block.{Block}
 use Rattle.adjustment.specs.Blocks.{noBlock, columnsBefore, placesBefore}
 use Rattle.adjustment.specs.Covariance.{Design, matrices}
 use Rattle.adjustment.specs.Adjusted.{Adjustment, adjustment, adjustmentRefusal}
+use Rattle.adjustment_covariance.specs.joints.Bounds.{Sound}
 use Rattle.adjustment_covariance.specs.joints.Lent.{Lent}
-use Rattle.tests.specs.KenwardRoger.{runOf}
-use Rattle.tests_run.specs.joints.Units.{responseUnits}
-use Rattle.tests_run.proofs.RunLaws.{response-units-is}
-use Rattle.records.specs.Kinds.{kenwardRoger}
-use Rattle.records.specs.File.{count, present}
-use Rattle.records_file.specs.joints.Sheet.{sheetAfter}
-use Rattle.records.specs.Series.{specimens, coefficients, zColumns, blockCount, thetas, blockOf, refusal, design, phi, sigma2}
-use Rattle.records_file.proofs.Sheets.{length-sheet}
-use Rattle.records_series.specs.declared.SeriesSizes.{SeriesSizes}
-use Rattle.records_series.specs.joints.Gathered.{sizesOf, Small}
-use Rattle.records_sheet_parts.specs.joints.Parts.{numbersAt, cellsAt}
-use Rattle.records_series.proofs.Gathers.{small}
-use Rattle.records.proofs.AcceptedSeries.{AcceptedSeries, accepted-series}
-use Rattle.records_series.proofs.Accepted.{limits, sound-blocks}
-use Rattle.records_series.proofs.Numbers.{sigma2-at}
-use Rattle.records_series.proofs.Values.{x-read, z-read, weights-read, theta-read, phi-read, beta-read, beta-h-read, contrast-read}
 use Rattle.adjustment_work.specs.joints.Work.{designOf}
 use Rattle.adjustment_adjusted.specs.joints.FromInformation.{accepted as kept}
+use Rattle.tests.specs.KenwardRoger.{Scaled, runOf}
+use Rattle.tests_run.specs.joints.Units.{responseUnits}
+use Rattle.tests_run.proofs.RunLaws.{response-units-is}
+use Rattle.records.specs.declared.Sizes.{Sizes}
+use Rattle.records.specs.Kinds.{width, Table, kindAt, kindsOf, kindNumbers, kenwardRogerKinds, kenwardRoger, limits}
+use Rattle.records.specs.Cells.{slots, firstSlot, slotCount}
+use Rattle.records.specs.File.{count, present}
+use Rattle.records.specs.Series.{specimens, coefficients, zColumns, blockCount, thetas, contrastRows, weightCount, sizes, kinds, blockOf, design, phi, sigma2, beta, betaH, contrast}
 use Rattle.records.specs.KenwardRogerCall.{adjusted, scaled, run}
+use Rattle.records.proofs.ScanLaws.{total-le}
+use Rattle.records.proofs.AcceptedSeries.{AcceptedSeries, accepted-series}
+use Rattle.records.proofs.Limits.{Below, series-below, fewer-slots}
+use Rattle.records_sheet.specs.joints.Sheet.{Small, sheetAfter}
+use Rattle.records_sheet.proofs.Sheets.{firsts-at, next-start, ends-within, below-small}
+use Rattle.records_sheet.proofs.Bounds.{all-bound}
+use Rattle.records_sheet_parts.specs.joints.Parts.{numbersAt, cellsAt}
+use Rattle.records_sheet_parts.proofs.Read.{Flat, flat-slots, alone-cell, numbers-read, given-read, cells-read, part-line, part-table, part-length}
+use Rattle.records_series.proofs.Accepted.{limits as limits-of, sound-blocks}
+use Rattle.records_refusals.specs.joints.Room.{SeriesRead}
 
-length-numbers : (xs : List Float) (C at n : ℕ) → length (numbersAt xs C at n) ≡ C
-unfolding numbersAt row
-length-numbers xs C at n = length-span 0 n (λ i. getD xs (at + i) nan) (replicate C plusZero) ∙ length-replicate C plusZero
+-- ---- the kinds of a series, by their rows and columns
+module _ (s : List ℕ) where
+  flat-x : Flat (kindAt (kinds s) 1) (specimens s) (coefficients s)
+  unfolding kindAt kenwardRogerKinds sizes width
+  flat-x = record { number = refl; row = refl; column = refl }
 
-abbrev pub sheetOf : List ℕ → List Float
-sheetOf s = sheetAfter kenwardRoger s (count s)
+  flat-z : Flat (kindAt (kinds s) 2) (specimens s) (zColumns s)
+  unfolding kindAt kenwardRogerKinds sizes width
+  flat-z = record { number = refl; row = refl; column = refl }
 
-module _ (s : List ℕ) (h : refusal s ≡ 0) where
-  abbrev facts : AcceptedSeries s
-  facts = accepted-series s h
+  flat-theta : Flat (kindAt (kinds s) 4) (thetas s) 1
+  unfolding kindAt kenwardRogerKinds sizes width
+  flat-theta = record { number = refl; row = refl; column = refl }
 
-  x-rows : rowsAt 6 0 (specimens s) (coefficients s) (take 144 (drop 0 (sheetOf s))) ≡ design s .x
-  unfolding rowsAt
-  x-rows = x-read s (facts .good)
+  flat-weight : Flat (kindAt (kinds s) 5) (weightCount s) 1
+  unfolding kindAt kenwardRogerKinds sizes width
+  flat-weight = record { number = refl; row = refl; column = refl }
 
-  z-rows : rowsAt 24 0 (specimens s) (zColumns s) (take 576 (drop 144 (sheetOf s))) ≡ design s .z
-  unfolding rowsAt
-  z-rows = z-read s (facts .good)
+  flat-phi : Flat (kindAt (kinds s) 6) (coefficients s) (coefficients s)
+  unfolding kindAt kenwardRogerKinds sizes width
+  flat-phi = record { number = refl; row = refl; column = refl }
+
+  flat-sigma2 : Flat (kindAt (kinds s) 7) 1 1
+  unfolding kindAt kenwardRogerKinds sizes width
+  flat-sigma2 = record { number = refl; row = refl; column = refl }
+
+  flat-beta : Flat (kindAt (kinds s) 8) (coefficients s) 1
+  unfolding kindAt kenwardRogerKinds sizes width
+  flat-beta = record { number = refl; row = refl; column = refl }
+
+  flat-contrast : Flat (kindAt (kinds s) 9) (contrastRows s) (coefficients s)
+  unfolding kindAt kenwardRogerKinds sizes width
+  flat-contrast = record { number = refl; row = refl; column = refl }
+
+  abbrev hypotheses : ℕ
+  hypotheses = cond (present s 10 && present s 9) (coefficients s) 0
+
+  flat-hypothesis : Flat (kindAt (kinds s) 10) hypotheses 1
+  unfolding kindAt kenwardRogerKinds sizes width
+  flat-hypothesis = record { number = refl; row = refl; column = refl }
+
+-- the numbers of kind k as they are lent, from its first slot to the next kind's
+abbrev pub partOf : List ℕ → List Float → ℕ → List Float
+partOf fs xs k = take (getD fs (k + 1) 0 - getD fs k 0) (drop (getD fs k 0) xs)
+
+firsts-rise : (t : Table) (k m : ℕ) → k ≤ m → firstSlot t k ≤ firstSlot t m
+unfolding firstSlot
+firsts-rise t k m l = total-le k m (λ j. slots (kindAt t j)) l
+
+-- ---- a series that the reader takes, on its sheet
+module _ (w : ℕ) (s : List ℕ) (fs : List ℕ) (xs : List Float) (h : SeriesRead w s (sizes s) fs xs) where
+  facts : AcceptedSeries w s
+  facts = accepted-series w s (h .taken)
+
+  below : Below (sizes s) (limits w)
+  below = series-below w (h .some) s (facts .good)
+
+  room : slotCount (kinds s) ≤ length xs
+  unfolding kindsOf
+  room = let a : slotCount (kinds s) ≤ slotCount (kenwardRoger w) = fewer-slots (sizes s) (limits w) below 0 kindNumbers in let b = h .written in omega arith
+
+  abbrev sheet : List Float
+  sheet = sheetAfter (length xs) (kinds s) s (count s)
+
+  starts-at : (k : ℕ) → k < 34 → getD fs k 0 ≡ firstSlot (kinds s) k
+  starts-at k l = ap (λ (l : List ℕ). getD l k 0) (h .starts) ∙ firsts-at (kinds s) k l
+
+  -- where a kind ends
+  ends-at : (k r c : ℕ) → k < kindNumbers → Flat (kindAt (kinds s) k) r c → getD fs k 0 + r * c ≤ length xs
+  ends-at k r c l f =
+      let a = starts-at k (omega arith) in
+      let b = ends-within (kinds s) k l in
+      let d = flat-slots (kindAt (kinds s) k) r c f in
+      let e = room in
+      omega arith
+
+  span-of : (k r c : ℕ) → k < kindNumbers → Flat (kindAt (kinds s) k) r c → getD fs (k + 1) 0 - getD fs k 0 ≡ r * c
+  span-of k r c l f =
+      let a = starts-at k (omega arith) in
+      let b = starts-at (k + 1) (omega arith) in
+      let d = flat-slots (kindAt (kinds s) k) r c f in
+      let e = next-start (kinds s) k in
+      omega arith
+
+  x-rows : rowsAt (coefficients s) 0 (specimens s) (coefficients s) (take (specimens s * coefficients s) (drop (firstSlot (kinds s) 1) sheet)) ≡ design s .x
+  unfolding design kindsOf
+  x-rows = part-table 0 (sizes s) s (facts .within) (length xs) room 1 (specimens s) (coefficients s) (flat-x s)
+
+  z-rows : rowsAt (zColumns s) 0 (specimens s) (zColumns s) (take (specimens s * zColumns s) (drop (firstSlot (kinds s) 2) sheet)) ≡ design s .z
+  unfolding design kindsOf
+  z-rows = part-table 0 (sizes s) s (facts .within) (length xs) room 2 (specimens s) (zColumns s) (flat-z s)
+
+  weights-are : take (weightCount s) (drop (firstSlot (kinds s) 5) sheet) ≡ design s .weights
+  unfolding design kindsOf
+  weights-are = part-line 0 (sizes s) s (facts .within) (length xs) room 5 (weightCount s) (omega arith) (flat-weight s)
+
+  theta-are : numbersAt sheet 3 (firstSlot (kinds s) 4) (thetas s) ≡ design s .theta
+  unfolding design kindsOf
+  theta-are = numbers-read 0 (sizes s) s (facts .within) (length xs) room 3 4 (thetas s) (flat-theta s)
+
+  phi-are : cellsAt sheet (firstSlot (kinds s) 6) (coefficients s) (coefficients s) ≡ phi s
+  unfolding phi kindsOf
+  phi-are = cells-read 0 (sizes s) s (facts .within) (length xs) room 6 (coefficients s) (coefficients s) (flat-phi s)
+
+  sigma2-is : getD sheet (firstSlot (kinds s) 7) nan ≡ sigma2 s
+  unfolding kindsOf
+  sigma2-is = alone-cell 0 (sizes s) s (facts .within) (length xs) room 7 (flat-sigma2 s)
+
+  beta-are : numbersAt sheet 6 (firstSlot (kinds s) 8) (coefficients s) ≡ beta s
+  unfolding beta kindsOf
+  beta-are = numbers-read 0 (sizes s) s (facts .within) (length xs) room 6 8 (coefficients s) (flat-beta s)
+
+  contrast-are : cellsAt sheet (firstSlot (kinds s) 9) (contrastRows s) (coefficients s) ≡ contrast s
+  unfolding contrast kindsOf
+  contrast-are = cells-read 0 (sizes s) s (facts .within) (length xs) room 9 (contrastRows s) (coefficients s) (flat-contrast s)
+
+  -- "(β_H is then 0)": where the file has none, or no contrast, no record names a cell of it
+  hypothesis-are : numbersAt sheet 6 (firstSlot (kinds s) 10) (hypotheses s) ≡ betaH s
+  unfolding betaH kindsOf
+  hypothesis-are = given-read 0 (sizes s) s (facts .within) (length xs) room 6 10 (coefficients s) (present s 10 && present s 9) (flat-hypothesis s)
+
+  -- ---- the adjustment and the run from the parts
+  part-is : (k r c : ℕ) → k < kindNumbers → Flat (kindAt (kinds s) k) r c → partOf fs xs k ≡ take (r * c) (drop (firstSlot (kinds s) k) sheet)
+  part-is k r c l f =
+      let a = span-of k r c l f in
+      let b = starts-at k (omega arith) in
+      let d = h .numbers in
+      ap₂ (λ (m : ℕ) (q : List Float). take m q) a (ap₂ (λ (j : ℕ) (q : List Float). drop j q) b d)
+
+  pub part-long : (k r c : ℕ) → k < kindNumbers → Flat (kindAt (kinds s) k) r c → length (partOf fs xs k) ≡ r * c
+  unfolding kindsOf
+  part-long k r c l f = ap length (part-is k r c l f) ∙ part-length 0 (sizes s) s (facts .within) (length xs) room k (r * c) l (flat-slots (kindAt (kinds s) k) r c f)
 
   abbrev made : Rows → Rows → List Float → List Float → Design
   made x z w t = record {
@@ -70,112 +184,203 @@ module _ (s : List ℕ) (h : refusal s ≡ 0) where
     theta = t;
   }
 
+  one-column : (m : ℕ) → m * 1 ≡ m
+  one-column m = omega arith
+
+  theta-lent : numbersAt xs 3 (getD fs 4 0) (thetas s) ≡ design s .theta
+  theta-lent = ap₂ (λ (q : List Float) (j : ℕ). numbersAt q 3 j (thetas s)) (h .numbers) (starts-at 4 (omega arith)) ∙ theta-are
+
+  phi-lent : cellsAt xs (getD fs 6 0) (coefficients s) (coefficients s) ≡ phi s
+  phi-lent = ap₂ (λ (q : List Float) (j : ℕ). cellsAt q j (coefficients s) (coefficients s)) (h .numbers) (starts-at 6 (omega arith)) ∙ phi-are
+
+  sigma2-lent : getD xs (getD fs 7 0) nan ≡ sigma2 s
+  sigma2-lent = ap₂ (λ (q : List Float) (j : ℕ). getD q j nan) (h .numbers) (starts-at 7 (omega arith)) ∙ sigma2-is
+
   -- the design, as it is lent
-  own : designOf (sizesOf s .specimens) (sizesOf s .coefficients) (take 144 (drop 0 (sheetOf s))) 6 (take 576 (drop 144 (sheetOf s))) 24 (sizesOf s .columns) (sizesOf s .weighted)
-      (numbersAt (sheetOf s) 24 726 (sizesOf s .specimens)) (row noBlock 3 (sizesOf s .blocks) (blockOf s)) (sizesOf s .blocks) (numbersAt (sheetOf s) 3 723 (sizesOf s .thetas))
-      ≡ design s
-  unfolding sizesOf design
+  own : designOf (specimens s) (coefficients s) (partOf fs xs 1) (coefficients s) (partOf fs xs 2) (zColumns s) (zColumns s) (present s 5) (partOf fs xs 5) (row noBlock 3 (blockCount s) (blockOf s)) (blockCount s)
+      (numbersAt xs 3 (getD fs 4 0) (thetas s)) ≡ design s
+  unfolding design
   own =
-      let z : Rows = rowsAt 24 0 (specimens s) (zColumns s) (take 576 (drop 144 (sheetOf s))) in
-      let w : List Float = numbersAt (sheetOf s) 24 726 (specimens s) in
-      let t : List Float = numbersAt (sheetOf s) 3 723 (thetas s) in
-      ap (λ (x : Rows). made x z w t) x-rows
-      ∙ ap (λ (z : Rows). made (design s .x) z w t) z-rows
-      ∙ ap (λ (w : List Float). made (design s .x) (design s .z) w t) (weights-read s (facts .good))
-      ∙ ap (λ (t : List Float). made (design s .x) (design s .z) (design s .weights) t) (theta-read s (facts .good))
+      let ex = part-is 1 (specimens s) (coefficients s) (omega arith) (flat-x s) in
+      let ez = part-is 2 (specimens s) (zColumns s) (omega arith) (flat-z s) in
+      let ew = part-is 5 (weightCount s) 1 (omega arith) (flat-weight s) ∙ ap (λ (m : ℕ). take m (drop (firstSlot (kinds s) 5) sheet)) (one-column (weightCount s)) in
+      let x : Rows = rowsAt (coefficients s) 0 (specimens s) (coefficients s) (partOf fs xs 1) in
+      let z : Rows = rowsAt (zColumns s) 0 (specimens s) (zColumns s) (partOf fs xs 2) in
+      let t : List Float = numbersAt xs 3 (getD fs 4 0) (thetas s) in
+      ap (λ (y : Rows). made y z (partOf fs xs 5) t) (ap (λ (q : List Float). rowsAt (coefficients s) 0 (specimens s) (coefficients s) q) ex ∙ x-rows)
+      ∙ ap (λ (y : Rows). made (design s .x) y (partOf fs xs 5) t) (ap (λ (q : List Float). rowsAt (zColumns s) 0 (specimens s) (zColumns s) q) ez ∙ z-rows)
+      ∙ ap (λ (y : List Float). made (design s .x) (design s .z) y t) (ew ∙ weights-are)
+      ∙ ap (λ (y : List Float). made (design s .x) (design s .z) (design s .weights) y) theta-lent
 
-  own-sound : Sound (row noBlock 3 (sizesOf s .blocks) (blockOf s)) (sizesOf s .blocks)
-  unfolding sizesOf design
+  own-sound : Sound (row noBlock 3 (blockCount s) (blockOf s)) (blockCount s)
+  unfolding design
   own-sound =
-      let b = sound-blocks s h in
-      record { few = b .few; small = b .small; counted = (let e = b .counted in let l = limits s h .columns in omega arith); thetas = b .thetas }
+      let b = sound-blocks w (h .some) s facts in
+      record { few = b .few; small = b .small; counted = (let e = b .counted in let l = limits-of w (h .some) s facts .columns in let m = h .most in omega arith); thetas = b .thetas }
 
-  own-columns : columnsBefore (row noBlock 3 (sizesOf s .blocks) (blockOf s)) (sizesOf s .blocks) ≡ sizesOf s .columns
-  unfolding sizesOf design
-  own-columns = sound-blocks s h .counted
+  own-columns : columnsBefore (row noBlock 3 (blockCount s) (blockOf s)) (blockCount s) ≡ zColumns s
+  unfolding design
+  own-columns = sound-blocks w (h .some) s facts .counted
 
-  own-run : (c : Cutoffs) → runOf c (responseUnits (sizesOf s .coefficients) (matrices (design s)) (cellsAt (sheetOf s) 750 6 (sizesOf s .coefficients) (sizesOf s .coefficients)) (adjusted c s .phiA) (adjusted c s .ps) (adjusted c s .w) (getD (sheetOf s) 786 nan)) (numbersAt (sheetOf s) 6 787 (sizesOf s .coefficients)) (numbersAt (sheetOf s) 6 829 (sizesOf s .coefficients)) (sizesOf s .contrasts) (cellsAt (sheetOf s) 793 6 (sizesOf s .contrasts) (sizesOf s .coefficients)) ≡ run c s
-  unfolding run scaled sizesOf
-  own-run c = rw (phi-read s (facts .good), beta-read s (facts .good), beta-h-read s (facts .good), contrast-read s (facts .good), sigma2-at s (facts .good), response-units-is (coefficients s) (matrices (design s)) (phi s) (sigma2 s) (adjusted c s))
+  own-places : placesBefore (row noBlock 3 (blockCount s) (blockOf s)) (blockCount s) + 1 ≡ matrices (design s)
+  unfolding design
+  own-places = refl
 
-  module _ (z : SeriesSizes) (xs : List Float) (ez : z ≡ sizesOf s) (ex : xs ≡ sheetOf s) where
-    -- the parts of the sheet that are lent as X and Z
-    part-length : (n m : ℕ) → n + m ≤ 835 → length (take m (drop n xs)) ≡ m
-    part-length n m l =
-        let e : length xs ≡ 835 = ap length ex ∙ length-sheet kenwardRoger s (count s) in
-        let d = length-drop n xs in
-        length-take-le m (drop n xs) (omega arith)
+  own-few : matrices (design s) ≤ 4
+  unfolding design
+  own-few = let b = sound-blocks w (h .some) s facts .thetas in omega arith
 
-    pub x-length : length (take 144 (drop 0 xs)) ≡ 144
-    x-length = part-length 0 144 (omega arith)
+  -- what the adjustment asks of the lent design
+  own-lent : Lent (specimens s) (zColumns s) (zColumns s) (partOf fs xs 2) (present s 5) (partOf fs xs 5) (row noBlock 3 (blockCount s) (blockOf s)) (blockCount s)
+  own-lent = record {
+    sound = own-sound;
+    within = let e = own-columns in omega arith;
+    held = record { wide = omega arith; fits = (let e = part-long 2 (specimens s) (zColumns s) (omega arith) (flat-z s) in omega arith) };
+    weighed = λ e. let k = part-long 5 (weightCount s) 1 (omega arith) (flat-weight s) in let m : weightCount s ≡ specimens s = ap (λ (b : Bool). cond b (specimens s) 0) e in omega arith;
+  }
 
-    pub z-length : length (take 576 (drop 144 xs)) ≡ 576
-    z-length = part-length 144 576 (omega arith)
+  own-holds : Holds (coefficients s) 0 (specimens s) (coefficients s) (length (partOf fs xs 1))
+  own-holds = record { wide = omega arith; fits = (let e = part-long 1 (specimens s) (coefficients s) (omega arith) (flat-x s) in omega arith) }
 
-    pub small-is : Small z
-    small-is = rw ez (small s (facts .good))
+  own-run : (c : Cutoffs)
+      → runOf c (responseUnits (coefficients s) (matrices (design s)) (cellsAt xs (getD fs 6 0) (coefficients s) (coefficients s)) (adjusted c s .phiA) (adjusted c s .ps) (adjusted c s .w) (getD xs (getD fs 7 0) nan))
+      (numbersAt xs 6 (getD fs 8 0) (coefficients s)) (numbersAt xs 6 (getD fs 10 0) (hypotheses s)) (contrastRows s) (cellsAt xs (getD fs 9 0) (contrastRows s) (coefficients s))
+      ≡ run c s
+  unfolding run scaled
+  own-run c =
+      rw (phi-lent, ap₂ (λ (q : List Float) (j : ℕ). numbersAt q 6 j (coefficients s)) (h .numbers) (starts-at 8 (omega arith)) ∙ beta-are, ap₂ (λ (q : List Float) (j : ℕ). numbersAt q 6 j (hypotheses s)) (h .numbers) (starts-at 10 (omega arith)) ∙ hypothesis-are, ap₂ (λ (q : List Float) (j : ℕ). cellsAt q j (contrastRows s) (coefficients s)) (h .numbers) (starts-at 9 (omega arith)) ∙ contrast-are, sigma2-lent)
+      (ap (λ (q : Scaled). runOf c q (beta s) (betaH s) (contrastRows s) (contrast s)) (response-units-is (coefficients s) (matrices (design s)) (phi s) (sigma2 s) (adjusted c s)))
 
-    pub lent-sound : (blocks : List Block) → blocks ≡ row noBlock 3 (z .blocks) (blockOf s) → Sound blocks (z .blocks)
-    lent-sound blocks eb = rw (eb, ez) own-sound
+-- ---- the same with the sizes that the code has at hand
+module _ (w : ℕ) (s : List ℕ) (z : Sizes) (fs : List ℕ) (xs : List Float) (h : SeriesRead w s z fs xs) where
+  read : SeriesRead w s (sizes s) fs xs
+  read = record { some = h .some; most = h .most; taken = h .taken; sized = refl; starts = h .starts; numbers = h .numbers; written = h .written }
 
-    -- what the adjustment asks of the lent design
-    pub lent-is : (blocks : List Block) (weights : List Float) → blocks ≡ row noBlock 3 (z .blocks) (blockOf s) → weights ≡ numbersAt xs 24 726 (z .specimens) → (cs : List Float)
-        → length cs ≡ 576 → Lent (z .specimens) 24 (z .columns) cs (z .weighted) weights blocks (z .blocks)
-    lent-is blocks weights eb ew cs ec = record {
-      sound = lent-sound blocks eb;
-      within = let e : columnsBefore blocks (z .blocks) ≡ z .columns = rw (eb, ez) own-columns in omega arith;
-      held = record { wide = small-is .columns; fits = omega (arith, small-is .specimens, small-is .columns) };
-      weighed = λ _. let e : length weights ≡ 24 = ap length ew ∙ length-numbers xs 24 726 (z .specimens) in omega (arith, small-is .specimens);
-    }
+  -- document 01's limits
+  pub bounds-are : Below z (limits w)
+  bounds-are = rw (h .sized) (below w s fs xs read)
 
-    pub design-is : (blocks : List Block) (theta weights : List Float) → blocks ≡ row noBlock 3 (z .blocks) (blockOf s) → theta ≡ numbersAt xs 3 723 (z .thetas)
-        → weights ≡ numbersAt xs 24 726 (z .specimens)
-        → designOf (z .specimens) (z .coefficients) (take 144 (drop 0 xs)) 6 (take 576 (drop 144 xs)) 24 (z .columns) (z .weighted) weights blocks (z .blocks) theta ≡ design s
-    design-is blocks theta weights eb et ew = rw (eb, et, ew, ez, ex) own
+  pub small-are : Small z
+  small-are = below-small z w (h .most) bounds-are
 
-    pub phi-is : (m : Rows) → m ≡ cellsAt xs 750 6 (z .coefficients) (z .coefficients) → m ≡ phi s
-    phi-is m e = e ∙ rw (ez, ex) (phi-read s (facts .good))
+  pub specimens-within : z .specimens ≤ w
+  unfolding limits
+  specimens-within = bounds-are .specimens
 
-    pub sigma2-is : getD xs 786 nan ≡ sigma2 s
-    sigma2-is = rw ex (sigma2-at s (facts .good))
+  pub few-coefficients : z .coefficients ≤ 6
+  unfolding limits
+  few-coefficients = bounds-are .coefficients
+
+  pub few-blocks : z .blocks ≤ 3
+  unfolding limits
+  few-blocks = bounds-are .blocks
+
+  pub few-thetas : z .thetas ≤ 3
+  unfolding limits
+  few-thetas = bounds-are .thetas
+
+  pub few-contrasts : z .contrasts ≤ 6
+  unfolding limits
+  few-contrasts = bounds-are .contrasts
+
+  pub few-hypotheses : cond (z .hypothesis) (z .coefficients) 0 ≤ 6
+  few-hypotheses = go (z .hypothesis) few-coefficients
+    where
+      go : (b : Bool) → z .coefficients ≤ 6 → cond b (z .coefficients) 0 ≤ 6
+      go true l = l
+      go false l = omega arith
+
+  -- where the kinds start: in their order, within the sheet, and so low that their bytes can be counted
+  pub in-order : (k : ℕ) → k < 33 → getD fs k 0 ≤ getD fs (k + 1) 0
+  in-order k l =
+      let a = starts-at w s fs xs read k (omega arith) in
+      let b = starts-at w s fs xs read (k + 1) (omega arith) in
+      let e = next-start (kinds s) k in
+      omega arith
+
+  pub start-within : (k : ℕ) → k ≤ 33 → (getD fs k 0 ≤ length xs) × (getD fs k 0 ≤ 553648128)
+  unfolding kindsOf
+  start-within k l =
+      let a = starts-at w s fs xs read k (omega arith) in
+      let b : firstSlot (kinds s) k ≤ slotCount (kinds s) = firsts-rise (kinds s) k kindNumbers l in
+      let d = room w s fs xs read in
+      let e : firstSlot (kinds s) k ≤ 553648128 = all-bound 0 (sizes s) (below-small (sizes s) w (h .most) (below w s fs xs read)) k l in
+      (omega arith, omega arith)
+
+  pub sigma2-place : getD fs 7 0 < length xs
+  sigma2-place = let a = ends-at w s fs xs read 7 1 1 (omega arith) (flat-sigma2 s) in omega arith
+
+  pub theta-ends : getD fs 4 0 + z .thetas ≤ length xs
+  unfolding sizes
+  theta-ends = rw (h .sized) (let a = ends-at w s fs xs read 4 (thetas s) 1 (omega arith) (flat-theta s) in omega arith)
+
+  pub phi-ends : getD fs 6 0 + z .coefficients * z .coefficients ≤ length xs
+  unfolding sizes
+  phi-ends = rw (h .sized) (ends-at w s fs xs read 6 (coefficients s) (coefficients s) (omega arith) (flat-phi s))
+
+  pub beta-ends : getD fs 8 0 + z .coefficients ≤ length xs
+  unfolding sizes
+  beta-ends = rw (h .sized) (let a = ends-at w s fs xs read 8 (coefficients s) 1 (omega arith) (flat-beta s) in omega arith)
+
+  pub contrast-ends : getD fs 9 0 + z .contrasts * z .coefficients ≤ length xs
+  unfolding sizes
+  contrast-ends = rw (h .sized) (ends-at w s fs xs read 9 (contrastRows s) (coefficients s) (omega arith) (flat-contrast s))
+
+  pub hypothesis-ends : getD fs 10 0 + cond (z .hypothesis) (z .coefficients) 0 ≤ length xs
+  unfolding sizes
+  hypothesis-ends = rw (h .sized) (let a = ends-at w s fs xs read 10 (hypotheses s) 1 (omega arith) (flat-hypothesis s) in omega arith)
+
+  pub holds-is : Holds (z .coefficients) 0 (z .specimens) (z .coefficients) (length (partOf fs xs 1))
+  unfolding sizes
+  holds-is = rw (h .sized) (own-holds w s fs xs read)
+
+  module _ (blocks : List Block) (eb : blocks ≡ row noBlock 3 (z .blocks) (blockOf s)) where
+    pub lent-sound : Sound blocks (z .blocks)
+    unfolding sizes
+    lent-sound = rw (eb, h .sized) (own-sound w s fs xs read)
+
+    pub lent-is : Lent (z .specimens) (z .columns) (z .columns) (partOf fs xs 2) (z .weighted) (partOf fs xs 5) blocks (z .blocks)
+    unfolding sizes
+    lent-is = rw (eb, h .sized) (own-lent w s fs xs read)
 
     -- the number of matrices, as the code counts them
-    module _ (blocks : List Block) (eb : blocks ≡ row noBlock 3 (z .blocks) (blockOf s)) (N : ℕ) (eN : N ≡ placesBefore blocks (z .blocks)) where
-      own-places : placesBefore (row noBlock 3 (sizesOf s .blocks) (blockOf s)) (sizesOf s .blocks) + 1 ≡ matrices (design s)
-      unfolding sizesOf design
-      own-places = refl
+    pub matrices-are : (N : ℕ) → N ≡ placesBefore blocks (z .blocks) → N + 1 ≡ matrices (design s)
+    unfolding sizes
+    matrices-are N eN = rw (eN, eb, h .sized) (own-places w s fs xs read)
 
-      pub matrices-are : N + 1 ≡ matrices (design s)
-      matrices-are = rw (eN, eb, ez) own-places
+    pub matrices-few : (N : ℕ) → N ≡ placesBefore blocks (z .blocks) → N + 1 ≤ 4
+    matrices-few N eN = rw (matrices-are N eN) (own-few w s fs xs read)
 
-      own-few : matrices (design s) ≤ 4
-      unfolding design
-      own-few = let b = sound-blocks s h .thetas in omega arith
-
-      pub matrices-few : N + 1 ≤ 4
-      matrices-few = rw matrices-are own-few
-
-    -- the run is the file's
-    pub run-is : (c : Cutoffs) (N : ℕ) (m phiA w l : Rows) (ps : List Rows) (b bh : List Float) (v : Float) → N ≡ matrices (design s) → m ≡ cellsAt xs 750 6 (z .coefficients) (z .coefficients)
-        → b ≡ numbersAt xs 6 787 (z .coefficients) → bh ≡ numbersAt xs 6 829 (z .coefficients) → l ≡ cellsAt xs 793 6 (z .contrasts) (z .coefficients) → v ≡ getD xs 786 nan
-        → phiA ≡ adjusted c s .phiA → ps ≡ adjusted c s .ps → w ≡ adjusted c s .w
-        → runOf c (responseUnits (z .coefficients) N m phiA ps w v) b bh (z .contrasts) l ≡ run c s
-    run-is c N m phiA w l ps b bh v eN em eb eh el ev e1 e2 e3 = rw (eN, em, eb, eh, el, ev, e1, e2, e3, ez, ex) (own-run c)
-
-    -- so the adjustment is the file's
-    module _ (c : Cutoffs) (blocks : List Block) (theta weights : List Float) (m : Rows) (eb : blocks ≡ row noBlock 3 (z .blocks) (blockOf s)) (et : theta ≡ numbersAt xs 3 723 (z .thetas))
-        (ew : weights ≡ numbersAt xs 24 726 (z .specimens)) (em : m ≡ cellsAt xs 750 6 (z .coefficients) (z .coefficients)) where
+    -- the adjustment is the file's
+    module _ (c : Cutoffs) (theta : List Float) (m : Rows) (et : theta ≡ numbersAt xs 3 (getD fs 4 0) (z .thetas)) (em : m ≡ cellsAt xs (getD fs 6 0) (z .coefficients) (z .coefficients)) where
       abbrev lent : Design
-      lent = designOf (z .specimens) (z .coefficients) (take 144 (drop 0 xs)) 6 (take 576 (drop 144 xs)) 24 (z .columns) (z .weighted) weights blocks (z .blocks) theta
+      lent = designOf (z .specimens) (z .coefficients) (partOf fs xs 1) (z .coefficients) (partOf fs xs 2) (z .columns) (z .columns) (z .weighted) (partOf fs xs 5) blocks (z .blocks) theta
 
-      pub number-is-own : (v : Float) → v ≡ getD xs 786 nan → adjustmentRefusal c lent m v ≡ adjustmentRefusal c (design s) (phi s) (sigma2 s)
+      design-is : lent ≡ design s
+      unfolding sizes
+      design-is = rw (eb, et, h .sized) (own w s fs xs read)
+
+      phi-is : m ≡ phi s
+      unfolding sizes
+      phi-is = em ∙ rw (h .sized) (phi-lent w s fs xs read)
+
+      pub number-is-own : (v : Float) → v ≡ getD xs (getD fs 7 0) nan → adjustmentRefusal c lent m v ≡ adjustmentRefusal c (design s) (phi s) (sigma2 s)
       number-is-own v ev =
-          ap (λ (d : Design). adjustmentRefusal c d m v) (design-is blocks theta weights eb et ew)
-          ∙ ap₂ (λ (k : Rows) (x : Float). adjustmentRefusal c (design s) k x) (phi-is m em) (ev ∙ sigma2-is)
+          ap (λ (d : Design). adjustmentRefusal c d m v) design-is
+          ∙ ap₂ (λ (k : Rows) (x : Float). adjustmentRefusal c (design s) k x) phi-is (ev ∙ sigma2-lent w s fs xs read)
 
       pub adjusted-is : adjustment c lent m ≡ adjusted c s
       unfolding adjusted
-      adjusted-is = ap₂ (λ (d : Design) (k : Rows). adjustment c d k) (design-is blocks theta weights eb et ew) (phi-is m em)
+      adjusted-is = ap₂ (λ (d : Design) (k : Rows). adjustment c d k) design-is phi-is
+
+  -- the run is the file's
+  pub run-is : (c : Cutoffs) (N : ℕ) (m phiA v l : Rows) (ps : List Rows) (b bh : List Float) (x : Float) (n : ℕ) → N ≡ matrices (design s) → m ≡ cellsAt xs (getD fs 6 0) (z .coefficients) (z .coefficients)
+      → b ≡ numbersAt xs 6 (getD fs 8 0) (z .coefficients) → n ≡ cond (z .hypothesis) (z .coefficients) 0 → bh ≡ numbersAt xs 6 (getD fs 10 0) n
+      → l ≡ cellsAt xs (getD fs 9 0) (z .contrasts) (z .coefficients) → x ≡ getD xs (getD fs 7 0) nan
+      → phiA ≡ adjusted c s .phiA → ps ≡ adjusted c s .ps → v ≡ adjusted c s .w
+      → runOf c (responseUnits (z .coefficients) N m phiA ps v x) b bh (z .contrasts) l ≡ run c s
+  unfolding sizes
+  run-is c N m phiA v l ps b bh x n eN em eb en eh el ex e1 e2 e3 = rw (eN, em, eb, eh, en, el, ex, e1, e2, e3, h .sized) (own-run w s fs xs read c)
 
 -- what is lent for an answer, where the adjustment is given in another way
 pub answer-same : {A : Type 0} (f : Adjustment → A) (k : ℕ) (a b : Adjustment) (x y : A) → x ≡ kept k (f a) y → a ≡ b → x ≡ kept k (f b) y

@@ -1,8 +1,7 @@
 -- The contrast of a file that the reader does not refuse has finite cells that are not all zero, so that its rank is at least 1.
-use Prim.Native.Nat.{ℕ, zero, suc, _<_}
-use native.Mathlib.Omega.{arith}
+use Prim.Native.Nat.{ℕ, _<_, _≤_}
 use mathlib.Core.Path.{_≡_, refl, sym, ap, _∙_, subst}
-use mathlib.Core.Bool.{Bool, true, false, not, cond, true≢false, _&&_}
+use mathlib.Core.Bool.{Bool, true, false, not, true≢false, _&&_}
 use mathlib.Core.List.{List}
 use lib.Dec.{T, eqb}
 use lib.Ieee.{Float, nan, binary64, fits}
@@ -13,42 +12,31 @@ use Rattle.algebra.specs.Kind.{floats}
 use Rattle.algebra.specs.Product.{at}
 use Rattle.algebra.proofs.TableLaws.{table-at}
 use Rattle.tests_basis.proofs.RankStart.{Contrast}
-use Rattle.records.specs.Scan.{any, last}
-use Rattle.records.specs.Kinds.{kenwardRoger}
+use Rattle.records.specs.Scan.{any}
 use Rattle.records.specs.File.{count, valueOf, isCell, cell, notFinite}
-use Rattle.records.specs.Series.{coefficients, contrastRows, cellValue, zeroContrast, refusal, contrast}
-use Rattle.records.proofs.ScanLaws.{any-none, any-found}
-use Rattle.records.proofs.AcceptedSeries.{accepted-series}
+use Rattle.records.specs.Series.{coefficients, contrastRows, kinds, cellValue, zeroContrast, contrast}
+use Rattle.records.proofs.ScanLaws.{any-none, any-found, last-holds}
+use Rattle.records.proofs.AcceptedSeries.{AcceptedSeries}
 use Rattle.records_series.proofs.Accepted.{limits}
 
--- what holds of +0 and of every number asked holds of the last that passes
-last-every : (P : Float → Type 0) (n : ℕ) (p : ℕ → Bool) (f : ℕ → Float) → P plusZero → ((i : ℕ) → i < n → P (f i)) → P (last n p f plusZero)
-unfolding last
-last-every P zero p f z h = z
-last-every P (suc n) p f z h = go (p n) (last-every P n p f z (λ i l. h i (omega arith)))
-  where
-    go : (b : Bool) → P (last n p f plusZero) → P (cond b (f n) (last n p f plusZero))
-    go true e = h n (omega arith)
-    go false e = e
-
-module _ (s : List ℕ) (taken : refusal s ≡ 0) where
+module _ (w : ℕ) (some : 1 ≤ w) (s : List ℕ) (facts : AcceptedSeries w s) where
   cell-finite : (k r c : ℕ) → T (isFinite (cellValue s k r c))
   unfolding cell notFinite isFinite
   cell-finite k r c =
-      last-every (λ (x : Float). T (isFinite x)) (count s) (isCell kenwardRoger s k 0 r c) (valueOf s) tt
-      (λ i l. subst (λ (b : Bool). T b) (sym (not-false (isFinite (valueOf s i)) (any-none (count s) (notFinite s) i l (accepted-series s taken .finite)))) tt)
+      last-holds (λ (x : Float). T (isFinite x)) (count s) (isCell (kinds s) s k 0 r c) (valueOf s) plusZero tt
+      (λ i l _. subst (λ (b : Bool). T b) (sym (not-false (isFinite (valueOf s i)) (any-none (count s) (notFinite s) i l (facts .finite)))) tt)
 
   cell-fits : (k r c : ℕ) → T (fits binary64 (cellValue s k r c))
   unfolding cell fits
-  cell-fits k r c = last-every (λ (x : Float). T (fits binary64 x)) (count s) (isCell kenwardRoger s k 0 r c) (valueOf s) tt (λ i l. ofBits-fits binary64 _)
+  cell-fits k r c = last-holds (λ (x : Float). T (fits binary64 x)) (count s) (isCell (kinds s) s k 0 r c) (valueOf s) plusZero tt (λ i l _. ofBits-fits binary64 _)
 
   contrast-cell : (i j : ℕ) → i < contrastRows s → j < coefficients s → at floats (contrast s) i j ≡ cellValue s 9 i j
   unfolding contrast
-  contrast-cell i j h l = table-at plusZero 6 6 (contrastRows s) (coefficients s) (cellValue s 9) i j nan h l (limits s taken .contrasts) (limits s taken .coefficients)
+  contrast-cell i j h l = table-at plusZero 6 6 (contrastRows s) (coefficients s) (cellValue s 9) i j nan h l (limits w some s facts .contrasts) (limits w some s facts .coefficients)
 
   some-cell : (contrastRows s ≡ 0 → ⊥) → any (contrastRows s) (λ r. any (coefficients s) (λ c. not (isZero (cellValue s 9 r c)))) ≡ true
   unfolding zeroContrast
-  some-cell h = go (eqb (contrastRows s) 0) (any (contrastRows s) (λ r. any (coefficients s) (λ c. not (isZero (cellValue s 9 r c))))) (ne-eqb (contrastRows s) 0 h) (accepted-series s taken .nonzero)
+  some-cell h = go (eqb (contrastRows s) 0) (any (contrastRows s) (λ r. any (coefficients s) (λ c. not (isZero (cellValue s 9 r c))))) (ne-eqb (contrastRows s) 0 h) (facts .nonzero)
     where
       go : (a b : Bool) → a ≡ false → (not a && not b) ≡ false → b ≡ true
       go a true e f = refl

@@ -1,4 +1,4 @@
--- The laws of the whole call.
+-- What the code reads off a series' sheet, the numbers of a call, and its answers.
 pub mod Numbers
 pub mod Calls
 pub mod Contrasts

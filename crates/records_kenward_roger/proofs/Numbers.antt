@@ -11,80 +11,91 @@ use Rattle.tests.specs.declared.Entry.{Entry}
 use Rattle.tests.specs.Answer.{noEntry}
 use Rattle.records.specs.Layout.{answerBytes}
 use Rattle.tests.specs.Entries.{runRefusal, runEntries}
-use Rattle.algebra.specs.Reasons.{first}
-use Rattle.records.specs.Series.{refusal}
-use Rattle.records.specs.KenwardRogerCall.{adjusted, run, number, entries, rotations, returned, written}
+use Rattle.records.specs.Series.{refusal, specimens}
+use Rattle.records.specs.KenwardRogerCall.{adjusted, run, number, entries, rotations, specimensRun, returned, written}
 use Rattle.records.proofs.CallLaws.{fileAdjustmentRefusal, number-is, returned-is}
 
 -- ---- the number and the entries, by who refuses
-module _ (c : Cutoffs) (s : List ℕ) where
+module _ (w : ℕ) (c : Cutoffs) (s : List ℕ) where
   -- the reader
-  pub early-number : (k : ℕ) → k ≡ refusal s → (k ≡ 0 → ⊥) → k ≡ number c s
-  early-number k e h = e ∙ sym (number-is c s ∙ rw (ne-eqb (refusal s) 0 (λ q. h (e ∙ q))))
+  pub early-number : (k : ℕ) → k ≡ refusal w s → (k ≡ 0 → ⊥) → k ≡ number w c s
+  early-number k e h = e ∙ sym (number-is c s w ∙ rw (ne-eqb (refusal w s) 0 (λ q. h (e ∙ q))))
 
-  module _ (r : refusal s ≡ 0) where
+  module _ (r : refusal w s ≡ 0) where
     -- the adjustment
-    pub late-number : (k : ℕ) → k ≡ fileAdjustmentRefusal c s → (k ≡ 0 → ⊥) → k ≡ number c s
-    late-number k e h = e ∙ sym (number-is c s ∙ rw (r, ne-eqb (fileAdjustmentRefusal c s) 0 (λ q. h (e ∙ q))))
+    pub late-number : (k : ℕ) → k ≡ fileAdjustmentRefusal c s → (k ≡ 0 → ⊥) → k ≡ number w c s
+    late-number k e h = e ∙ sym (number-is c s w ∙ rw (r, ne-eqb (fileAdjustmentRefusal c s) 0 (λ q. h (e ∙ q))))
 
     module _ (a : fileAdjustmentRefusal c s ≡ 0) where
       -- a test
-      pub pivot-number : (b : Bool) → b ≡ run c s .refused → b ≡ true → 10 ≡ number c s
-      pivot-number b e h = sym (number-is c s ∙ rw (r, a, ← e, h))
+      pub pivot-number : (b : Bool) → b ≡ run c s .refused → b ≡ true → 10 ≡ number w c s
+      pivot-number b e h = sym (number-is c s w ∙ rw (r, a, ← e, h))
 
       -- nobody
-      pub no-number : (b : Bool) → b ≡ run c s .refused → b ≡ false → 0 ≡ number c s
-      no-number b e h = sym (number-is c s ∙ rw (r, a, ← e, h))
+      pub no-number : (b : Bool) → b ≡ run c s .refused → b ≡ false → 0 ≡ number w c s
+      no-number b e h = sym (number-is c s w ∙ rw (r, a, ← e, h))
 
   -- a refused file has no entry in use
-  pub no-entries : (e : Entry) → e ≡ noEntry → (k : ℕ) → k ≡ number c s → (k ≡ 0 → ⊥) → replicate 7 e ≡ entries c s
+  pub no-entries : (e : Entry) → e ≡ noEntry → (k : ℕ) → k ≡ number w c s → (k ≡ 0 → ⊥) → replicate 7 e ≡ entries w c s
   unfolding entries
-  no-entries e q k f h = rw (q, ne-eqb (number c s) 0 (λ z. h (f ∙ z)))
+  no-entries e q k f h = rw (q, ne-eqb (number w c s) 0 (λ z. h (f ∙ z)))
 
-  -- nor a rotation
-  pub no-rotations : (k : ℕ) → k ≡ number c s → (k ≡ 0 → ⊥) → 0 ≡ rotations c s
+  -- nor a rotation, nor a specimen of a run
+  pub no-rotations : (k : ℕ) → k ≡ number w c s → (k ≡ 0 → ⊥) → 0 ≡ rotations w c s
   unfolding rotations
-  no-rotations k f h = rw (ne-eqb (number c s) 0 (λ z. h (f ∙ z)))
+  no-rotations k f h = rw (ne-eqb (number w c s) 0 (λ z. h (f ∙ z)))
 
-  pub run-entries : (es : List Entry) → es ≡ run c s .entries → 0 ≡ number c s → es ≡ entries c s
+  pub no-specimens : (k : ℕ) → k ≡ number w c s → (k ≡ 0 → ⊥) → 0 ≡ specimensRun w c s
+  unfolding specimensRun
+  no-specimens k f h = rw (ne-eqb (number w c s) 0 (λ z. h (f ∙ z)))
+
+  pub run-entries : (es : List Entry) → es ≡ run c s .entries → 0 ≡ number w c s → es ≡ entries w c s
   unfolding entries
-  run-entries es e z = e ∙ rw (eq-eqb (number c s) 0 (sym z))
+  run-entries es e z = e ∙ rw (eq-eqb (number w c s) 0 (sym z))
 
   -- an accepted file's rotations are the adjustment's
-  pub own-rotations : (n : ℕ) → n ≡ adjusted c s .rotations → 0 ≡ number c s → n ≡ rotations c s
+  pub own-rotations : (n : ℕ) → n ≡ adjusted c s .rotations → 0 ≡ number w c s → n ≡ rotations w c s
   unfolding rotations
-  own-rotations n e z = e ∙ rw (eq-eqb (number c s) 0 (sym z))
+  own-rotations n e z = e ∙ rw (eq-eqb (number w c s) 0 (sym z))
+
+  own-specimens : (n : ℕ) → n ≡ specimens s → 0 ≡ number w c s → n ≡ specimensRun w c s
+  unfolding specimensRun
+  own-specimens n e z = e ∙ rw (eq-eqb (number w c s) 0 (sym z))
 
   -- a run whose tests were made
-  module _ (r : refusal s ≡ 0) (a : fileAdjustmentRefusal c s ≡ 0) where
-    pub run-answer : (b : Bool) (es fs : List Entry) (k : ℕ) → b ≡ run c s .refused → es ≡ run c s .entries → fs ≡ runEntries b es → k ≡ runRefusal b → (fs ≡ entries c s) × (k ≡ number c s)
+  module _ (r : refusal w s ≡ 0) (a : fileAdjustmentRefusal c s ≡ 0) where
+    pub run-answer : (b : Bool) (es fs : List Entry) (k : ℕ) → b ≡ run c s .refused → es ≡ run c s .entries → fs ≡ runEntries b es → k ≡ runRefusal b → (fs ≡ entries w c s) × (k ≡ number w c s)
     unfolding runEntries runRefusal
     run-answer true es fs k e f p q = let n = pivot-number r a true e refl in (p ∙ no-entries noEntry refl 10 n (omega arith), q ∙ n)
     run-answer false es fs k e f p q = let n = no-number r a false e refl in (p ∙ run-entries es f n, q ∙ n)
 
     -- none counts where a test refuses
-    pub run-rotations : (b : Bool) (m n : ℕ) → b ≡ run c s .refused → m ≡ adjusted c s .rotations → n ≡ cond b 0 m → n ≡ rotations c s
+    pub run-rotations : (b : Bool) (m n : ℕ) → b ≡ run c s .refused → m ≡ adjusted c s .rotations → n ≡ cond b 0 m → n ≡ rotations w c s
     run-rotations true m n e f p = p ∙ no-rotations 10 (pivot-number r a true e refl) (omega arith)
     run-rotations false m n e f p = p ∙ own-rotations m f (no-number r a false e refl)
 
+    pub run-specimens : (b : Bool) (m n : ℕ) → b ≡ run c s .refused → m ≡ specimens s → n ≡ cond b 0 m → n ≡ specimensRun w c s
+    run-specimens true m n e f p = p ∙ no-specimens 10 (pivot-number r a true e refl) (omega arith)
+    run-specimens false m n e f p = p ∙ own-specimens m f (no-number r a false e refl)
+
   -- ---- the lent bytes
-  pub other-length : (answer : List ℕ) → (length answer ≡ 168 → ⊥) → (1 ≡ returned c s answer) × (answer ≡ written c s answer)
+  pub other-length : (answer : List ℕ) → (length answer ≡ 168 → ⊥) → (1 ≡ returned w c s answer) × (answer ≡ written w c s answer)
   unfolding written
   other-length answer h =
-      let e : returned c s answer ≡ 1 = returned-is c s answer ∙ rw (ne-eqb (length answer) 168 h) in
+      let e : returned w c s answer ≡ 1 = returned-is c s w answer ∙ rw (ne-eqb (length answer) 168 h) in
       (sym e, rw e)
 
   module _ (answer : List ℕ) (l : length answer ≡ 168) where
-    own-return : returned c s answer ≡ number c s
-    own-return = returned-is c s answer ∙ rw (eq-eqb (length answer) 168 l)
+    own-return : returned w c s answer ≡ number w c s
+    own-return = returned-is c s w answer ∙ rw (eq-eqb (length answer) 168 l)
 
-    pub refused-call : (k : ℕ) → k ≡ number c s → (k ≡ 0 → ⊥) → (k ≡ returned c s answer) × (answer ≡ written c s answer)
+    pub refused-call : (k : ℕ) → k ≡ number w c s → (k ≡ 0 → ⊥) → (k ≡ returned w c s answer) × (answer ≡ written w c s answer)
     unfolding written
-    refused-call k e h = (e ∙ sym own-return, rw (own-return, ne-eqb (number c s) 0 (λ q. h (e ∙ q))))
+    refused-call k e h = (e ∙ sym own-return, rw (own-return, ne-eqb (number w c s) 0 (λ q. h (e ∙ q))))
 
-    pub accepted-call : (k : ℕ) → k ≡ number c s → k ≡ 0 → (es : List Entry) → es ≡ entries c s → (bytes : List ℕ) → bytes ≡ answerBytes es
-        → (0 ≡ returned c s answer) × (bytes ≡ written c s answer)
+    pub accepted-call : (k : ℕ) → k ≡ number w c s → k ≡ 0 → (es : List Entry) → es ≡ entries w c s → (bytes : List ℕ) → bytes ≡ answerBytes es
+        → (0 ≡ returned w c s answer) × (bytes ≡ written w c s answer)
     unfolding written
     accepted-call k e h es f bytes b =
-        let z : number c s ≡ 0 = sym e ∙ h in
-        (sym (own-return ∙ z), b ∙ ap answerBytes f ∙ rw (own-return, eq-eqb (number c s) 0 z))
+        let z : number w c s ≡ 0 = sym e ∙ h in
+        (sym (own-return ∙ z), b ∙ ap answerBytes f ∙ rw (own-return, eq-eqb (number w c s) 0 z))

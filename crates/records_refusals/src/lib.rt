@@ -1,21 +1,25 @@
-// The number with which a series is refused before anything is computed (kenward_roger).
+// The number with which a series is refused before anything is computed, and its numbers in the lent sheet (kenward_roger).
 ghost use mathlib.Core.Path.{_≡_};
+ghost use mathlib.Core.Bool.{cond};
 ghost use Prim.Native.Nat.{ℕ, _+_, _*_, _≤_};
+ghost use lib.ListN.{length};
 ghost use Rattle.adjustment.specs.Blocks.{blockAt};
-ghost use Rattle.records.specs.Series.{refusal};
-ghost use Rattle.records_series.specs.joints.Gathered.{Small};
-ghost use Rattle.records_series.specs.joints.Checks.{nonzeroInRow, nonzeros, notPositive, badWeightIn, zeroContrastIn, sheetRefusal};
+ghost use Rattle.records.specs.Kinds.{kindsOf};
+ghost use Rattle.records.specs.Cells.{slotCount};
+ghost use Rattle.records.specs.File.{count};
+ghost use Rattle.records.specs.Series.{kinds, refusal};
+ghost use Rattle.records_sheet.specs.joints.Sheet.{Small, firstSlots, sheetAfter};
+ghost use Rattle.records_refusals.specs.joints.Checks.{nonzeros, notPositive, badWeightIn, zeroContrastIn, sheetRefusal};
+ghost use Rattle.records_refusals.specs.joints.Room.{Room};
+use records::Sizes;
 use records_block_limits::bad_size;
 use records_block_limits::misfit;
-use records_malformed::malformed;
-use records_series::SeriesSizes;
 use records_series::blocks_of;
-use records_series::sizes_of;
 
-// One of the m numbers from `at` on is not zero; of r rows of m; and is not above zero.
-fn nonzero_in_row(sheet: &[f64; 835], at: usize, m: usize) -> bool
-    requires { ⌜ at + m ≤ 835 ⌝ }
-    ensures { λ b. ⌜ b ≡ nonzeroInRow (now (sheet .entry)) at m ⌝ }
+// One of the m numbers from `at` on is not zero; and is not above zero.
+fn any_nonzero(sheet: &[f64], at: usize, m: usize) -> bool
+    requires { ⌜ at + m ≤ length (now sheet) ⌝ }
+    ensures { λ b. ⌜ b ≡ nonzeros (now (sheet .entry)) at m ⌝ }
 {
     let mut j = 0;
     while j < m {
@@ -27,22 +31,8 @@ fn nonzero_in_row(sheet: &[f64; 835], at: usize, m: usize) -> bool
     false
 }
 
-fn any_nonzero(sheet: &[f64; 835], at: usize, stride: usize, r: usize, m: usize) -> bool
-    requires { ⌜ (at + r * stride ≤ 835) × (m ≤ stride) ⌝ }
-    ensures { λ b. ⌜ b ≡ nonzeros (now (sheet .entry)) at stride r m ⌝ }
-{
-    let mut i = 0;
-    while i < r {
-        if nonzero_in_row(sheet, at + i * stride, m) {
-            return true;
-        }
-        i += 1;
-    }
-    false
-}
-
-fn any_not_positive(sheet: &[f64; 835], at: usize, m: usize) -> bool
-    requires { ⌜ at + m ≤ 835 ⌝ }
+fn any_not_positive(sheet: &[f64], at: usize, m: usize) -> bool
+    requires { ⌜ at + m ≤ length (now sheet) ⌝ }
     ensures { λ b. ⌜ b ≡ notPositive (now (sheet .entry)) at m ⌝ }
 {
     let mut j = 0;
@@ -55,67 +45,77 @@ fn any_not_positive(sheet: &[f64; 835], at: usize, m: usize) -> bool
     false
 }
 
-// A weight that is not above zero: number 6.
-fn bad_weight(z: SeriesSizes, sheet: &[f64; 835]) -> bool
-    requires { ⌜ Small z ⌝ }
-    ensures { λ r. ⌜ r ≡ badWeightIn z (now (sheet .entry)) ⌝ }
+// A weight that is not above zero: number 6. The weights start at `at`.
+fn bad_weight(z: Sizes, sheet: &[f64], at: usize) -> bool
+    requires { ⌜ at + cond (z .weighted) (z .specimens) 0 ≤ length (now sheet) ⌝ }
+    ensures { λ r. ⌜ r ≡ badWeightIn z (now (sheet .entry)) at ⌝ }
 {
     if z.weighted {
-        let n = z.specimens;
-        return any_not_positive(sheet, 726, n);
+        return any_not_positive(sheet, at, z.specimens);
     }
     false
 }
 
-// A contrast whose every cell is zero: number 8.
-fn zero_contrast(z: SeriesSizes, sheet: &[f64; 835]) -> bool
-    requires { ⌜ Small z ⌝ }
-    ensures { λ r. ⌜ r ≡ zeroContrastIn z (now (sheet .entry)) ⌝ }
+// A contrast whose every cell is zero: number 8. The contrast starts at `at`.
+fn zero_contrast(z: Sizes, sheet: &[f64], at: usize) -> bool
+    requires { ⌜ Small z × (at + z .contrasts * z .coefficients ≤ length (now sheet)) ⌝ }
+    ensures { λ r. ⌜ r ≡ zeroContrastIn z (now (sheet .entry)) at ⌝ }
 {
     let rows = z.contrasts;
     if rows == 0 {
         return false;
     }
-    let columns = z.coefficients;
-    !any_nonzero(sheet, 793, 6, rows, columns)
+    !any_nonzero(sheet, at, rows * z.coefficients)
 }
 
 // Numbers 5 to 8.
-fn sheet_refusal(z: SeriesSizes, blocks: [adjustment::Block; 3], sheet: &[f64; 835]) -> u32
-    requires { ⌜ Small z × ((b : ℕ) → (blockAt blocks b .effects ≤ 255) × (blockAt blocks b .groups ≤ 4294967295)) ⌝ }
+fn sheet_refusal(
+    z: Sizes,
+    blocks: [adjustment::Block; 3],
+    firsts: &[usize; 34],
+    sheet: &[f64],
+) -> u32
+    requires { ⌜ Small z × (z .blocks ≤ 3) × (now firsts ≡ firstSlots (kindsOf 0 z)) × (slotCount (kindsOf 0 z) ≤ length (now sheet)) ⌝ }
+    requires { ⌜ ((b : ℕ) → (blockAt blocks b .effects ≤ 255) × (blockAt blocks b .groups ≤ 4294967295)) ⌝ }
     ensures { λ r. ⌜ r ≡ sheetRefusal z blocks (now (sheet .entry)) ⌝ }
 {
-    if sheet[786] <= 0.0 {
+    let variance = firsts[7];
+    let weights = firsts[5];
+    let contrast = firsts[9];
+    if sheet[variance] <= 0.0 {
         return 5;
     }
-    if bad_weight(z, sheet) {
+    if bad_weight(z, sheet, weights) {
         return 6;
     }
     if misfit(z, blocks) {
         return 7;
     }
-    if zero_contrast(z, sheet) {
+    if zero_contrast(z, sheet, contrast) {
         return 8;
     }
     0
 }
 
-// The number with which a file is refused before anything is computed, 0 where it is not.
-pub fn refusal(s: &[u8]) -> u32
-    ensures { λ r. ⌜ r ≡ refusal (now (s .entry)) ⌝ }
+// The number with which a file is refused before anything is computed, with the limit of specimens w; 0 where it is not, and then the sheet holds the file's numbers.
+pub fn refusal(w: usize, s: &[u8], flags: &mut [bool], sheet: &mut [f64]) -> u32
+    requires { ⌜ Room w (now flags) (now sheet) ⌝ }
+    ensures { λ r. ⌜ r ≡ refusal w (now (s .entry)) ⌝ }
+    ensures { λ r. ⌜ (r ≡ 0 → now (sheet .exit) ≡ sheetAfter (length (now (sheet .entry))) (kinds (now (s .entry))) (now (s .entry)) (count (now (s .entry)))) ⌝ }
 {
-    if malformed(s) {
-        return 2;
+    let formed = records_form::form_refusal(0, w, s, flags);
+    if formed != 0 {
+        return formed;
     }
-    let z = sizes_of(s);
-    let n = z.blocks;
-    let blocks = blocks_of(s, n);
-    if bad_size(blocks, n) {
+    let z = records_sizes::series_sizes(s);
+    let blocks = blocks_of(s, z.blocks);
+    if bad_size(blocks, z.blocks) {
         return 3;
     }
     if records_file::any_not_finite(s) {
         return 4;
     }
-    let sheet = records_sheet::sheet_of(false, s);
-    sheet_refusal(z, blocks, &sheet)
+    let firsts = records_sheet::first_slots(0, z);
+    records_sheet::fill_sheet(0, z, &firsts, s, sheet);
+    sheet_refusal(z, blocks, &firsts, &sheet[..])
 }

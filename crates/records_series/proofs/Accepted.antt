@@ -7,33 +7,33 @@ use native.Mathlib.Omega.{arith}
 use lib.Dec.{eqb, ltb}
 use borrow.Author.Tests.{eqb-true, eqb-false, ltb-false, not-false}
 use Rattle.records.specs.Scan.{any, total}
-use Rattle.records.specs.Series.{specimens, coefficients, zColumns, blockCount, thetas, contrastRows, blockOf, design, sizes, badSize, misfit, refusal}
+use Rattle.records.specs.Kinds as table
+use Rattle.records.specs.Series.{specimens, coefficients, zColumns, blockCount, thetas, contrastRows, blockOf, design, sizes, badSize, misfit}
 use Rattle.adjustment.specs.Blocks.{places, noBlock, blockAt, columnsBefore, placesBefore}
 use Rattle.records.proofs.ScanLaws.{or-false, any-none, fold-total}
-use Rattle.records.proofs.AcceptedSeries.{accepted-series}
+use Rattle.records.proofs.Limits.{series-below}
+use Rattle.records.proofs.AcceptedSeries.{AcceptedSeries}
 use mathlib.Core.Logic.{_⊎_, inl, inr, ⊎-elim}
 use Rattle.algebra.specs.Table.{row}
 use Rattle.algebra.proofs.FoldLaws.{fold-ext}
 use Rattle.algebra.proofs.TableLaws.{row-at}
 use Rattle.adjustment.specs.declared.Block.{Block}
-use Rattle.records_series.specs.joints.Gathered.{sizesOf}
-use Rattle.records_series.proofs.Gathers.{small}
 
--- ---- its sizes: document 01, "Limits"
-pub record Limits (s : List ℕ) : Type 0 where
+-- ---- its sizes: document 01, "Limits". w is the limit of specimens and of random columns.
+pub record Limits (w : ℕ) (s : List ℕ) : Type 0 where
   pub specimen : 1 ≤ specimens s
-  pub specimens : specimens s ≤ 24
+  pub specimens : specimens s ≤ w
   pub coefficient : 1 ≤ coefficients s
   pub coefficients : coefficients s ≤ 6
-  pub columns : zColumns s ≤ 24
+  pub columns : zColumns s ≤ w
   pub blocks : blockCount s ≤ 3
   pub thetas : thetas s ≤ 3
   pub contrasts : contrastRows s ≤ 6
 
-pub limits : (s : List ℕ) → refusal s ≡ 0 → Limits s
-unfolding sizesOf
-limits s e =
-    let h = small s (accepted-series s e .good) in
+pub limits : (w : ℕ) → 1 ≤ w → (s : List ℕ) → AcceptedSeries w s → Limits w s
+unfolding sizes table.limits
+limits w l s a =
+    let h = series-below w l s (a .good) in
     record {
       specimen = omega arith;
       specimens = h .specimens;
@@ -77,16 +77,15 @@ fits-none s e =
     let o = or-false (not (eqb (total (blockCount s) (λ b. blockOf s b .groups * blockOf s b .effects)) (zColumns s))) (not (eqb (thetas s) (total (blockCount s) (λ b. places (blockOf s b))))) e in
     (eqb-true _ _ (not-false _ (o .0)), eqb-true _ _ (not-false _ (o .1)))
 
-pub blocked : (s : List ℕ) → refusal s ≡ 0 → Blocked s
+pub blocked : (w : ℕ) (s : List ℕ) → AcceptedSeries w s → Blocked s
 unfolding wrong
-blocked s e =
-    let a = accepted-series s e in
-    let w = sized-none s (a .sized) in
+blocked w s a =
+    let o = sized-none s (a .sized) in
     let f = fits-none s (a .fits) in
     record {
-      effects = λ b l. one-or-two (blockOf s b .effects) (blockOf s b .groups) (any-none (blockCount s) (wrong s) b l (w .0)) .0;
-      groups = λ b l. one-or-two (blockOf s b .effects) (blockOf s b .groups) (any-none (blockCount s) (wrong s) b l (w .0)) .1;
-      parameters = ltb-false 3 (total (blockCount s) (λ b. places (blockOf s b))) (w .1);
+      effects = λ b l. one-or-two (blockOf s b .effects) (blockOf s b .groups) (any-none (blockCount s) (wrong s) b l (o .0)) .0;
+      groups = λ b l. one-or-two (blockOf s b .effects) (blockOf s b .groups) (any-none (blockCount s) (wrong s) b l (o .0)) .1;
+      parameters = ltb-false 3 (total (blockCount s) (λ b. places (blockOf s b))) (o .1);
       columns = f .0;
       thetas = f .1;
     }
@@ -98,14 +97,14 @@ pub record SoundBlocks (s : List ℕ) : Type 0 where
   pub counted : columnsBefore (design s .blocks) (blockCount s) ≡ zColumns s
   pub thetas : placesBefore (design s .blocks) (blockCount s) ≤ 3
 
-block-read : (s : List ℕ) → blockCount s ≤ 3 → (b : ℕ) → b < blockCount s → blockAt (row noBlock 3 (blockCount s) (blockOf s)) b ≡ blockOf s b
+pub block-read : (s : List ℕ) → blockCount s ≤ 3 → (b : ℕ) → b < blockCount s → blockAt (row noBlock 3 (blockCount s) (blockOf s)) b ≡ blockOf s b
 block-read s l b h = row-at noBlock 3 (blockCount s) (blockOf s) b noBlock h l
 
-pub sound-blocks : (s : List ℕ) → refusal s ≡ 0 → SoundBlocks s
+pub sound-blocks : (w : ℕ) → 1 ≤ w → (s : List ℕ) → AcceptedSeries w s → SoundBlocks s
 unfolding design columnsBefore placesBefore
-sound-blocks s e =
-    let l = limits s e .blocks in
-    let k = blocked s e in
+sound-blocks w g s a =
+    let l = limits w g s a .blocks in
+    let k = blocked w s a in
     record {
       few = l;
       small = λ b h. let q = ap (λ (x : Block). x .effects) (block-read s l b h) in ⊎-elim (λ r. omega arith) (λ r. omega arith) (k .effects b h);

@@ -1,97 +1,15 @@
-// A Kenward–Roger series as its record file gives it: its sizes and its blocks, and the flags of the cells that are there (kenward_roger).
+// The blocks of a Kenward–Roger series as its record file gives them (kenward_roger).
 ghost use mathlib.Core.Path.{_≡_};
-ghost use mathlib.Core.Bool.{cond};
-ghost use Prim.Native.Nat.{ℕ, _+_, _*_, _≤_, _<_, max};
+ghost use Prim.Native.Nat.{ℕ, _≤_, _<_};
 ghost use Rattle.algebra.specs.Table.{row};
 ghost use Rattle.adjustment.specs.Blocks.{noBlock, blockAt};
-ghost use Rattle.records.specs.Kinds.{kenwardRoger};
 ghost use Rattle.records.specs.File.{count, isCell};
-ghost use Rattle.records.specs.Series.{blockOf};
-ghost use Rattle.records_series.specs.joints.Gathered.{sizesOf};
-ghost use Rattle.records_series.specs.joints.Checks.{gapInRow, gaps};
-
-// The sizes of a series: specimens, coefficients, columns of Z, blocks, thetas, contrast rows; whether there are weights, and β_H beside a contrast.
-pub struct SeriesSizes {
-    pub specimens: usize,
-    pub coefficients: usize,
-    pub columns: usize,
-    pub blocks: usize,
-    pub thetas: usize,
-    pub contrasts: usize,
-    pub weighted: bool,
-    pub hypothesis: bool,
-}
-
-// A series has a specimen and a coefficient.
-pub fn at_least_one(n: usize) -> usize
-    ensures { λ r. ⌜ r ≡ max 1 n ⌝ }
-{
-    if n < 1 { 1 } else { n }
-}
-
-pub fn sizes_of(s: &[u8]) -> SeriesSizes
-    ensures { λ r. ⌜ r ≡ sizesOf (now (s .entry)) ⌝ }
-{
-    let n = records_file::rows_of(s, 1);
-    let p = records_file::columns_of(s, 1);
-    let columns = records_file::columns_of(s, 2);
-    let blocks = records_file::rows_of(s, 3);
-    let thetas = records_file::rows_of(s, 4);
-    let weights = records_file::rows_of(s, 5);
-    let contrasts = records_file::rows_of(s, 9);
-    let hypotheses = records_file::rows_of(s, 10);
-    SeriesSizes {
-        specimens: at_least_one(n),
-        coefficients: at_least_one(p),
-        columns: columns,
-        blocks: blocks,
-        thetas: thetas,
-        contrasts: contrasts,
-        weighted: weights != 0,
-        hypothesis: (hypotheses != 0) & (contrasts != 0),
-    }
-}
-
-pub fn given(b: bool, n: usize) -> usize
-    ensures { λ r. ⌜ r ≡ cond b n 0 ⌝ }
-{
-    if b { n } else { 0 }
-}
-
-// One of the m flags from `at` on is not set.
-fn gap_in_row(flags: &[bool; 835], at: usize, m: usize) -> bool
-    requires { ⌜ at + m ≤ 835 ⌝ }
-    ensures { λ b. ⌜ b ≡ gapInRow (now (flags .entry)) at m ⌝ }
-{
-    let mut j = 0;
-    while j < m {
-        if !flags[at + j] {
-            return true;
-        }
-        j += 1;
-    }
-    false
-}
-
-// Of r rows of m flags.
-pub fn any_gap(flags: &[bool; 835], at: usize, stride: usize, r: usize, m: usize) -> bool
-    requires { ⌜ (at + r * stride ≤ 835) × (m ≤ stride) ⌝ }
-    ensures { λ b. ⌜ b ≡ gaps (now (flags .entry)) at stride r m ⌝ }
-{
-    let mut i = 0;
-    while i < r {
-        if gap_in_row(flags, at + i * stride, m) {
-            return true;
-        }
-        i += 1;
-    }
-    false
-}
+ghost use Rattle.records.specs.Series.{kinds, blockOf};
 
 // Record i is of block b.
 fn is_block(s: &[u8], b: usize, i: usize) -> bool
     requires { ⌜ i < count (now s) ⌝ }
-    ensures { λ r. ⌜ r ≡ isCell kenwardRoger (now (s .entry)) 3 0 b 0 i ⌝ }
+    ensures { λ r. ⌜ r ≡ isCell (kinds (now (s .entry))) (now (s .entry)) 3 0 b 0 i ⌝ }
 {
     if records_file::kind_at(s, i) != 3 {
         return false;

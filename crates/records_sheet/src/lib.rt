@@ -1,104 +1,92 @@
-// A slot for each cell that a call's kinds may name: the cells that a file names twice, those that it names, and the number in each. `call` is true for
-// Satterthwaite's call.
+// A slot for each cell that a file's sizes leave its kinds: the cells that a file names twice, those that it names and those that it misses, and the number in each. Call 0 is Kenward and Roger's, any
+// other Satterthwaite's.
 ghost use mathlib.Core.Path.{_≡_};
 ghost use mathlib.Core.Bool.{false};
-ghost use Prim.Native.Nat.{_≤_, _<_};
+ghost use Prim.Native.Nat.{_+_, _≤_, _<_};
+ghost use lib.ListN.{length, replicate};
+ghost use Rattle.arithmetic.specs.Numbers.{plusZero};
 ghost use Rattle.records.specs.Scan.{any};
-ghost use Rattle.records.specs.Kinds.{kenwardRoger, satterthwaite};
-ghost use Rattle.records.specs.File.{count, badRecord, again};
-ghost use Rattle.records_file.specs.joints.Sheet.{tableOf, firstSlot, offset, slotOf, flagsAfter, sheetAfter};
+ghost use Rattle.records.specs.Kinds.{width, kindsOf, kindNumbers};
+ghost use Rattle.records.specs.Cells.{slots, slotCount, offset};
+ghost use Rattle.records.specs.File.{count, beyond, again};
+ghost use Rattle.records_sheet.specs.joints.Sheet.{Small, firstSlots, slotOf, flagsAfter, sheetAfter, gap, missingIn};
 use records::Kind;
+use records::Sizes;
 use records_file::column_at;
 use records_file::count_at;
-use records_file::index;
 use records_file::kind_at;
-use records_file::kind_of;
 use records_file::row_at;
 use records_file::value_at;
+use records_kinds::index_of;
+use records_kinds::kind_of;
+use records_kinds::width;
 
-// The slots of the kinds before this one, for each call.
-fn kenward_roger_first(k: usize) -> usize
-    requires { ⌜ k < 33 ⌝ }
-    ensures { λ r. ⌜ r ≡ firstSlot kenwardRoger k ⌝ }
+// How many cells a kind has.
+fn slots_of(k: Kind) -> usize
+    requires { ⌜ (width (k .count) ≤ 256) × (width (k .row) ≤ 256) × (width (k .column) ≤ 256) ⌝ }
+    ensures { λ r. ⌜ (r ≡ slots k) × (r ≤ 16777216) ⌝ }
 {
-    match k {
-        0 => 0,
-        1 => 0,
-        2 => 144,
-        3 => 720,
-        4 => 723,
-        5 => 726,
-        6 => 750,
-        7 => 786,
-        8 => 787,
-        9 => 793,
-        10 => 829,
-        _ => 835,
-    }
+    let count = k.count;
+    let row = k.row;
+    let column = k.column;
+    width(count) * width(row) * width(column)
 }
 
-fn satterthwaite_first(k: usize) -> usize
-    requires { ⌜ k < 33 ⌝ }
-    ensures { λ r. ⌜ r ≡ firstSlot satterthwaite k ⌝ }
+// The first slot of each kind, and the number of all slots after them.
+pub fn first_slots(call: usize, z: Sizes) -> [usize; 34]
+    requires { ⌜ Small z ⌝ }
+    ensures { λ r. ⌜ r ≡ firstSlots (kindsOf call z) ⌝ }
 {
-    if k < 9 {
-        return 0;
+    let mut firsts = [0usize; 34];
+    let mut total: usize = 0;
+    let mut k: u8 = 0;
+    while k < 33 {
+        total = total + slots_of(kind_of(call, z, k));
+        k += 1;
+        firsts[k as usize] = total;
     }
-    match k {
-        9 => 6,
-        10 => 42,
-        31 => 84,
-        32 => 228,
-        _ => 48,
-    }
-}
-
-pub fn first_slot(call: bool, kind: u8) -> usize
-    requires { ⌜ kind < 33 ⌝ }
-    ensures { λ r. ⌜ r ≡ firstSlot (tableOf call) kind ⌝ }
-{
-    let k = index(kind);
-    if call {
-        return satterthwaite_first(k);
-    }
-    kenward_roger_first(k)
+    firsts
 }
 
 // A cell's place among those of its kind.
 fn offset_in(k: Kind, n: usize, r: usize, c: usize) -> usize
-    requires { ⌜ (n ≤ 4294967295) × (r ≤ 255) × (c ≤ 255) × (k .rows ≤ 24) × (k .columns ≤ 24) ⌝ }
-    ensures { λ a. ⌜ a ≡ offset k n r c ⌝ }
+    requires { ⌜ (width (k .count) ≤ 256) × (width (k .row) ≤ 256) × (width (k .column) ≤ 256) × (n < width (k .count)) × (r < width (k .row)) × (c < width (k .column)) ⌝ }
+    ensures { λ a. ⌜ (a ≡ offset k n r c) × (a ≤ 16777216) ⌝ }
 {
-    if k.block {
-        return r;
-    }
-    let rows = k.rows;
-    let columns = k.columns;
-    (n * rows + r) * columns + c
+    let row = k.row;
+    let column = k.column;
+    (n * width(row) + r) * width(column) + c
 }
 
-// The slot of record i, which is not bad.
-fn slot_at(call: bool, s: &[u8], i: usize) -> usize
-    requires { ⌜ (i < count (now s)) × (badRecord (tableOf call) (now s) i ≡ false) ⌝ }
-    ensures { λ r. ⌜ (r ≡ slotOf (tableOf call) (now (s .entry)) i) × (r < 835) ⌝ }
+// The slot of the cell that record i names, which lies within the sizes.
+fn slot_at(call: usize, z: Sizes, firsts: &[usize; 34], s: &[u8], i: usize) -> usize
+    requires { ⌜ Small z × (now firsts ≡ firstSlots (kindsOf call z)) × (i < count (now s)) × (beyond (kindsOf call z) (now s) i ≡ false) ⌝ }
+    ensures { λ r. ⌜ (r ≡ slotOf (kindsOf call z) (now (s .entry)) i) × (r < slotCount (kindsOf call z)) ⌝ }
 {
     let kind = kind_at(s, i);
-    let first = first_slot(call, kind);
-    let k = kind_of(call, kind);
-    first + offset_in(k, count_at(s, i), row_at(s, i), column_at(s, i))
+    let k = kind_of(call, z, kind);
+    let first = firsts[kind as usize];
+    let count = k.count;
+    let row = k.row;
+    let column = k.column;
+    let n = index_of(count, count_at(s, i));
+    let r = index_of(row, row_at(s, i));
+    let c = index_of(column, column_at(s, i));
+    first + offset_in(k, n, r, c)
 }
 
-// Some record names a cell that an earlier one names. A flag for each cell: a file of more records than cells stops at the first that is there
-// already.
-pub fn any_again(call: bool, s: &[u8]) -> bool
-    requires { ⌜ any (count (now s)) (badRecord (tableOf call) (now s)) ≡ false ⌝ }
-    ensures { λ r. ⌜ r ≡ any (count (now (s .entry))) (again (tableOf call) (now (s .entry))) ⌝ }
+// Sets the flag of each cell that a record names, until one names a cell that an earlier one names. The lent flags are all clear at first; a file of more records than cells stops at the first that is
+// there already.
+pub fn mark_cells(call: usize, z: Sizes, firsts: &[usize; 34], s: &[u8], flags: &mut [bool]) -> bool
+    requires { ⌜ Small z × (now firsts ≡ firstSlots (kindsOf call z)) × (any (count (now s)) (beyond (kindsOf call z) (now s)) ≡ false) ⌝ }
+    requires { ⌜ (now flags ≡ replicate (length (now flags)) false) × (slotCount (kindsOf call z) ≤ length (now flags)) ⌝ }
+    ensures { λ r. ⌜ r ≡ any (count (now (s .entry))) (again (kindsOf call z) (now (s .entry))) ⌝ }
+    ensures { λ r. ⌜ (r ≡ false → now (flags .exit) ≡ flagsAfter (length (now (flags .entry))) (kindsOf call z) (now (s .entry)) (count (now (s .entry)))) ⌝ }
 {
     let n = s.len() / 16;
-    let mut flags = [false; 835];
     let mut i = 0;
     while i < n {
-        let at = slot_at(call, s, i);
+        let at = slot_at(call, z, firsts, s, i);
         if flags[at] {
             return true;
         }
@@ -108,34 +96,58 @@ pub fn any_again(call: bool, s: &[u8]) -> bool
     false
 }
 
-// A flag for each cell that some record names.
-pub fn flags_of(call: bool, s: &[u8]) -> [bool; 835]
-    requires { ⌜ any (count (now s)) (badRecord (tableOf call) (now s)) ≡ false ⌝ }
-    ensures { λ r. ⌜ r ≡ flagsAfter (tableOf call) (now (s .entry)) (count (now (s .entry))) ⌝ }
+// The number in each cell, +0 where no record names it. The lent sheet is all +0 at first.
+pub fn fill_sheet(call: usize, z: Sizes, firsts: &[usize; 34], s: &[u8], sheet: &mut [f64])
+    requires { ⌜ Small z × (now firsts ≡ firstSlots (kindsOf call z)) × (any (count (now s)) (beyond (kindsOf call z) (now s)) ≡ false) ⌝ }
+    requires { ⌜ (now sheet ≡ replicate (length (now sheet)) plusZero) × (slotCount (kindsOf call z) ≤ length (now sheet)) ⌝ }
+    ensures { λ _. ⌜ now (sheet .exit) ≡ sheetAfter (length (now (sheet .entry))) (kindsOf call z) (now (s .entry)) (count (now (s .entry))) ⌝ }
 {
     let n = s.len() / 16;
-    let mut flags = [false; 835];
     let mut i = 0;
     while i < n {
-        let at = slot_at(call, s, i);
-        flags[at] = true;
-        i += 1;
-    }
-    flags
-}
-
-// The number in each cell, +0 where no record names it.
-pub fn sheet_of(call: bool, s: &[u8]) -> [f64; 835]
-    requires { ⌜ any (count (now s)) (badRecord (tableOf call) (now s)) ≡ false ⌝ }
-    ensures { λ r. ⌜ r ≡ sheetAfter (tableOf call) (now (s .entry)) (count (now (s .entry))) ⌝ }
-{
-    let n = s.len() / 16;
-    let mut sheet = [0.0; 835];
-    let mut i = 0;
-    while i < n {
-        let at = slot_at(call, s, i);
+        let at = slot_at(call, z, firsts, s, i);
         sheet[at] = value_at(s, i);
         i += 1;
     }
-    sheet
+}
+
+// One of the m flags from `at` on is not set.
+fn gap_in(flags: &[bool], at: usize, m: usize) -> bool
+    requires { ⌜ at + m ≤ length (now flags) ⌝ }
+    ensures { λ b. ⌜ b ≡ gap (now (flags .entry)) at m ⌝ }
+{
+    let mut j = 0;
+    while j < m {
+        if !flags[at + j] {
+            return true;
+        }
+        j += 1;
+    }
+    false
+}
+
+// Kind k misses a cell; where absent cells are zero it misses none.
+fn missing_in(call: usize, z: Sizes, firsts: &[usize; 34], flags: &[bool], k: u8) -> bool
+    requires { ⌜ Small z × (now firsts ≡ firstSlots (kindsOf call z)) × (slotCount (kindsOf call z) ≤ length (now flags)) × (k < kindNumbers) ⌝ }
+    ensures { λ b. ⌜ b ≡ missingIn (kindsOf call z) (now (flags .entry)) k ⌝ }
+{
+    let kind = kind_of(call, z, k);
+    if kind.sparse {
+        return false;
+    }
+    gap_in(flags, firsts[k as usize], slots_of(kind))
+}
+
+pub fn any_missing(call: usize, z: Sizes, firsts: &[usize; 34], flags: &[bool]) -> bool
+    requires { ⌜ Small z × (now firsts ≡ firstSlots (kindsOf call z)) × (slotCount (kindsOf call z) ≤ length (now flags)) ⌝ }
+    ensures { λ b. ⌜ b ≡ any kindNumbers (missingIn (kindsOf call z) (now (flags .entry))) ⌝ }
+{
+    let mut k: u8 = 0;
+    while k < 33 {
+        if missing_in(call, z, firsts, flags, k) {
+            return true;
+        }
+        k += 1;
+    }
+    false
 }

@@ -59,9 +59,9 @@ fn print_answer(satterthwaite: bool, file: &[u8]) {
 
 // The n digits of a line as they were read, a blank, and the answer to the file that they spell.
 fn print_line(satterthwaite: bool, digits: &[u8], n: usize)
-    requires { ⌜ (n ≤ length (now digits)) × (n ≤ 26720) ⌝ }
+    requires { ⌜ (n ≤ length (now digits)) × (n ≤ 32768) ⌝ }
 {
-    let mut file = [0u8; 13360];
+    let mut file = [0u8; 16384];
     let bytes = n / 2;
     table_bits_text::spell(digits, bytes, &mut file);
     io::write_all(1, &digits[..n]);
@@ -69,12 +69,12 @@ fn print_line(satterthwaite: bool, digits: &[u8], n: usize)
     print_answer(satterthwaite, &file[..bytes]);
 }
 
-// Takes one byte of the input. `held` is how many digits of the line are held; after the blank it is 26721 until the newline, so that the expected answer is passed over unread.
-fn take(satterthwaite: bool, b: u8, digits: &mut [u8; 26720], held: usize) -> usize
-    requires { ⌜ held ≤ 26721 ⌝ }
-    ensures { λ r. ⌜ r ≤ 26721 ⌝ }
+// Takes one byte of the input. `held` is how many digits of the line are held; after the blank it is 32769 until the newline, so that the expected answer is passed over unread.
+fn take(satterthwaite: bool, b: u8, digits: &mut [u8; 32768], held: usize) -> usize
+    requires { ⌜ held ≤ 32769 ⌝ }
+    ensures { λ r. ⌜ r ≤ 32769 ⌝ }
 {
-    if held == 26721 {
+    if held == 32769 {
         if b == 10 {
             return 0;
         }
@@ -82,18 +82,18 @@ fn take(satterthwaite: bool, b: u8, digits: &mut [u8; 26720], held: usize) -> us
     }
     if b == 32 {
         print_line(satterthwaite, digits, held);
-        return 26721;
+        return 32769;
     }
-    if held < 26720 {
+    if held < 32768 {
         digits[held] = b;
         return held + 1;
     }
     held
 }
 
-fn take_all(satterthwaite: bool, part: &[u8], digits: &mut [u8; 26720], start: usize) -> usize
-    requires { ⌜ start ≤ 26721 ⌝ }
-    ensures { λ r. ⌜ r ≤ 26721 ⌝ }
+fn take_all(satterthwaite: bool, part: &[u8], digits: &mut [u8; 32768], start: usize) -> usize
+    requires { ⌜ start ≤ 32769 ⌝ }
+    ensures { λ r. ⌜ r ≤ 32769 ⌝ }
 {
     let mut held = start;
     for i in 0..part.len() {
@@ -103,9 +103,9 @@ fn take_all(satterthwaite: bool, part: &[u8], digits: &mut [u8; 26720], start: u
 }
 
 // The next 65,536 bytes of standard input, or what is left of it.
-fn next_part(satterthwaite: bool, digits: &mut [u8; 26720], held: usize) -> usize
-    requires { ⌜ held ≤ 26721 ⌝ }
-    ensures { λ r. ⌜ r ≤ 26721 ⌝ }
+fn next_part(satterthwaite: bool, digits: &mut [u8; 32768], held: usize) -> usize
+    requires { ⌜ held ≤ 32769 ⌝ }
+    ensures { λ r. ⌜ r ≤ 32769 ⌝ }
 {
     let mut part = io::large_buffer();
     let n = io::read_full(0, &mut part);
@@ -114,7 +114,7 @@ fn next_part(satterthwaite: bool, digits: &mut [u8; 26720], held: usize) -> usiz
 
 // Replays the list on standard input, of at most 16 MiB, by one of the two calls.
 pub fn replay(satterthwaite: bool) {
-    let mut digits = [0u8; 26720];
+    let mut digits = [0u8; 32768];
     let mut held: usize = 0;
     for k in 0..256usize {
         held = next_part(satterthwaite, &mut digits, held);

@@ -3,7 +3,9 @@ mod print;
 
 ghost use mathlib.Core.Path.{_≡_};
 ghost use Prim.Native.Nat.{_≤_};
-ghost use Rattle.records.specs.Series.{refusal};
+ghost use Rattle.records.specs.Series.{sizes, kinds};
+ghost use Rattle.records_sheet.specs.joints.Sheet.{firstSlots};
+ghost use Rattle.records_refusals.specs.joints.Room.{SeriesRead};
 use arithmetic_cutoffs::document_cutoffs;
 
 // No series has more than m.
@@ -13,24 +15,30 @@ fn at_most(n: usize, m: usize) -> usize
     if n < m { n } else { m }
 }
 
-// The adjustment of a file that the reader does not refuse. An accepted series has one place for each theta, and one G more.
-fn print_adjustment(file: &[u8])
-    requires { ⌜ refusal (now file) ≡ 0 ⌝ }
+// The adjustment of a file that the reader takes, from its sheet. An accepted series has one place for each theta, and one G more.
+fn print_adjustment(file: &[u8], sheet: &[f64])
+    requires { ⌜ SeriesRead 24 (now file) (sizes (now file)) (firstSlots (kinds (now file))) (now sheet) ⌝ }
 {
-    let z = records_series::sizes_of(file);
-    let sheet = records_sheet::sheet_of(false, file);
+    let z = records_sizes::series_sizes(file);
+    let firsts = records_sheet::first_slots(0, z);
     let p = at_most(z.coefficients, 6);
     let n = at_most(z.thetas, 3) + 1;
     let blank = algebra_products::zeros();
+    let mut work = [0.0; 3456];
+    let mut narrow = [0.0; 864];
     let mut phi_a = blank;
     let mut ps = [blank; 4];
     let mut w = blank;
     let mut turns: usize = 0;
     records_kenward_roger::kenward_roger_modcomp_data(
+        24,
         document_cutoffs(),
         file,
         z,
-        &sheet,
+        &firsts,
+        sheet,
+        &mut work,
+        &mut narrow,
         &mut phi_a,
         &mut ps,
         &mut w,
@@ -54,8 +62,10 @@ fn print_case(file: &[u8]) {
     if print_tests(file) {
         return;
     }
-    if records_refusals::refusal(file) == 0 {
-        print_adjustment(file);
+    let mut flags = [false; 1024];
+    let mut sheet = [0.0; 1024];
+    if records_refusals::refusal(24, file, &mut flags, &mut sheet) == 0 {
+        print_adjustment(file, &sheet);
     }
 }
 

@@ -5,7 +5,7 @@ use mathlib.Core.Bool.{false}
 use Rattle.adjustment.specs.Blocks.{blockAt}
 use Rattle.records.specs.Scan.{any}
 use Rattle.records.proofs.ScanLaws.{any-miss, any-hit}
-use Rattle.records_series.specs.joints.Checks.{wrongBlock}
+use Rattle.records_block_limits.specs.joints.Checks.{wrongBlock}
 use native.Mathlib.Omega.{arith}
 use Rattle.records_block_limits.proofs.any_wrong.Statement.{statement}
 use Rattle.records_block_limits.proofs.any_wrong.Tie as tie

@@ -1,5 +1,5 @@
 -- `records_block_limits::bad_size` meets its contract.
-use Rattle.records_series.specs.joints.Checks.{badSizeIn}
+use Rattle.records_block_limits.specs.joints.Checks.{badSizeIn}
 use borrow.Author.Needs.{needs}
 use Rattle.records_block_limits.proofs.bad_size.Statement.{statement}
 use Rattle.records_block_limits.proofs.bad_size.Tie as tie

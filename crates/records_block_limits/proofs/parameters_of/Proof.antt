@@ -5,7 +5,7 @@ use native.Mathlib.Nat.{mul-le-mul}
 use Rattle.adjustment.specs.Blocks.{blockAt}
 use Rattle.records.specs.Scan.{total}
 use Rattle.records.proofs.ScanLaws.{total-more}
-use Rattle.records_series.specs.joints.Checks.{parametersIn}
+use Rattle.records_block_limits.specs.joints.Checks.{parametersIn}
 use native.Mathlib.Omega.{arith}
 use Rattle.records_block_limits.proofs.parameters_of.Statement.{statement}
 use Rattle.records_block_limits.proofs.parameters_of.Tie as tie

@@ -1,6 +1,6 @@
 -- `records_block_limits::wrong_block` meets its contract.
 use mathlib.Core.Path.{refl}
-use Rattle.records_series.specs.joints.Checks.{wrongBlock}
+use Rattle.records_block_limits.specs.joints.Checks.{wrongBlock}
 use Rattle.records_block_limits.proofs.wrong_block.Statement.{statement}
 use Rattle.records_block_limits.proofs.wrong_block.Tie as tie
 use Rattle.records_block_limits.proofs.wrong_block.Reads as reads

@@ -1,39 +1,31 @@
 -- `records_ddf::call` meets its contract.
-use mathlib.Core.Path.{_∙_}
-use Rattle.records_satterthwaite.proofs.Judged.{other-length, call-refused, call-filled}
+use mathlib.Core.Path.{ap, _∙_}
+use denote.Ref.{now}
+use Rattle.arithmetic_cutoffs.specs.declared.Cutoffs.{Cutoffs}
+use Rattle.records.specs.SatterthwaiteCall.{returned, written}
 use borrow.Author.Needs.{needs}
 use Rattle.records_ddf.proofs.call.Statement.{statement}
 use Rattle.records_ddf.proofs.call.Tie as tie
 
-returns : tie.Need-returns
-returns c = other-length _ _ _ (c .if1 .taken)
-
+-- src/lib.rt:120:15
 document-cutoffs-requires : tie.Need-document-cutoffs-requires
 document-cutoffs-requires c κs = search needs
 
-judge-requires : tie.Need-judge-requires
-judge-requires c κs = search needs
+-- src/lib.rt:120:5
+call-with-requires : tie.Need-call-with-requires
+call-with-requires c κs = search needs
 
-returns-2 : tie.Need-returns-2
-returns-2 c = call-refused _ _ _ _ _ (c .before .before .before .document-cutoffs .ensures) (c .before .before .before .before .if1 .left) (c .before .judge .ensures .1) (c .if2 .taken)
-
-put-entry-requires : tie.Need-put-entry-requires
-put-entry-requires c κs = search needs
-
+-- src/lib.rt:116:1
 same-length : tie.Need-same-length
 same-length c = search needs
 
-returns-3 : tie.Need-returns-3
-returns-3 c = let f = call-filled _ _ _ _ _ _ (c .before .before .before .before .before .before .before .document-cutoffs .ensures) (c .before .before .before .before .before .before .before .before .if1 .left) (c .before .before .before .before .before .judge .ensures .1) (c .before .before .before .before .if2 .left) (c .before .before .before .before .before .judge .ensures .0) in (f .0, c .before .before .put-entry .ensures ∙ f .1)
+-- src/lib.rt:116:1
+returns : tie.Need-returns
+returns c =
+    let a = c .before .before .before .before .before .before .before .args in
+    let d = c .before .before .before .before .document-cutoffs .ensures in
+    let e = c .before .before .call-with .ensures in
+    (e .0 ∙ ap (λ (k : Cutoffs). returned k (now (a .records)) (now (a .answer))) d, e .1 ∙ ap (λ (k : Cutoffs). written k (now (a .records)) (now (a .answer))) d)
 
 pub call-spec : {M : Type 1} → statement M
-call-spec =
-    tie.close
-    (tie.spec
-    returns
-    document-cutoffs-requires
-    judge-requires
-    returns-2
-    put-entry-requires
-    same-length
-    returns-3)
+call-spec = tie.close (tie.spec document-cutoffs-requires call-with-requires same-length returns)

@@ -1,5 +1,4 @@
 -- `records_kenward_roger::counted` meets its contract.
-use borrow.Author.Needs.{needs}
 use Rattle.records_kenward_roger.proofs.counted.Statement.{statement}
 use Rattle.records_kenward_roger.proofs.counted.Tie as tie
 use Rattle.records_kenward_roger.proofs.counted.Reads as reads

@@ -12,23 +12,23 @@ use Rattle.records_kenward_roger.proofs.text.Reads as reads
 use Rattle.records_kenward_roger.proofs.text.Lts as lts
 use Rattle.arithmetic_cutoffs.proofs.document_cutoffs.Reads as document-cutoffs-reads
 use Rattle.records_answer_text.proofs.put_run.Reads as put-run-reads
-use Rattle.records_kenward_roger.proofs.judge.Reads as judge-reads
+use Rattle.records_kenward_roger.proofs.judge_panel.Reads as judge-panel-reads
 
 document-cutoffs-requires : tie.Need-document-cutoffs-requires
 document-cutoffs-requires c κs = search needs
 
-judge-requires : tie.Need-judge-requires
-judge-requires c κs = search needs
+judge-panel-requires : tie.Need-judge-panel-requires
+judge-panel-requires c κs = search needs
 
 put-run-requires : tie.Need-put-run-requires
 put-run-requires c κs = search needs
 
 returns : tie.Need-returns
 returns c =
-    let a = c .before .before .before .before .before .before .before .args in
-    let e = c .before .before .before .before .before .document-cutoffs .ensures in
-    let n = c .before .before .judge .ensures .1 .0 ∙ ap (λ (x : Cutoffs). number x (a .records .now)) e in
-    let es = c .before .before .judge .ensures .0 ∙ ap (λ (x : Cutoffs). entries x (a .records .now)) e in
+    let a = c .before .before .before .before .before .before .before .before .args in
+    let e = c .before .before .before .before .before .before .document-cutoffs .ensures in
+    let n = c .before .before .judge-panel .ensures .1 .0 ∙ ap (λ (x : Cutoffs). number 24 x (a .records .now)) e in
+    let es = c .before .before .judge-panel .ensures .0 ∙ ap (λ (x : Cutoffs). entries 24 x (a .records .now)) e in
     let f = ap₂ textOf n es in
     let p = named {n = 512} (c .put-run .ensures) f (omega arith) in
     let u = p .moved in
@@ -36,4 +36,5 @@ returns c =
     ((omega arith, omega arith), p .stored)
 
 pub text-spec : {M : Type 1} → statement M
-text-spec = tie.close (tie.spec document-cutoffs-requires judge-requires put-run-requires returns)
+text-spec =
+    tie.close (tie.spec document-cutoffs-requires judge-panel-requires put-run-requires returns)

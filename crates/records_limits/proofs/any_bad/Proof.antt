@@ -6,19 +6,16 @@ use denote.Ref.{now}
 use Rattle.records.specs.Scan.{any}
 use Rattle.records.proofs.ScanLaws.{any-miss, any-hit}
 use Rattle.records.specs.File.{count, badRecord}
-use Rattle.records_file.specs.joints.Sheet.{tableOf}
+use Rattle.records.specs.Kinds.{kindsOf}
 use native.Mathlib.Omega.{arith}
 use Rattle.records_limits.proofs.any_bad.Statement.{statement}
 use Rattle.records_limits.proofs.any_bad.Tie as tie
-use Rattle.records_limits.proofs.any_bad.Reads as reads
-use Rattle.records_limits.proofs.any_bad.Lts as lts
-use Rattle.records_limits.proofs.bad_record.Reads as bad-record-reads
 
 abbrev Inv-loop : tie.InvT-loop
-Inv-loop call s n i₀ i = (n ≡ count s) × (i ≤ n) × (any i (badRecord (tableOf call) s) ≡ false)
+Inv-loop call limit s n i₀ i = (n ≡ count s) × (i ≤ n) × (any i (badRecord (kindsOf call limit) s) ≡ false)
 
 abbrev μ-loop : tie.MeasureT-loop
-μ-loop call s n i₀ i = n - i
+μ-loop call limit s n i₀ i = n - i
 
 loop-holds : tie.Need-loop-holds Inv-loop μ-loop
 unfolding any

@@ -4,13 +4,6 @@ use Rattle.records.specs.File.{badRecord}
 use borrow.Author.Needs.{needs}
 use Rattle.records_limits.proofs.bad_record.Statement.{statement}
 use Rattle.records_limits.proofs.bad_record.Tie as tie
-use Rattle.records_limits.proofs.bad_record.Reads as reads
-use Rattle.records_limits.proofs.bad_record.Lts as lts
-use Rattle.records_file.proofs.bits_at.Reads as bits-at-reads
-use Rattle.records_file.proofs.kind_at.Reads as kind-at-reads
-use Rattle.records_file.proofs.kind_of.Reads as kind-of-reads
-use Rattle.records_limits.proofs.out_of.Reads as out-of-reads
-use Rattle.records_file.proofs.padding_at.Reads as padding-at-reads
 
 kind-at-requires : tie.Need-kind-at-requires
 kind-at-requires c κs = search needs
@@ -35,13 +28,12 @@ returns-2 c = rw (← c .before .before .before .before .before .kind-at .ensure
 bits-at-requires : tie.Need-bits-at-requires
 bits-at-requires c κs = search needs
 
+value-holds-requires : tie.Need-value-holds-requires
+value-holds-requires c κs = search needs
+
 returns-3 : tie.Need-returns-3
 unfolding badRecord
-returns-3 c = rw (← c .before .before .before .before .before .before .before .kind-at .ensures, ← c .before .before .before .before .before .before .kind-of .ensures, ← c .before .before .before .before .before .out-of .ensures, c .before .before .before .before .if1 .left, ← c .before .before .before .padding-at .ensures .0, eq-eqb _ _ (c .before .before .if2 .left), c .before .if3 .taken, ← c .bits-at .ensures)
-
-returns-4 : tie.Need-returns-4
-unfolding badRecord
-returns-4 c = rw (← c .before .before .before .before .before .before .kind-at .ensures, ← c .before .before .before .before .before .kind-of .ensures, ← c .before .before .before .before .out-of .ensures, c .before .before .before .if1 .left, ← c .before .before .padding-at .ensures .0, eq-eqb _ _ (c .before .if2 .left), c .if3 .left)
+returns-3 c = rw (← c .before .before .before .before .before .before .before .kind-at .ensures, ← c .before .before .before .before .before .before .kind-of .ensures, ← c .before .before .before .before .before .out-of .ensures, c .before .before .before .before .if1 .left, ← c .before .before .before .padding-at .ensures .0, eq-eqb _ _ (c .before .before .if2 .left), ← c .before .bits-at .ensures, ← c .value-holds .ensures)
 
 pub bad-record-spec : {M : Type 1} → statement M
 bad-record-spec =
@@ -54,5 +46,5 @@ bad-record-spec =
     padding-at-requires
     returns-2
     bits-at-requires
-    returns-3
-    returns-4)
+    value-holds-requires
+    returns-3)

@@ -2,18 +2,19 @@
 use Prim.Native.Nat.{_+_, _≤_, _-_}
 use mathlib.Core.Path.{_≡_, refl, sym}
 use mathlib.Core.Bool.{false}
+use lib.ListN.{length}
 use lib.Ieee.{ofBits}
+use native.Mathlib.Omega.{arith}
 use Rattle.records.specs.Scan.{any}
 use Rattle.records.proofs.ScanLaws.{any-miss, any-hit}
-use Rattle.records_series.specs.joints.Checks.{notPositive}
-use native.Mathlib.Omega.{arith}
+use Rattle.records_refusals.specs.joints.Checks.{notPositive}
 use Rattle.records_refusals.proofs.any_not_positive.Statement.{statement}
 use Rattle.records_refusals.proofs.any_not_positive.Tie as tie
 use Rattle.records_refusals.proofs.any_not_positive.Reads as reads
 use Rattle.records_refusals.proofs.any_not_positive.Lts as lts
 
 abbrev Inv-loop : tie.InvT-loop
-Inv-loop sheet at m j₀ j = (j ≤ m) × (at + m ≤ 835) × (notPositive sheet at j ≡ false)
+Inv-loop sheet at m j₀ j = (j ≤ m) × (at + m ≤ length sheet) × (notPositive sheet at j ≡ false)
 
 abbrev μ-loop : tie.MeasureT-loop
 μ-loop sheet at m j₀ j = m - j
@@ -28,8 +29,8 @@ add-if1 c = omega arith
 mul-if1 : tie.Need-mul-if1 Inv-loop μ-loop
 mul-if1 c = omega arith
 
-element-copy-out-if1 : tie.Need-element-copy-out-if1 Inv-loop μ-loop
-element-copy-out-if1 c = omega arith
+shared-slice-read-if1 : tie.Need-shared-slice-read-if1 Inv-loop μ-loop
+shared-slice-read-if1 c = omega arith
 
 returns : tie.Need-returns Inv-loop μ-loop
 unfolding notPositive ofBits
@@ -57,7 +58,7 @@ any-not-positive-spec =
     loop-holds
     add-if1
     mul-if1
-    element-copy-out-if1
+    shared-slice-read-if1
     returns
     add-j
     loop-less

@@ -1,7 +1,8 @@
 -- `records_refusals::bad_weight` meets its contract.
-use Rattle.records_series.specs.joints.Checks.{badWeightIn}
+use mathlib.Core.Bool.{Bool, cond}
+use mathlib.Core.Path.{ap}
 use native.Mathlib.Omega.{arith}
-use borrow.Author.Needs.{needs}
+use Rattle.records_refusals.specs.joints.Checks.{badWeightIn}
 use Rattle.records_refusals.proofs.bad_weight.Statement.{statement}
 use Rattle.records_refusals.proofs.bad_weight.Tie as tie
 use Rattle.records_refusals.proofs.bad_weight.Reads as reads
@@ -9,7 +10,10 @@ use Rattle.records_refusals.proofs.bad_weight.Lts as lts
 use Rattle.records_refusals.proofs.any_not_positive.Reads as any-not-positive-reads
 
 any-not-positive-requires : tie.Need-any-not-positive-requires
-any-not-positive-requires c κs = omega (arith, c .before .pre .specimens)
+any-not-positive-requires c κs =
+    let a = c .before .before .args in
+    let e = ap (λ (b : Bool). cond b (a .z .specimens) 0) (c .if1 .taken) in
+    omega (arith, c .before .before .pre)
 
 returns : tie.Need-returns
 unfolding badWeightIn

@@ -1,108 +1,139 @@
 -- `records_refusals::refusal` meets its contract.
-use Prim.Native.Nat.{ℕ, _≤_}
 use mathlib.Core.Path.{_≡_, sym, ap, _∙_}
-use mathlib.Core.Bool.{Bool, false, cond}
-use mathlib.Core.List.{List}
+use native.Mathlib.Omega.{arith}
 use denote.Ref.{now}
-use lib.Ieee.{Float, le}
-use Rattle.arithmetic.specs.Numbers.{plusZero}
-use Rattle.algebra.specs.Table.{row}
-use Rattle.adjustment.specs.declared.Block.{Block}
-use Rattle.adjustment.specs.Blocks.{noBlock}
-use Rattle.records.specs.Kinds.{kenwardRoger}
+use lib.ListN.{length}
+use Rattle.records.specs.declared.Sizes.{Sizes}
+use Rattle.records.specs.Kinds.{kindsOf}
 use Rattle.records.specs.File.{count}
-use Rattle.records_file.specs.joints.Sheet.{sheetAfter}
-use Rattle.records.specs.Series.{blockCount, blockOf, badSize, sigma2, badWeight, misfit, zeroContrast}
-use Rattle.records_series.specs.declared.SeriesSizes.{SeriesSizes}
-use Rattle.records_series.specs.joints.Gathered.{sizesOf, malformedFile}
-use Rattle.records_series.specs.joints.Checks.{badSizeIn, sheetRefusal}
-use Rattle.records_series.proofs.Gathers.{small}
-use Rattle.records_series.proofs.Numbers.{size-read, sheet-read, refusal-cases, malformed-good}
+use Rattle.records.specs.Series.{sizes}
+use Rattle.records_sheet.specs.joints.Sheet.{sheetAfter}
+use Rattle.records_sheet.proofs.Sheets.{length-sheet}
+use Rattle.records_refusals.proofs.RefusalLaws.{Sound, sound-of, form-refuses, size-is, size-refuses, value-refuses, sheet-refuses}
 use borrow.Author.Needs.{needs}
 use Rattle.records_refusals.proofs.refusal.Statement.{statement}
 use Rattle.records_refusals.proofs.refusal.Tie as tie
 use Rattle.records_refusals.proofs.refusal.Reads as reads
 use Rattle.records_refusals.proofs.refusal.Lts as lts
-use Rattle.records_file.proofs.any_not_finite.Reads as any-not-finite-reads
-use Rattle.records_sheet.proofs.sheet_of.Reads as sheet-of-reads
 use Rattle.records_block_limits.proofs.bad_size.Reads as bad-size-reads
-use Rattle.records_series.proofs.blocks_of.Reads as blocks-of-reads
+use Rattle.records_file.proofs.any_not_finite.Reads as any-not-finite-reads
+use Rattle.records_form.proofs.form_refusal.Reads as form-refusal-reads
 use Rattle.records_refusals.proofs.sheet_refusal.Reads as sheet-refusal-reads
-use Rattle.records_malformed.proofs.malformed.Reads as malformed-reads
-use Rattle.records_series.proofs.sizes_of.Reads as sizes-of-reads
+use Rattle.records_series.proofs.blocks_of.Reads as blocks-of-reads
+use Rattle.records_sheet.proofs.fill_sheet.Reads as fill-sheet-reads
+use Rattle.records_sheet.proofs.first_slots.Reads as first-slots-reads
+use Rattle.records_sizes.proofs.series_sizes.Reads as series-sizes-reads
 
-count-of : (s : List ℕ) (z : SeriesSizes) → z ≡ sizesOf s → z .blocks ≡ blockCount s
-unfolding sizesOf
-count-of s z e = ap (λ (x : SeriesSizes). x .blocks) e
+form-refusal-requires : tie.Need-form-refusal-requires
+unfolding kindsOf
+form-refusal-requires c κs = let p = c .before .before .before .before .pre in (p .some, p .most, p .clear, p .flagged)
 
-few : (s : List ℕ) → malformedFile s ≡ false → blockCount s ≤ 3
-unfolding sizesOf
-few s e = small s (malformed-good s e) .blocks
-
-size-of-blocks : (s : List ℕ) (n : ℕ) (bs : List Block) (r : Bool) → n ≡ blockCount s → bs ≡ row noBlock 3 n (blockOf s) → r ≡ badSizeIn bs n → blockCount s ≤ 3 → r ≡ badSize s
-size-of-blocks s n bs r en eb er h = er ∙ rw (eb, en) (size-read s h)
-
-sheet-of-file : (s : List ℕ) (z : SeriesSizes) (bs : List Block) (xs : List Float) (r : ℕ) → malformedFile s ≡ false → z ≡ sizesOf s → bs ≡ row noBlock 3 (blockCount s) (blockOf s) → xs ≡ sheetAfter kenwardRoger s (count s) → r ≡ sheetRefusal z bs xs
-    → r ≡ cond (le (sigma2 s) plusZero) 5 (cond (badWeight s) 6 (cond (misfit s) 7 (cond (zeroContrast s) 8 0)))
-sheet-of-file s z bs xs r m ez eb ex er = er ∙ rw (ez, eb, ex) (sheet-read s (malformed-good s m) (few s m))
-
-malformed-requires : tie.Need-malformed-requires
-malformed-requires c κs = search needs
+same-length : tie.Need-same-length
+same-length c = search needs
 
 returns : tie.Need-returns
-returns c = rw (refusal-cases (now (c .before .before .before .args .s)), ← c .before .malformed .ensures, c .if1 .taken)
+returns c =
+    let a = c .before .before .before .before .before .before .before .before .args in
+    (form-refuses (a .w) (now (a .s)) _ (c .before .before .before .form-refusal .ensures) (c .if1 .taken), λ q. absurd (c .if1 .taken q))
 
-sizes-of-requires : tie.Need-sizes-of-requires
-sizes-of-requires c κs = search needs
+series-sizes-requires : tie.Need-series-sizes-requires
+series-sizes-requires c κs = search needs
+
+-- its form does not refuse the file
+sound : (c : tie.Else1) (z : Sizes) → z ≡ sizes (now (c .before .before .before .before .before .before .before .before .args .s)) → Sound (c .before .before .before .before .before .before .before .before .args .w) (now (c .before .before .before .before .before .before .before .before .args .s)) z
+sound c z e =
+    let a = c .before .before .before .before .before .before .before .before .args in
+    let p = c .before .before .before .before .before .before .before .before .pre in
+    sound-of (a .w) (now (a .s)) z _ (p .some) (p .most) (c .before .before .before .form-refusal .ensures) (c .if1 .left) e
 
 blocks-of-requires : tie.Need-blocks-of-requires
-blocks-of-requires c κs = rw (count-of (now (c .before .before .before .before .args .s)) (c .sizes-of .result) (c .sizes-of .ensures)) (few (now (c .before .before .before .before .args .s)) (sym (c .before .before .malformed .ensures) ∙ c .before .if1 .left))
+blocks-of-requires c κs = sound (c .before) _ (c .series-sizes .ensures) .few
 
 bad-size-requires : tie.Need-bad-size-requires
-bad-size-requires c κs = (rw (count-of (now (c .before .before .before .before .before .args .s)) (c .before .sizes-of .result) (c .before .sizes-of .ensures)) (few (now (c .before .before .before .before .before .args .s)) (sym (c .before .before .before .malformed .ensures) ∙ c .before .before .if1 .left)), c .blocks-of .ensures .1)
+bad-size-requires c κs = (sound (c .before .before) _ (c .before .series-sizes .ensures) .few, c .blocks-of .ensures .1)
+
+same-length-2 : tie.Need-same-length-2
+same-length-2 c = search needs
 
 returns-2 : tie.Need-returns-2
 returns-2 c =
-    let s = now (c .before .before .before .before .before .before .before .args .s) in
-    let e = size-of-blocks s (c .before .before .before .sizes-of .result .blocks) (c .before .before .blocks-of .result) (c .before .bad-size .result) (count-of s (c .before .before .before .sizes-of .result) (c .before .before .before .sizes-of .ensures)) (c .before .before .blocks-of .ensures .0) (c .before .bad-size .ensures) (few s (sym (c .before .before .before .before .before .malformed .ensures) ∙ c .before .before .before .before .if1 .left)) in
-    rw (refusal-cases s, ← c .before .before .before .before .before .malformed .ensures, c .before .before .before .before .if1 .left, ← e, c .if2 .taken)
+    let a = c .before .before .before .before .before .before .before .before .before .before .before .before .args in
+    let h = sound (c .before .before .before .before) _ (c .before .before .before .series-sizes .ensures) in
+    let e = size-is (a .w) (now (a .s)) _ h _ _ (c .before .before .blocks-of .ensures .0) (c .before .bad-size .ensures) in
+    (size-refuses (a .w) (now (a .s)) _ h (sym e ∙ c .if2 .taken), λ q. absurd (omega arith))
 
 any-not-finite-requires : tie.Need-any-not-finite-requires
 any-not-finite-requires c κs = search needs
 
+same-length-3 : tie.Need-same-length-3
+same-length-3 c = search needs
+
 returns-3 : tie.Need-returns-3
 returns-3 c =
-    let s = now (c .before .before .before .before .before .before .before .before .before .args .s) in
-    let e = size-of-blocks s (c .before .before .before .before .before .sizes-of .result .blocks) (c .before .before .before .before .blocks-of .result) (c .before .before .before .bad-size .result) (count-of s (c .before .before .before .before .before .sizes-of .result) (c .before .before .before .before .before .sizes-of .ensures)) (c .before .before .before .before .blocks-of .ensures .0) (c .before .before .before .bad-size .ensures) (few s (sym (c .before .before .before .before .before .before .before .malformed .ensures) ∙ c .before .before .before .before .before .before .if1 .left)) in
-    rw (refusal-cases s, ← c .before .before .before .before .before .before .before .malformed .ensures, c .before .before .before .before .before .before .if1 .left, ← e, c .before .before .if2 .left, ← c .before .any-not-finite .ensures, c .if3 .taken)
+    let a = c .before .before .before .before .before .before .before .before .before .before .before .before .before .before .args in
+    let h = sound (c .before .before .before .before .before .before) _ (c .before .before .before .before .before .series-sizes .ensures) in
+    let e = size-is (a .w) (now (a .s)) _ h _ _ (c .before .before .before .before .blocks-of .ensures .0) (c .before .before .before .bad-size .ensures) in
+    (value-refuses (a .w) (now (a .s)) _ h (sym e ∙ c .before .before .if2 .left) (sym (c .before .any-not-finite .ensures) ∙ c .if3 .taken), λ q. absurd (omega arith))
 
-sheet-of-requires : tie.Need-sheet-of-requires
-sheet-of-requires c κs = malformed-good (now (c .before .before .before .before .before .before .before .before .before .args .s)) (sym (c .before .before .before .before .before .before .before .malformed .ensures) ∙ c .before .before .before .before .before .before .if1 .left)
+first-slots-requires : tie.Need-first-slots-requires
+first-slots-requires c κs = sound (c .before .before .before .before .before .before) _ (c .before .before .before .before .before .series-sizes .ensures) .small
+
+fill-sheet-requires : tie.Need-fill-sheet-requires
+unfolding kindsOf
+fill-sheet-requires c κs =
+    let h = sound (c .before .before .before .before .before .before .before .before .before) _ (c .before .before .before .before .before .before .before .before .series-sizes .ensures) in
+    let p = c .before .before .before .before .before .before .before .before .before .before .before .before .before .before .before .before .before .pre in
+    let f = h .fit in
+    let l = p .written in
+    ((h .small, c .before .before .first-slots .ensures, h .within), (p .blank, omega arith))
 
 sheet-refusal-requires : tie.Need-sheet-refusal-requires
-sheet-refusal-requires c κs = (rw (c .before .before .before .before .before .before .before .sizes-of .ensures) (small (now (c .before .before .before .before .before .before .before .before .before .before .before .args .s)) (malformed-good (now (c .before .before .before .before .before .before .before .before .before .before .before .args .s)) (sym (c .before .before .before .before .before .before .before .before .before .malformed .ensures) ∙ c .before .before .before .before .before .before .before .before .if1 .left))), c .before .before .before .before .before .before .blocks-of .ensures .1)
+unfolding kindsOf
+sheet-refusal-requires c κs =
+    let a = c .before .before .before .before .before .before .before .before .before .before .before .before .before .before .before .before .before .before .before .before .before .before .args in
+    let h = sound (c .before .before .before .before .before .before .before .before .before .before .before .before .before .before) _ (c .before .before .before .before .before .before .before .before .before .before .before .before .before .series-sizes .ensures) in
+    let p = c .before .before .before .before .before .before .before .before .before .before .before .before .before .before .before .before .before .before .before .before .before .before .pre in
+    let f = h .fit in
+    let l = p .written in
+    let e = ap length (c .before .before .before .before .fill-sheet .ensures) ∙ length-sheet (length (now (a .sheet))) (kindsOf 0 (c .before .before .before .before .before .before .before .before .before .before .before .before .before .series-sizes .result)) (now (a .s)) (count (now (a .s))) in
+    ((h .small, h .few, c .before .before .before .before .before .before .before .first-slots .ensures, omega arith), c .before .before .before .before .before .before .before .before .before .before .before .before .blocks-of .ensures .1)
+
+same-length-4 : tie.Need-same-length-4
+same-length-4 c = search needs
+
+same-length-5 : tie.Need-same-length-5
+same-length-5 c = search needs
 
 returns-4 : tie.Need-returns-4
+unfolding kindsOf
 returns-4 c =
-    let s = now (c .before .before .before .before .before .before .before .before .before .before .before .before .args .s) in
-    let m = sym (c .before .before .before .before .before .before .before .before .before .before .malformed .ensures) ∙ c .before .before .before .before .before .before .before .before .before .if1 .left in
-    let n = count-of s (c .before .before .before .before .before .before .before .before .sizes-of .result) (c .before .before .before .before .before .before .before .before .sizes-of .ensures) in
-    let e = size-of-blocks s (c .before .before .before .before .before .before .before .before .sizes-of .result .blocks) (c .before .before .before .before .before .before .before .blocks-of .result) (c .before .before .before .before .before .before .bad-size .result) n (c .before .before .before .before .before .before .before .blocks-of .ensures .0) (c .before .before .before .before .before .before .bad-size .ensures) (few s m) in
-    let l = sheet-of-file s (c .before .before .before .before .before .before .before .before .sizes-of .result) (c .before .before .before .before .before .before .before .blocks-of .result) (c .before .before .sheet-of .result) (c .sheet-refusal .result) m (c .before .before .before .before .before .before .before .before .sizes-of .ensures) (c .before .before .before .before .before .before .before .blocks-of .ensures .0 ∙ ap (λ (k : ℕ). row noBlock 3 k (blockOf s)) n) (c .before .before .sheet-of .ensures) (c .sheet-refusal .ensures) in
-    rw (refusal-cases s, ← c .before .before .before .before .before .before .before .before .before .before .malformed .ensures, c .before .before .before .before .before .before .before .before .before .if1 .left, ← e, c .before .before .before .before .before .if2 .left, ← c .before .before .before .before .any-not-finite .ensures, c .before .before .before .if3 .left) l
+    let a = c .before .before .before .before .before .before .before .before .before .before .before .before .before .before .before .before .before .before .before .before .before .before .before .args in
+    let h = sound (c .before .before .before .before .before .before .before .before .before .before .before .before .before .before .before) _ (c .before .before .before .before .before .before .before .before .before .before .before .before .before .before .series-sizes .ensures) in
+    let p = c .before .before .before .before .before .before .before .before .before .before .before .before .before .before .before .before .before .before .before .before .before .before .before .pre in
+    let e = size-is (a .w) (now (a .s)) _ h _ _ (c .before .before .before .before .before .before .before .before .before .before .before .before .before .blocks-of .ensures .0) (c .before .before .before .before .before .before .before .before .before .before .before .before .bad-size .ensures) in (
+      sheet-refuses (a .w) (now (a .s)) _ h (length (now (a .sheet))) _ _ _ (sym e ∙ c .before .before .before .before .before .before .before .before .before .before .before .if2 .left) (sym (c .before .before .before .before .before .before .before .before .before .before .any-not-finite .ensures) ∙ c .before .before .before .before .before .before .before .before .before .if3 .left) (p .written)
+          (c .before .before .before .before .before .before .before .before .before .before .before .before .before .blocks-of .ensures .0) (c .before .before .before .before .before .fill-sheet .ensures) (c .sheet-refusal .ensures),
+      λ _. c .before .before .before .before .before .fill-sheet .ensures ∙ ap (λ (z : Sizes). sheetAfter (length (now (a .sheet))) (kindsOf 0 z) (now (a .s)) (count (now (a .s)))) (h .sized),
+    )
 
 pub refusal-spec : {M : Type 1} → statement M
 refusal-spec =
     tie.close
     (tie.spec
-    malformed-requires
+    form-refusal-requires
+    same-length
     returns
-    sizes-of-requires
+    series-sizes-requires
     blocks-of-requires
     bad-size-requires
+    same-length-2
     returns-2
     any-not-finite-requires
+    same-length-3
     returns-3
-    sheet-of-requires
+    first-slots-requires
+    fill-sheet-requires
     sheet-refusal-requires
+    same-length-4
+    same-length-5
     returns-4)

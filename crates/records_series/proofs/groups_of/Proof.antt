@@ -4,9 +4,8 @@ use mathlib.Core.Path.{_≡_, refl, _∙_}
 use mathlib.Core.Logic.{⊎-elim}
 use denote.Ref.{now}
 use Rattle.records.specs.Scan.{last}
-use Rattle.records.specs.Kinds.{kenwardRoger}
 use Rattle.records.specs.File.{count, countOf, isCell}
-use Rattle.records.specs.Series.{blockOf}
+use Rattle.records.specs.Series.{kinds, blockOf}
 use Rattle.records.proofs.ScanLaws.{last-more}
 use native.Mathlib.Omega.{arith}
 use Rattle.records_series.proofs.groups_of.Statement.{statement}
@@ -17,7 +16,7 @@ use Rattle.records_file.proofs.count_at.Reads as count-at-reads
 use Rattle.records_series.proofs.is_block.Reads as is-block-reads
 
 abbrev Inv-loop : tie.InvT-loop
-Inv-loop s b n v₀ i₀ v i = (n ≡ count s) × (i ≤ n) × (v ≡ last i (isCell kenwardRoger s 3 0 b 0) (countOf s) 0) × (v ≤ 4294967295)
+Inv-loop s b n v₀ i₀ v i = (n ≡ count s) × (i ≤ n) × (v ≡ last i (isCell (kinds s) s 3 0 b 0) (countOf s) 0) × (v ≤ 4294967295)
 
 abbrev μ-loop : tie.MeasureT-loop
 μ-loop s b n v₀ i₀ v i = n - i

@@ -1,20 +1,21 @@
 -- `records_series::is_block` meets its contract.
-use borrow.Author.Tests.{eq-eqb, ne-eqb}
-use mathlib.Core.Path.{_≡_, refl}
-use mathlib.Core.Bool.{Bool, true, false, _&&_}
-use Rattle.records.specs.Kinds.{kindAt, kenwardRoger}
-use Rattle.records.specs.File.{isCell}
+use Prim.Native.Nat.{ℕ}
+use borrow.Author.Tests.{ne-eqb}
+use mathlib.Core.Path.{_≡_, sym, _∙_}
+use mathlib.Core.Bool.{true, _&&_, and-true}
+use mathlib.Core.List.{List}
+use lib.Dec.{eqb}
+use Rattle.records.specs.Kinds.{kindAt, kenwardRogerKinds, indexOf}
+use Rattle.records.specs.File.{kindOf, rowOf, isCell}
+use Rattle.records.specs.Series.{kinds}
 use borrow.Author.Needs.{needs}
 use Rattle.records_series.proofs.is_block.Statement.{statement}
 use Rattle.records_series.proofs.is_block.Tie as tie
-use Rattle.records_series.proofs.is_block.Reads as reads
-use Rattle.records_series.proofs.is_block.Lts as lts
-use Rattle.records_file.proofs.kind_at.Reads as kind-at-reads
-use Rattle.records_file.proofs.row_at.Reads as row-at-reads
 
-and-one : (b : Bool) → b ≡ b && true
-and-one true = refl
-and-one false = refl
+-- a block is named by its row alone: its count and column are numbers and no indices
+block-cell : (s : List ℕ) (b i : ℕ) → kindOf s i ≡ 3 → isCell (kinds s) s 3 0 b 0 i ≡ eqb (rowOf s i) b
+unfolding isCell kindAt kenwardRogerKinds indexOf
+block-cell s b i e = rw e (and-true (eqb (rowOf s i) b && true) ∙ and-true (eqb (rowOf s i) b))
 
 kind-at-requires : tie.Need-kind-at-requires
 kind-at-requires c κs = search needs
@@ -27,8 +28,7 @@ row-at-requires : tie.Need-row-at-requires
 row-at-requires c κs = search needs
 
 returns-2 : tie.Need-returns-2
-unfolding isCell kindAt kenwardRoger
-returns-2 c = rw (← c .before .before .kind-at .ensures, eq-eqb _ _ (c .before .if1 .left), ← c .row-at .ensures .0) (and-one _)
+returns-2 c = rw (block-cell _ _ _ (sym (c .before .before .kind-at .ensures) ∙ c .before .if1 .left), ← c .row-at .ensures .0)
 
 pub is-block-spec : {M : Type 1} → statement M
 is-block-spec = tie.close (tie.spec kind-at-requires returns row-at-requires returns-2)

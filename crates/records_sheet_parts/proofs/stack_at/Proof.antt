@@ -1,32 +1,41 @@
 -- `records_sheet_parts::stack_at` meets its contract.
-use Prim.Native.Nat.{_+_, _≤_, _-_}
+use Prim.Native.Nat.{ℕ, _+_, _*_, _≤_, _-_}
 use mathlib.Core.Path.{_≡_}
+use native.Mathlib.Nat.{mul-le-mul}
+use lib.ListN.{length}
 use lib.Ieee.{ofBits}
 use native.Mathlib.Omega.{arith}
 use Rattle.algebra.specs.Table.{blank}
 use Rattle.algebra.proofs.FoldLaws.{fold-start, fold-next, fold-end}
 use Rattle.records_sheet_parts.specs.joints.Parts.{stackAt}
+use Rattle.records_sheet_parts.proofs.Strides.{row-inside}
 use Rattle.records_sheet_parts.proofs.stack_at.Statement.{statement}
 use Rattle.records_sheet_parts.proofs.stack_at.Tie as tie
 
+small-square : (p : ℕ) → p ≤ 6 → p * p ≤ 36
+small-square p h = mul-le-mul h h
+
 abbrev Inv-loop : tie.InvT-loop
-Inv-loop sheet at n p out₀ i₀ out i = (i ≤ n) × (n ≤ 4) × (p ≤ 6) × (at + 144 ≤ 835) × (out ≡ stackAt sheet at i p)
+Inv-loop sheet at n p out₀ i₀ out i = (i ≤ n) × (n ≤ 4) × (p ≤ 6) × (at + n * (p * p) ≤ length sheet) × (out ≡ stackAt sheet at i p)
 
 abbrev μ-loop : tie.MeasureT-loop
 μ-loop sheet at n p out₀ i₀ out i = n - i
 
 loop-holds : tie.Need-loop-holds Inv-loop μ-loop
 unfolding stackAt blank ofBits
-loop-holds c = (omega arith, c .pre .0, c .pre .1, c .pre .2, fold-start _ _ _)
+loop-holds c = (omega arith, c .before .pre .0, c .before .pre .1, c .before .pre .2, fold-start _ _ _)
 
 mul-cells-at : tie.Need-mul-cells-at Inv-loop μ-loop
-mul-cells-at c = omega arith
+mul-cells-at c = omega (arith, small-square (c .before .before .before .args .p) (c .before .loop .inv .2))
+
+mul-cells-at-2 : tie.Need-mul-cells-at-2 Inv-loop μ-loop
+mul-cells-at-2 c = omega (arith, row-inside _ _ _ _ _ (c .before .loop .inv .3) (c .loop-test .taken))
 
 add-cells-at : tie.Need-add-cells-at Inv-loop μ-loop
-add-cells-at c = omega arith
+add-cells-at c = omega (arith, row-inside _ _ _ _ _ (c .before .loop .inv .3) (c .loop-test .taken))
 
 cells-at-requires : tie.Need-cells-at-requires Inv-loop μ-loop
-cells-at-requires c κs = omega arith
+cells-at-requires c κs = omega (arith, row-inside _ _ _ _ _ (c .before .loop .inv .3) (c .loop-test .taken))
 
 mul-out : tie.Need-mul-out Inv-loop μ-loop
 mul-out c = omega arith
@@ -56,6 +65,7 @@ stack-at-spec =
     μ-loop
     loop-holds
     mul-cells-at
+    mul-cells-at-2
     add-cells-at
     cells-at-requires
     mul-out

@@ -2,7 +2,7 @@
 use Prim.Native.Nat.{_+_, _≤_, _-_}
 use mathlib.Core.Path.{_≡_, refl}
 use denote.Ref.{now}
-use lib.ListN.{getD, set, replicate}
+use lib.ListN.{length, getD, set, replicate}
 use lib.Ieee.{nan, ofBits}
 use Rattle.arithmetic.specs.Numbers.{plusZero}
 use Rattle.algebra.specs.Table.{row}
@@ -11,11 +11,9 @@ use Rattle.records_sheet_parts.specs.joints.Parts.{numbersAt}
 use native.Mathlib.Omega.{arith}
 use Rattle.records_sheet_parts.proofs.three_at.Statement.{statement}
 use Rattle.records_sheet_parts.proofs.three_at.Tie as tie
-use Rattle.records_sheet_parts.proofs.three_at.Reads as reads
-use Rattle.records_sheet_parts.proofs.three_at.Lts as lts
 
 abbrev Inv-loop : tie.InvT-loop
-Inv-loop sheet at n out₀ i₀ out i = (i ≤ n) × (at + n ≤ 835) × (n ≤ 3) × (out ≡ numbersAt sheet 3 at i)
+Inv-loop sheet at n out₀ i₀ out i = (i ≤ n) × (at + n ≤ length sheet) × (n ≤ 3) × (out ≡ numbersAt sheet 3 at i)
 
 abbrev μ-loop : tie.MeasureT-loop
 μ-loop sheet at n out₀ i₀ out i = n - i
@@ -30,8 +28,8 @@ add-out c = omega arith
 mul-out : tie.Need-mul-out Inv-loop μ-loop
 mul-out c = omega arith
 
-element-copy-out-out : tie.Need-element-copy-out-out Inv-loop μ-loop
-element-copy-out-out c = omega arith
+shared-slice-read-out : tie.Need-shared-slice-read-out Inv-loop μ-loop
+shared-slice-read-out c = omega arith
 
 mul-out-2 : tie.Need-mul-out-2 Inv-loop μ-loop
 mul-out-2 c = omega arith
@@ -62,7 +60,7 @@ three-at-spec =
     loop-holds
     add-out
     mul-out
-    element-copy-out-out
+    shared-slice-read-out
     mul-out-2
     array-write-out
     add-i

@@ -5,7 +5,7 @@ use Rattle.replay_vectors.proofs.replay.Statement.{statement}
 use Rattle.replay_vectors.proofs.replay.Tie as tie
 
 abbrev Inv-loop : tie.InvT-loop
-Inv-loop satterthwaite digits₀ held₀ k₀ digits held k = (k ≤ 256) × (held ≤ 26721)
+Inv-loop satterthwaite digits₀ held₀ k₀ digits held k = (k ≤ 256) × (held ≤ 32769)
 
 abbrev μ-loop : tie.MeasureT-loop
 μ-loop satterthwaite digits₀ held₀ k₀ digits held k = 256 - k

@@ -1,14 +1,34 @@
 -- `table_adjustment::print_adjustment` meets its contract.
-use Rattle.records.proofs.AcceptedSeries.{accepted-series}
+use native.Mathlib.Omega.{arith}
+use mathlib.Core.Path.{sym, subst}
+use denote.Ref.{now}
+use Rattle.records.specs.Series.{sizes, kinds}
+use Rattle.records_sheet.specs.joints.Sheet.{Small, firstSlots}
+use Rattle.records_refusals.proofs.RoomLaws.{at-hand}
+use Rattle.records_kenward_roger.proofs.Calls.{small-are}
 use borrow.Author.Needs.{needs}
 use Rattle.table_adjustment.proofs.print_adjustment.Statement.{statement}
 use Rattle.table_adjustment.proofs.print_adjustment.Tie as tie
+use Rattle.table_adjustment.proofs.print_adjustment.Reads as reads
+use Rattle.table_adjustment.proofs.print_adjustment.Lts as lts
+use Rattle.algebra_products.proofs.zeros.Reads as zeros-reads
+use Rattle.arithmetic_cutoffs.proofs.document_cutoffs.Reads as document-cutoffs-reads
+use Rattle.records_kenward_roger.proofs.kenward_roger_modcomp_data.Reads as kenward-roger-modcomp-data-reads
+use Rattle.records_sheet.proofs.first_slots.Reads as first-slots-reads
+use Rattle.records_sizes.proofs.series_sizes.Reads as series-sizes-reads
+use Rattle.table_adjustment.proofs.at_most.Reads as at-most-reads
+use Rattle.table_adjustment.proofs.print.matrix.Reads as matrix-reads
+use Rattle.table_adjustment.proofs.print.numbered.Reads as numbered-reads
+use Rattle.table_adjustment.proofs.print.rotations.Reads as rotations-reads
 
-sizes-of-requires : tie.Need-sizes-of-requires
-sizes-of-requires c κs = search needs
+series-sizes-requires : tie.Need-series-sizes-requires
+series-sizes-requires c κs = search needs
 
-sheet-of-requires : tie.Need-sheet-of-requires
-sheet-of-requires c κs = accepted-series (c .before .before .args .file .now) (c .before .before .pre) .good
+first-slots-requires : tie.Need-first-slots-requires
+first-slots-requires c κs =
+    let d = c .before .before .before in
+    let a = d .args in
+    subst Small (sym (c .series-sizes .ensures)) (small-are 24 (now (a .file)) (sizes (now (a .file))) (firstSlots (kinds (now (a .file)))) (now (a .sheet)) (d .pre))
 
 at-most-requires : tie.Need-at-most-requires
 at-most-requires c κs = search needs
@@ -25,8 +45,18 @@ zeros-requires c κs = search needs
 document-cutoffs-requires : tie.Need-document-cutoffs-requires
 document-cutoffs-requires c κs = search needs
 
+slice-aggregate-kenward-roger-modcomp-data : tie.Need-slice-aggregate-kenward-roger-modcomp-data
+slice-aggregate-kenward-roger-modcomp-data c = search needs
+
+slice-aggregate-kenward-roger-modcomp-data-2 :
+    tie.Need-slice-aggregate-kenward-roger-modcomp-data-2
+slice-aggregate-kenward-roger-modcomp-data-2 c = search needs
+
 kenward-roger-modcomp-data-requires : tie.Need-kenward-roger-modcomp-data-requires
-kenward-roger-modcomp-data-requires c κs = search needs
+kenward-roger-modcomp-data-requires c κs =
+    let d = c .before .before .before .before .before .before .before .before .before .before .before .before .before .before .before in
+    let a = d .args in
+    (at-hand 24 (now (a .file)) _ _ (now (a .sheet)) (d .pre) (c .before .before .before .before .before .before .before .before .before .before .before .before .series-sizes .ensures) (c .before .before .before .before .before .before .before .before .before .before .before .first-slots .ensures), omega arith, omega arith)
 
 slice-aggregate-matrix : tie.Need-slice-aggregate-matrix
 slice-aggregate-matrix c = search needs
@@ -53,13 +83,15 @@ pub print-adjustment-spec : {M : Type 1} → statement M
 print-adjustment-spec =
     tie.close
     (tie.spec
-    sizes-of-requires
-    sheet-of-requires
+    series-sizes-requires
+    first-slots-requires
     at-most-requires
     at-most-requires-2
     add-n
     zeros-requires
     document-cutoffs-requires
+    slice-aggregate-kenward-roger-modcomp-data
+    slice-aggregate-kenward-roger-modcomp-data-2
     kenward-roger-modcomp-data-requires
     slice-aggregate-matrix
     matrix-requires

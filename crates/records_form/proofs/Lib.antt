@@ -1,0 +1,2 @@
+-- Laws of the refusals that any call makes of its file.
+pub mod FormLaws

@@ -1,0 +1,203 @@
+-- What the code reads off the sheet of a series is what the file says, and the number of a file by its form and by what comes after it.
+use Prim.Native.Nat.{ℕ, _+_, _*_, _%_, _<_, _≤_}
+use native.Mathlib.Omega.{arith}
+use mathlib.Core.Path.{_≡_, refl, sym, ap, _∙_, subst}
+use mathlib.Core.Bool.{Bool, true, false, not, _&&_, cond}
+use mathlib.Core.List.{List, _++_}
+use lib.Dec.{eqb, lit≤}
+use lib.ListN.{length, getD}
+use lib.Ieee.{Float, nan, le}
+use borrow.Author.Tests.{eqb-true, eq-eqb, ne-eqb, not-false}
+use Rattle.arithmetic.specs.Numbers.{plusZero, isZero}
+use Rattle.algebra.specs.Table.{row}
+use Rattle.algebra.specs.Reasons.{first}
+use Rattle.algebra.proofs.ReasonLaws.{NoneHolds, first-none, first-append}
+use Rattle.adjustment.specs.declared.Block.{Block}
+use Rattle.adjustment.specs.Blocks.{noBlock}
+use Rattle.records.specs.declared.Sizes.{Sizes}
+use Rattle.records.specs.Scan.{any}
+use Rattle.records.specs.Kinds.{width, Table, kindAt, kindsOf, kenwardRogerKinds, limits, kenwardRoger}
+use Rattle.records.specs.Cells.{firstSlot, slotCount}
+use Rattle.records.specs.File.{count, badRecord, again, beyond, notFinite, present, lengthReasons, formReasons}
+use Rattle.records.specs.Series.{specimens, coefficients, blockCount, contrastRows, sizes, kinds, cellValue, sigma2, blockOf, badSize, badWeight, misfit, zeroContrast, sizeReasons, valueReasons, reasons, refusal}
+use Rattle.records.proofs.ScanLaws.{any-same}
+use Rattle.records.proofs.Slots.{any-flat}
+use Rattle.records.proofs.Limits.{Below}
+use Rattle.records_sizes.specs.joints.Gathered.{sizesOf, tableOf}
+use Rattle.records_sheet.specs.joints.Sheet.{Small, firstSlots, sheetAfter}
+use Rattle.records_sheet.proofs.Sheets.{firsts-at, ends-within, below-small}
+use Rattle.records_sheet_parts.proofs.Read.{Flat, flat-slots, flat-cell, line-cell, alone-cell}
+use Rattle.records_form.proofs.FormLaws.{sizes-below, sizes-fit}
+use Rattle.records_block_limits.specs.joints.Checks.{badSizeIn, misfitIn}
+use Rattle.records_block_limits.proofs.BlockLaws.{size-read, misfit-read}
+use Rattle.records_refusals.specs.joints.Checks.{nonzeros, notPositive, badWeightIn, zeroContrastIn, sheetRefusal}
+
+-- ---- where the weights, sigma2 and the contrast stand
+module _ (z : Sizes) where
+  abbrev t : Table
+  t = kindsOf 0 z
+
+  weight-flat : Flat (kindAt t 5) (cond (z .weighted) (z .specimens) 0) 1
+  unfolding kindsOf kindAt kenwardRogerKinds width
+  weight-flat = record { number = refl; row = refl; column = refl }
+
+  variance-flat : Flat (kindAt t 7) 1 1
+  unfolding kindsOf kindAt kenwardRogerKinds width
+  variance-flat = record { number = refl; row = refl; column = refl }
+
+  contrast-flat : Flat (kindAt t 9) (z .contrasts) (z .coefficients)
+  unfolding kindsOf kindAt kenwardRogerKinds width
+  contrast-flat = record { number = refl; row = refl; column = refl }
+
+  -- the sheet has room for them
+  pub variance-fits : (n : ℕ) → slotCount t ≤ n → firstSlot t 7 < n
+  variance-fits n l = let a = ends-within t 7 (lit≤ tt) in let b = flat-slots (kindAt t 7) 1 1 variance-flat in omega arith
+
+  pub weights-fit : (n : ℕ) → slotCount t ≤ n → firstSlot t 5 + cond (z .weighted) (z .specimens) 0 ≤ n
+  weights-fit n l = let a = ends-within t 5 (lit≤ tt) in let b = flat-slots (kindAt t 5) (cond (z .weighted) (z .specimens) 0) 1 weight-flat in omega arith
+
+  pub contrast-fits : (n : ℕ) → slotCount t ≤ n → firstSlot t 9 + z .contrasts * z .coefficients ≤ n
+  contrast-fits n l = let a = ends-within t 9 (lit≤ tt) in let b = flat-slots (kindAt t 9) (z .contrasts) (z .coefficients) contrast-flat in omega arith
+
+  pub starts : (k : ℕ) (fs : List ℕ) → k < 34 → fs ≡ firstSlots t → getD fs k 0 ≡ firstSlot t k
+  starts k fs l e = ap (λ (x : List ℕ). getD x k 0) e ∙ firsts-at t k l
+
+  -- the refusals 5 to 8 as the code makes them
+  pub sheet-cases : (bs : List Block) (sheet : List Float) (fs : List ℕ) → fs ≡ firstSlots t
+      → sheetRefusal z bs sheet ≡ cond (le (getD sheet (getD fs 7 0) nan) plusZero) 5 (cond (badWeightIn z sheet (getD fs 5 0)) 6 (cond (misfitIn z bs) 7 (cond (zeroContrastIn z sheet (getD fs 9 0)) 8 0)))
+  unfolding sheetRefusal first
+  sheet-cases bs sheet fs e = rw (starts 7 fs (lit≤ tt) e, starts 5 fs (lit≤ tt) e, starts 9 fs (lit≤ tt) e)
+
+-- ---- what a series whose records lie within its sizes has there
+and-same : (a b c : Bool) → (a ≡ true → b ≡ c) → a && b ≡ a && c
+and-same true b c h = h refl
+and-same false b c h = refl
+
+module _ (s : List ℕ) (within : any (count s) (beyond (kindsOf 0 (sizes s)) s) ≡ false) (N : ℕ) (room : slotCount (kindsOf 0 (sizes s)) ≤ N) where
+  abbrev u : Table
+  u = kindsOf 0 (sizes s)
+
+  abbrev sheet : List Float
+  sheet = sheetAfter N u s (count s)
+
+  variance-read : getD sheet (firstSlot u 7) nan ≡ sigma2 s
+  unfolding kindsOf
+  variance-read = alone-cell 0 (sizes s) s within N room 7 (variance-flat (sizes s))
+
+  weighted-flat : present s 5 ≡ true → Flat (kindAt u 5) (specimens s) 1
+  unfolding sizes
+  weighted-flat h = subst (λ (b : Bool). Flat (kindAt u 5) (cond b (specimens s) 0) 1) h (weight-flat (sizes s))
+
+  weight-read : badWeightIn (sizes s) sheet (firstSlot u 5) ≡ badWeight s
+  unfolding badWeightIn badWeight notPositive kindsOf sizes
+  weight-read =
+      and-same (present s 5) (any (specimens s) (λ i. le (getD sheet (firstSlot u 5 + i) nan) plusZero)) (any (specimens s) (λ i. le (cellValue s 5 i 0) plusZero))
+      (λ h. any-same (specimens s) (λ i. le (getD sheet (firstSlot u 5 + i) nan) plusZero) (λ i. le (cellValue s 5 i 0) plusZero) (λ i l. ap (λ (x : Float). le x plusZero) (line-cell 0 (sizes s) s within N room 5 (specimens s) i (weighted-flat h) l)))
+
+  contrast-cell : (i j : ℕ) → i < contrastRows s → j < coefficients s → getD sheet (firstSlot u 9 + (i * coefficients s + j)) nan ≡ cellValue s 9 i j
+  unfolding kindsOf sizes
+  contrast-cell i j l m =
+      ap (λ (x : ℕ). getD sheet x nan) (place (firstSlot u 9) i (coefficients s) j)
+      ∙ flat-cell 0 (sizes s) s within N room 9 (contrastRows s) (coefficients s) i j (contrast-flat (sizes s)) l m
+    where
+      place : (f i c j : ℕ) → f + (i * c + j) ≡ f + i * c + j
+      place f i c j = omega arith
+
+  contrast-read : zeroContrastIn (sizes s) sheet (firstSlot u 9) ≡ zeroContrast s
+  unfolding zeroContrastIn zeroContrast nonzeros sizes
+  contrast-read =
+      ap (λ (b : Bool). present s 9 && not b)
+      (any-flat (contrastRows s) (coefficients s) (λ j. not (isZero (getD sheet (firstSlot u 9 + j) nan)))
+      ∙ any-same (contrastRows s) (λ r. any (coefficients s) (λ c. not (isZero (getD sheet (firstSlot u 9 + (r * coefficients s + c)) nan)))) (λ r. any (coefficients s) (λ c. not (isZero (cellValue s 9 r c))))
+      (λ r l. any-same (coefficients s) (λ c. not (isZero (getD sheet (firstSlot u 9 + (r * coefficients s + c)) nan))) (λ c. not (isZero (cellValue s 9 r c))) (λ c m. ap (λ (x : Float). not (isZero x)) (contrast-cell r c l m))))
+
+  sheet-read : blockCount s ≤ 3 → sheetRefusal (sizes s) (row noBlock 3 (blockCount s) (blockOf s)) sheet ≡ cond (le (sigma2 s) plusZero) 5 (cond (badWeight s) 6 (cond (misfit s) 7 (cond (zeroContrast s) 8 0)))
+  unfolding sheetRefusal first
+  sheet-read few = rw (variance-read, weight-read, misfit-read s few, contrast-read)
+
+-- ---- the number of a file, by its form and by what comes after it
+abbrev pub formNumber : ℕ → List ℕ → ℕ
+formNumber w s = first (lengthReasons s ++ formReasons (kindsOf 0 (limits w)) (tableOf 0 s) s)
+
+abbrev lateNumber : List ℕ → ℕ
+lateNumber s = cond (badSize s) 3 (cond (any (count s) (notFinite s)) 4 (cond (le (sigma2 s) plusZero) 5 (cond (badWeight s) 6 (cond (misfit s) 7 (cond (zeroContrast s) 8 0)))))
+
+pub refusal-cases : (w : ℕ) (s : List ℕ) → refusal w s ≡ cond (eqb (formNumber w s) 0) (lateNumber s) (formNumber w s)
+unfolding refusal reasons lengthReasons formReasons sizeReasons valueReasons first kindsOf sizesOf
+refusal-cases w s = first-append (lengthReasons s ++ formReasons (kenwardRoger w) (kinds s) s) (sizeReasons s ++ valueReasons s) refl
+
+-- a file that its form does not refuse
+pub record Formed (w : ℕ) (s : List ℕ) : Type 0 where
+  pub whole : length s % 16 ≡ 0
+  pub good : any (count s) (badRecord (kindsOf 0 (limits w)) s) ≡ false
+  pub once : any (count s) (again (kindsOf 0 (sizes s)) s) ≡ false
+  pub within : any (count s) (beyond (kindsOf 0 (sizes s)) s) ≡ false
+
+pub formed : (w : ℕ) (s : List ℕ) → formNumber w s ≡ 0 → Formed w s
+unfolding lengthReasons formReasons sizesOf
+formed w s e =
+    let n : NoneHolds (lengthReasons s ++ formReasons (kindsOf 0 (limits w)) (tableOf 0 s) s) = first-none (lengthReasons s ++ formReasons (kindsOf 0 (limits w)) (tableOf 0 s) s) refl e in
+    record {
+      whole = eqb-true (length s % 16) 0 (not-false (eqb (length s % 16) 0) (n 0 (lit≤ tt)));
+      good = n 1 (lit≤ tt);
+      once = n 2 (lit≤ tt);
+      within = n 4 (lit≤ tt);
+    }
+
+-- the sizes z of such a file are small, and its cells have room
+pub record Sound (w : ℕ) (s : List ℕ) (z : Sizes) : Type 0 where
+  pub formed : formNumber w s ≡ 0
+  pub sized : z ≡ sizes s
+  pub within : any (count s) (beyond (kindsOf 0 z) s) ≡ false
+  pub small : Small z
+  pub few : z .blocks ≤ 3
+  pub fit : slotCount (kindsOf 0 z) ≤ slotCount (kindsOf 0 (limits w))
+
+pub sound-of : (w : ℕ) (s : List ℕ) (z : Sizes) (r : ℕ) → 1 ≤ w → w ≤ 256 → r ≡ formNumber w s → r ≡ 0 → z ≡ sizes s → Sound w s z
+unfolding sizesOf limits
+sound-of w s z r some most er e ez =
+    let q = sym er ∙ e in
+    let f = formed w s q in
+    let b : Below (sizes s) (limits w) = sizes-below 0 w some s (f .good) in
+    record {
+      formed = q;
+      sized = ez;
+      within = subst (λ (y : Sizes). any (count s) (beyond (kindsOf 0 y) s) ≡ false) (sym ez) (f .within);
+      small = subst Small (sym ez) (below-small (sizes s) w most b);
+      few = subst (λ (y : Sizes). y .blocks ≤ 3) (sym ez) (b .blocks);
+      fit = subst (λ (y : Sizes). slotCount (kindsOf 0 y) ≤ slotCount (kindsOf 0 (limits w))) (sym ez) (sizes-fit 0 w some s (f .good));
+    }
+
+-- ---- the number by who gives it
+pub form-refuses : (w : ℕ) (s : List ℕ) (r : ℕ) → r ≡ formNumber w s → (r ≡ 0 → ⊥) → r ≡ refusal w s
+form-refuses w s r e h = e ∙ sym (refusal-cases w s ∙ rw (ne-eqb (formNumber w s) 0 (λ q. h (e ∙ q))))
+
+module _ (w : ℕ) (s : List ℕ) (z : Sizes) (h : Sound w s z) where
+  late-is : refusal w s ≡ lateNumber s
+  late-is = refusal-cases w s ∙ rw (eq-eqb (formNumber w s) 0 (h .formed))
+
+  pub size-is : (bs : List Block) (b : Bool) → bs ≡ row noBlock 3 (z .blocks) (blockOf s) → b ≡ badSizeIn bs (z .blocks) → b ≡ badSize s
+  unfolding sizes
+  size-is bs b eb e =
+      let n : z .blocks ≡ blockCount s = ap (λ (y : Sizes). y .blocks) (h .sized) in
+      let l = h .few in
+      e ∙ rw (eb, n) (size-read s (omega arith))
+
+  pub size-refuses : badSize s ≡ true → 3 ≡ refusal w s
+  size-refuses b = sym (late-is ∙ rw b)
+
+  pub value-refuses : badSize s ≡ false → any (count s) (notFinite s) ≡ true → 4 ≡ refusal w s
+  value-refuses b v = sym (late-is ∙ rw (b, v))
+
+  pub sheet-refuses : (N : ℕ) (bs : List Block) (xs : List Float) (r : ℕ) → badSize s ≡ false → any (count s) (notFinite s) ≡ false → slotCount (kindsOf 0 (limits w)) ≤ N → bs ≡ row noBlock 3 (z .blocks) (blockOf s) → xs ≡ sheetAfter N (kindsOf 0 z) s (count s)
+      → r ≡ sheetRefusal z bs xs → r ≡ refusal w s
+  unfolding sizes
+  sheet-refuses N bs xs r b v l eb ex e =
+      let n : z .blocks ≡ blockCount s = ap (λ (y : Sizes). y .blocks) (h .sized) in
+      let m = h .few in
+      let f = h .fit in
+      let q = subst (λ (y : Sizes). any (count s) (beyond (kindsOf 0 y) s) ≡ false) (h .sized) (h .within) in
+      let k = subst (λ (y : Sizes). slotCount (kindsOf 0 y) ≤ N) (h .sized) (omega arith) in
+      let a : sheetRefusal z bs xs ≡ cond (le (sigma2 s) plusZero) 5 (cond (badWeight s) 6 (cond (misfit s) 7 (cond (zeroContrast s) 8 0))) = rw (ex, eb, n, h .sized) (sheet-read s q N k (omega arith)) in
+      let d : refusal w s ≡ cond (le (sigma2 s) plusZero) 5 (cond (badWeight s) 6 (cond (misfit s) 7 (cond (zeroContrast s) 8 0))) = late-is ∙ rw (b, v) in
+      e ∙ a ∙ sym d

@@ -1,0 +1,24 @@
+-- `records_sizes::sizes_of` meets its contract.
+use borrow.Author.Tests.{eq-eqb, ne-eqb}
+use Rattle.records_sizes.specs.joints.Gathered.{sizesOf}
+use borrow.Author.Needs.{needs}
+use Rattle.records_sizes.proofs.sizes_of.Statement.{statement}
+use Rattle.records_sizes.proofs.sizes_of.Tie as tie
+
+series-sizes-requires : tie.Need-series-sizes-requires
+series-sizes-requires c κs = search needs
+
+returns : tie.Need-returns
+unfolding sizesOf
+returns c = rw (eq-eqb _ _ (c .before .if1 .taken)) (c .series-sizes .ensures)
+
+parameter-sizes-requires : tie.Need-parameter-sizes-requires
+parameter-sizes-requires c κs = search needs
+
+returns-2 : tie.Need-returns-2
+unfolding sizesOf
+returns-2 c = rw (ne-eqb _ _ (c .before .if1 .left)) (c .parameter-sizes .ensures)
+
+pub sizes-of-spec : {M : Type 1} → statement M
+sizes-of-spec =
+    tie.close (tie.spec series-sizes-requires returns parameter-sizes-requires returns-2)
