@@ -15,6 +15,7 @@ use arithmetic::plain::is_zero;
 use arithmetic_steps::div;
 use arithmetic_steps::mul;
 use arithmetic_steps::sub;
+use arithmetic_steps::zero_of;
 
 // Of the rows r and best, whose cells in the pivot's column are x and y, that with the larger magnitude there. An equal one does not replace best.
 fn larger(x: Marked, y: Marked, r: usize, best: usize) -> usize
@@ -113,10 +114,7 @@ fn back_row(a: [Marked; 12], x: [[Marked; 6]; 6], n: usize, cols: usize, i: usiz
     requires { ⌜ (n ≤ 6) × (i < n) × (cols ≤ 6) ⌝ }
     ensures { λ q. ⌜ q ≡ row (zeroOf marks) 6 cols (knownCell marks n a x i) ⌝ }
 {
-    let zero = Marked {
-        value: 0.0,
-        inside: true,
-    };
+    let zero = zero_of();
     let mut out = [zero; 6];
     for k in 0..cols {
         let mut sum = a[n + k];
@@ -134,10 +132,7 @@ fn back(m: [[Marked; 12]; 6], n: usize, cols: usize) -> [[Marked; 6]; 6]
     requires { ⌜ (n ≤ 6) × (cols ≤ 6) ⌝ }
     ensures { λ q. ⌜ q ≡ backTo marks n 6 6 n cols m ⌝ }
 {
-    let zero = Marked {
-        value: 0.0,
-        inside: true,
-    };
+    let zero = zero_of();
     let line = [zero; 6];
     let mut x = [line; 6];
     for d in 0..n {
@@ -152,10 +147,7 @@ fn joined_row(a: [Marked; 6], b: [Marked; 6], n: usize, cols: usize) -> [Marked;
     requires { ⌜ (n ≤ 6) × (cols ≤ 6) ⌝ }
     ensures { λ q. ⌜ q ≡ row (zeroOf marks) 12 (n + cols) (joinedCell marks n a b) ⌝ }
 {
-    let zero = Marked {
-        value: 0.0,
-        inside: true,
-    };
+    let zero = zero_of();
     let mut out = [zero; 12];
     for j in 0..n {
         out[j] = a[j];
@@ -171,10 +163,7 @@ fn joined(a: [[Marked; 6]; 6], b: [[Marked; 6]; 6], n: usize, cols: usize) -> [[
     requires { ⌜ (n ≤ 6) × (cols ≤ 6) ⌝ }
     ensures { λ q. ⌜ q ≡ joined marks 6 12 n cols a b ⌝ }
 {
-    let zero = Marked {
-        value: 0.0,
-        inside: true,
-    };
+    let zero = zero_of();
     let line = [zero; 12];
     let mut m = [line; 6];
     for i in 0..n {

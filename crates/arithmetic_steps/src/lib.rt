@@ -1,7 +1,7 @@
 // The marked steps: + - * / and the square root on numbers that carry their mark.
 ghost use mathlib.Core.Path.{_≡_};
 ghost use Rattle.arithmetic.specs.Numbers.{plusZero};
-ghost use Rattle.arithmetic.specs.Marks.{inRange, stepMark, lostProduct, lostQuotient, given, isInside, markedAdd, markedSub, markedMul, markedDiv, markedRoot, markedMagnitude, also};
+ghost use Rattle.arithmetic.specs.Marks.{inRange, stepMark, lostProduct, lostQuotient, marked, given, isInside, markedAdd, markedSub, markedMul, markedDiv, markedRoot, markedMagnitude, also};
 use arithmetic::Marked;
 use arithmetic::plain::is_zero;
 use arithmetic::plain::magnitude;
@@ -55,6 +55,16 @@ pub fn zero_of() -> Marked
     ensures { λ r. ⌜ r ≡ given plusZero ⌝ }
 {
     given(0.0)
+}
+
+// +0 with the mark `inside`: what was lent as a bool becomes a marked number again at once.
+pub fn seen_of(inside: bool) -> Marked
+    ensures { λ r. ⌜ r ≡ marked plusZero inside ⌝ }
+{
+    Marked {
+        value: 0.0,
+        inside: inside,
+    }
 }
 
 // Whether every step up to a was inside.

@@ -3,6 +3,7 @@ use Prim.Native.Nat.{_≤_, _-_}
 use mathlib.Core.Path.{_≡_}
 use lib.Ieee.{ofBits}
 use native.Mathlib.Omega.{arith}
+use borrow.Author.Needs.{needs}
 use Rattle.algebra.specs.Kind.{marks}
 use Rattle.algebra.specs.Table.{blank}
 use Rattle.algebra.specs.Elimination.{backSum, backCell, backTo}
@@ -17,9 +18,12 @@ Inv-loop n cols m x₀ d₀ x d = (d ≤ n) × (x ≡ backTo marks d 6 6 n cols 
 abbrev μ-loop : tie.MeasureT-loop
 μ-loop n cols m x₀ d₀ x d = n - d
 
+zero-of-requires : tie.Need-zero-of-requires Inv-loop μ-loop
+zero-of-requires c κs = search needs
+
 loop-holds : tie.Need-loop-holds Inv-loop μ-loop
 unfolding backTo blank ofBits
-loop-holds c = (omega arith, fold-start _ _ _)
+loop-holds c = (omega arith, rw (c .zero-of .ensures) (fold-start _ _ _))
 
 sub-i : tie.Need-sub-i Inv-loop μ-loop
 sub-i c = omega arith
@@ -62,6 +66,7 @@ back-spec =
     (tie.spec
     Inv-loop
     μ-loop
+    zero-of-requires
     loop-holds
     sub-i
     sub-i-2

@@ -24,9 +24,12 @@ Inv-loop n cols i a x out₀ k₀ out k = (k ≤ cols) × (out ≡ row (zeroOf m
 abbrev μ-loop : tie.MeasureT-loop
 μ-loop n cols i a x out₀ k₀ out k = cols - k
 
+zero-of-requires : tie.Need-zero-of-requires Inv-loop2 μ-loop2 Inv-loop μ-loop
+zero-of-requires c κs = search needs
+
 loop-holds : tie.Need-loop-holds Inv-loop2 μ-loop2 Inv-loop μ-loop
 unfolding row ofBits
-loop-holds c = (omega arith, fold-start _ _ _)
+loop-holds c = (omega arith, rw (c .zero-of .ensures) (fold-start _ _ _))
 
 add-sum : tie.Need-add-sum Inv-loop2 μ-loop2 Inv-loop μ-loop
 add-sum c = omega arith
@@ -118,6 +121,7 @@ back-row-spec =
     μ-loop2
     Inv-loop
     μ-loop
+    zero-of-requires
     loop-holds
     add-sum
     mul-sum

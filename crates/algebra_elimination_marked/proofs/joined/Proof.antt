@@ -5,6 +5,7 @@ use mathlib.Core.List.{[]}
 use lib.Ieee.{ofBits}
 use lib.ListN.{getD}
 use native.Mathlib.Omega.{arith}
+use borrow.Author.Needs.{needs}
 use Rattle.algebra.specs.Kind.{marks, zeroOf}
 use Rattle.algebra.specs.Table.{table, blank}
 use Rattle.algebra.specs.Elimination.{joined}
@@ -19,9 +20,12 @@ Inv-loop n cols a b m₀ i₀ m i = (i ≤ n) × (m ≡ table (zeroOf marks) 6 1
 abbrev μ-loop : tie.MeasureT-loop
 μ-loop n cols a b m₀ i₀ m i = n - i
 
+zero-of-requires : tie.Need-zero-of-requires Inv-loop μ-loop
+zero-of-requires c κs = search needs
+
 loop-holds : tie.Need-loop-holds Inv-loop μ-loop
 unfolding table blank ofBits
-loop-holds c = (omega arith, fold-start _ _ _)
+loop-holds c = (omega arith, rw (c .zero-of .ensures) (fold-start _ _ _))
 
 mul-joined-row : tie.Need-mul-joined-row Inv-loop μ-loop
 mul-joined-row c = omega arith
@@ -64,6 +68,7 @@ joined-spec =
     (tie.spec
     Inv-loop
     μ-loop
+    zero-of-requires
     loop-holds
     mul-joined-row
     array-copy-out-joined-row

@@ -3,6 +3,7 @@ use Prim.Native.Nat.{_≤_, _-_, _+_}
 use mathlib.Core.Path.{_≡_, refl}
 use lib.Ieee.{ofBits}
 use native.Mathlib.Omega.{arith}
+use borrow.Author.Needs.{needs}
 use lib.ListN.{getD, set}
 use Rattle.algebra.specs.Fold.{fold}
 use Rattle.algebra.specs.Table.{row}
@@ -25,9 +26,12 @@ Inv-loop2 n cols b out₀ k₀ out k = (k ≤ cols) × (out ≡ fold 0 k (λ k y
 abbrev μ-loop2 : tie.MeasureT-loop2
 μ-loop2 n cols b out₀ k₀ out k = cols - k
 
+zero-of-requires : tie.Need-zero-of-requires Inv-loop μ-loop Inv-loop2 μ-loop2
+zero-of-requires c κs = search needs
+
 loop-holds : tie.Need-loop-holds Inv-loop μ-loop Inv-loop2 μ-loop2
 unfolding row ofBits
-loop-holds c = (omega arith, fold-start _ _ _)
+loop-holds c = (omega arith, rw (c .zero-of .ensures) (fold-start _ _ _))
 
 mul-out : tie.Need-mul-out Inv-loop μ-loop Inv-loop2 μ-loop2
 mul-out c = omega arith
@@ -48,7 +52,7 @@ loop-less : tie.Need-loop-less Inv-loop μ-loop Inv-loop2 μ-loop2
 loop-less c = omega arith
 
 loop-again : tie.Need-loop-again Inv-loop μ-loop Inv-loop2 μ-loop2
-loop-again c = (omega arith, joined-next marks _ _ _ (c .before .before .before .args .t1) (c .before .before .before .args .t2) _ (c .before .loop-test .taken) (c .before .before .loop .inv .1))
+loop-again c = (omega arith, joined-next marks _ _ _ (c .before .before .before .before .args .t1) (c .before .before .before .before .args .t2) _ (c .before .loop-test .taken) (c .before .before .loop .inv .1))
 
 loop2-holds : tie.Need-loop2-holds Inv-loop μ-loop Inv-loop2 μ-loop2
 loop2-holds c = (omega arith, fold-start _ _ _)
@@ -81,7 +85,7 @@ returns : tie.Need-returns Inv-loop μ-loop Inv-loop2 μ-loop2
 returns c =
     let u = c .before .before .before .loop .inv in
     let v = c .before .loop2 .inv in
-    let args = c .before .before .before .before .args in
+    let args = c .before .before .before .before .before .args in
     joined-row-is marks _ _ _ _ _ (args .t1) (args .t2) _ _ (u .0) (c .before .before .loop-test .left) (u .1) (v .0) (c .loop2-test .left) (v .1)
 
 pub joined-row-spec : {M : Type 1} → statement M
@@ -92,6 +96,7 @@ joined-row-spec =
     μ-loop
     Inv-loop2
     μ-loop2
+    zero-of-requires
     loop-holds
     mul-out
     array-copy-out-out
