@@ -1,10 +1,8 @@
 // Jacobi's rotations on marked numbers. The matrix and the vectors travel as one value, `both`. The products of the rotation test are marked steps too:
-// `inside` is the mark of the state's `seen`, which counts theirs, and whose value stays +0.
+// the state's `seen` counts theirs. Its value stays +0, so that its mark alone is handed out, as `inside`.
 ghost use mathlib.Core.Path.{_≡_};
 ghost use Prim.Native.Nat.{_+_, _<_, _≤_};
 ghost use mathlib.Core.Bool.{true};
-ghost use Rattle.arithmetic.specs.Numbers.{plusZero};
-ghost use Rattle.arithmetic.specs.Marks.{marked};
 ghost use Rattle.algebra.specs.Table.{table};
 ghost use Rattle.algebra.specs.Kind.{marks, zeroOf};
 ghost use Rattle.algebra_jacobi.specs.joints.Rotated.{chosenCell, mirroringCell};
@@ -20,10 +18,12 @@ use arithmetic_steps::add;
 use arithmetic_steps::also;
 use arithmetic_steps::div;
 use arithmetic_steps::given;
+use arithmetic_steps::is_inside;
 use arithmetic_steps::mul;
 use arithmetic_steps::square_root;
 use arithmetic_steps::sub;
 use arithmetic_steps::unsigned;
+use arithmetic_steps::zero_of;
 
 // z: the difference of the diagonal cells over twice the cell beside them.
 pub fn ratio(aa: Marked, bb: Marked, ab: Marked) -> Marked
@@ -144,10 +144,7 @@ fn rotated_cells(
     requires { ⌜ (n ≤ 6) × (p < 6) × (q < 6) ⌝ }
     ensures { λ r. ⌜ r ≡ table (zeroOf marks) 6 6 n n (mirroringCell marks p q first second w) ⌝ }
 {
-    let zero = Marked {
-        value: 0.0,
-        inside: true,
-    };
+    let zero = zero_of();
     let mut out = [[zero; 6]; 6];
     for i in 0..n {
         for j in 0..n {
@@ -176,19 +173,23 @@ pub fn rotated(
     rotated_cells(w, n, p, q, first, second)
 }
 
-// Whether a pair rotates, from its three cells: document 01's "Where A_ab ≠ 0, rotate if A_ab² > 2^-100 × (A_aa × A_bb)". The test's products are counted in
-// `inside` whether or not it rotates; where the cell is zero no test is made.
-pub fn rotates(pp: Marked, qq: Marked, pq: Marked, limit: f64, inside: &mut bool) -> bool
-    ensures { λ r. ⌜ (r ≡ rotates marks limit pp qq pq) × (marked plusZero (now (inside .exit)) ≡ seenAfter marks limit pp qq pq (marked plusZero (now (inside .entry)))) ⌝ }
+// Whether a pair rotates, from its three cells: document 01's "Where A_ab ≠ 0, rotate if A_ab² > 2^-100 × (A_aa × A_bb)". The values alone decide, as on plain numbers.
+pub fn rotates(pp: Marked, qq: Marked, pq: Marked, limit: f64) -> bool
+    ensures { λ r. ⌜ r ≡ rotates marks limit pp qq pq ⌝ }
+{
+    algebra_jacobi::tested_rotation::rotates(pp.value, qq.value, pq.value, limit)
+}
+
+// `seen`, with the products of a pair's test counted, whether or not the pair rotates. Where the cell is zero no test is made, and `seen` stays.
+pub fn tested_mark(pp: Marked, qq: Marked, pq: Marked, limit: f64, seen: Marked) -> Marked
+    ensures { λ r. ⌜ r ≡ seenAfter marks limit pp qq pq seen ⌝ }
 {
     if is_zero(pq.value) {
-        return false;
+        return seen;
     }
     let left = mul(pq, pq);
     let right = mul(given(limit), mul(pp, qq));
-    let tested = also(left, right);
-    *inside = *inside & tested.inside;
-    right.value < left.value
+    also(seen, also(left, right))
 }
 
 // The matrix and the vectors rotated at the pair (p, q).
@@ -223,12 +224,16 @@ pub fn sweeps(
     ensures { λ r. ⌜ markedState r (now (count .exit)) (now (inside .exit)) ≡ sweepsTo marks 30 limit 6 6 n (markedState both 0 true) ⌝ }
 {
     *count = 0;
-    *inside = true;
+    let mut seen = zero_of();
     let mut out = both;
     for i in 0..30usize {
         for p in 0..n {
             for q in p + 1..n {
-                if rotates(out[0][p][p], out[0][q][q], out[0][p][q], limit, inside) {
+                let pp = out[0][p][p];
+                let qq = out[0][q][q];
+                let pq = out[0][p][q];
+                seen = tested_mark(pp, qq, pq, limit, seen);
+                if rotates(pp, qq, pq, limit) {
                     let next = rotated_pair(out, n, p, q);
                     out = next;
                     *count = *count + 1;
@@ -236,6 +241,7 @@ pub fn sweeps(
             }
         }
     }
+    *inside = is_inside(seen);
     out
 }
 
@@ -254,10 +260,7 @@ pub fn mirrored(m: [[Marked; 6]; 6], n: usize) -> [[Marked; 6]; 6]
     requires { ⌜ n ≤ 6 ⌝ }
     ensures { λ r. ⌜ r ≡ mirrored marks 6 6 n m ⌝ }
 {
-    let zero = Marked {
-        value: 0.0,
-        inside: true,
-    };
+    let zero = zero_of();
     let mut out = [[zero; 6]; 6];
     for i in 0..n {
         for j in 0..n {

@@ -9,6 +9,7 @@ use Rattle.algebra.specs.Jacobi.{mirrored}
 use Rattle.algebra_jacobi.specs.joints.Starts.{mirroredCell}
 use Rattle.algebra.proofs.TableLaws.{Filling, table-none, filling-none, filling-more, filling-row}
 use native.Mathlib.Omega.{arith}
+use borrow.Author.Needs.{needs}
 use Rattle.algebra_jacobi_marked.proofs.mirrored.Statement.{statement}
 use Rattle.algebra_jacobi_marked.proofs.mirrored.Tie as tie
 
@@ -24,9 +25,12 @@ Inv-loop m n out₀ i₀ out i = (i ≤ n) × (out ≡ table (zeroOf marks) 6 6 
 abbrev μ-loop : tie.MeasureT-loop
 μ-loop m n out₀ i₀ out i = n - i
 
+zero-of-requires : tie.Need-zero-of-requires Inv-loop2 μ-loop2 Inv-loop μ-loop
+zero-of-requires c κs = search needs
+
 loop-holds : tie.Need-loop-holds Inv-loop2 μ-loop2 Inv-loop μ-loop
 unfolding blank ofBits
-loop-holds c = (omega arith, table-none _ _ _ _ _ _ refl)
+loop-holds c = (omega arith, rw (c .zero-of .ensures) (table-none _ _ _ _ _ _ refl))
 
 loop2-holds : tie.Need-loop2-holds Inv-loop2 μ-loop2 Inv-loop μ-loop
 loop2-holds c = (omega arith, omega arith, filling-none (omega arith) (c .before .loop .inv .1))
@@ -80,6 +84,7 @@ mirrored-spec =
     μ-loop2
     Inv-loop
     μ-loop
+    zero-of-requires
     loop-holds
     loop2-holds
     mirrored-cell-requires

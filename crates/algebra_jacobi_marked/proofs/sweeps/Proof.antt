@@ -5,33 +5,37 @@ use mathlib.Core.Logic.{⊎-elim}
 use Rattle.algebra.specs.Kind.{marks}
 use Rattle.algebra.specs.Jacobi.{rowTo, sweepTo, sweepsTo}
 use Rattle.algebra.proofs.FoldLaws.{fold-start, fold-next, fold-end}
-use Rattle.algebra_jacobi.specs.joints.States.{markedState}
+use Rattle.algebra_jacobi.specs.joints.States.{stateOf}
 use Rattle.algebra_jacobi.proofs.Counts.{row-limit, sweep-limit, sweeps-limit}
 use Rattle.algebra_jacobi.proofs.tested_rotation.Pairs.{pair-rotated, pair-left}
 use native.Mathlib.Omega.{arith}
 use borrow.Author.Needs.{needs}
+use Rattle.algebra_jacobi_marked.proofs.Seen.{seen-told}
 use Rattle.algebra_jacobi_marked.proofs.sweeps.Statement.{statement}
 use Rattle.algebra_jacobi_marked.proofs.sweeps.Tie as tie
 
 abbrev Inv-loop3 : tie.InvT-loop3
-Inv-loop3 n limit count₀ inside₀ out₀ i p q₀ count inside out q =
-    (p < n) × (p + 1 ≤ q) × (q ≤ n) × (markedState out count inside ≡ rowTo marks q limit 6 6 n p (markedState out₀ count₀ inside₀))
+Inv-loop3 n limit count₀ inside seen₀ out₀ i p q₀ count seen out q =
+    (p < n) × (p + 1 ≤ q) × (q ≤ n) × (stateOf out count seen ≡ rowTo marks q limit 6 6 n p (stateOf out₀ count₀ seen₀))
 
 abbrev μ-loop3 : tie.MeasureT-loop3
-μ-loop3 n limit count₀ inside₀ out₀ i p q₀ count inside out q = n - q
+μ-loop3 n limit count₀ inside seen₀ out₀ i p q₀ count seen out q = n - q
 
 abbrev Inv-loop2 : tie.InvT-loop2
-Inv-loop2 n limit count₀ inside₀ out₀ i p₀ count inside out p =
-    (i < 30) × (p ≤ n) × (markedState out count inside ≡ sweepTo marks p limit 6 6 n (markedState out₀ count₀ inside₀))
+Inv-loop2 n limit count₀ inside seen₀ out₀ i p₀ count seen out p =
+    (i < 30) × (p ≤ n) × (stateOf out count seen ≡ sweepTo marks p limit 6 6 n (stateOf out₀ count₀ seen₀))
 
 abbrev μ-loop2 : tie.MeasureT-loop2
-μ-loop2 n limit count₀ inside₀ out₀ i p₀ count inside out p = n - p
+μ-loop2 n limit count₀ inside seen₀ out₀ i p₀ count seen out p = n - p
 
 abbrev Inv-loop : tie.InvT-loop
-Inv-loop n limit count₀ inside₀ out₀ i₀ count inside out i = (i ≤ 30) × (markedState out count inside ≡ sweepsTo marks i limit 6 6 n (markedState out₀ count₀ inside₀))
+Inv-loop n limit count₀ inside seen₀ out₀ i₀ count seen out i = (i ≤ 30) × (stateOf out count seen ≡ sweepsTo marks i limit 6 6 n (stateOf out₀ count₀ seen₀))
 
 abbrev μ-loop : tie.MeasureT-loop
-μ-loop n limit count₀ inside₀ out₀ i₀ count inside out i = 30 - i
+μ-loop n limit count₀ inside seen₀ out₀ i₀ count seen out i = 30 - i
+
+zero-of-requires : tie.Need-zero-of-requires Inv-loop3 μ-loop3 Inv-loop2 μ-loop2 Inv-loop μ-loop
+zero-of-requires c κs = search needs
 
 loop-holds : tie.Need-loop-holds Inv-loop3 μ-loop3 Inv-loop2 μ-loop2 Inv-loop μ-loop
 unfolding sweepsTo
@@ -48,50 +52,54 @@ loop3-holds : tie.Need-loop3-holds Inv-loop3 μ-loop3 Inv-loop2 μ-loop2 Inv-loo
 unfolding rowTo
 loop3-holds c = (omega arith, omega arith, omega arith, fold-start _ _ _)
 
-mul-rotates : tie.Need-mul-rotates Inv-loop3 μ-loop3 Inv-loop2 μ-loop2 Inv-loop μ-loop
-mul-rotates c = omega arith
+mul-pp : tie.Need-mul-pp Inv-loop3 μ-loop3 Inv-loop2 μ-loop2 Inv-loop μ-loop
+mul-pp c = omega arith
 
-mul-rotates-2 : tie.Need-mul-rotates-2 Inv-loop3 μ-loop3 Inv-loop2 μ-loop2 Inv-loop μ-loop
-mul-rotates-2 c = omega arith
+mul-pp-2 : tie.Need-mul-pp-2 Inv-loop3 μ-loop3 Inv-loop2 μ-loop2 Inv-loop μ-loop
+mul-pp-2 c = omega arith
 
-index-1-rotates : tie.Need-index-1-rotates Inv-loop3 μ-loop3 Inv-loop2 μ-loop2 Inv-loop μ-loop
-index-1-rotates c = omega arith
+index-1-pp : tie.Need-index-1-pp Inv-loop3 μ-loop3 Inv-loop2 μ-loop2 Inv-loop μ-loop
+index-1-pp c = omega arith
 
-index-2-rotates : tie.Need-index-2-rotates Inv-loop3 μ-loop3 Inv-loop2 μ-loop2 Inv-loop μ-loop
-index-2-rotates c = omega arith
+index-2-pp : tie.Need-index-2-pp Inv-loop3 μ-loop3 Inv-loop2 μ-loop2 Inv-loop μ-loop
+index-2-pp c = omega arith
 
-index-3-rotates : tie.Need-index-3-rotates Inv-loop3 μ-loop3 Inv-loop2 μ-loop2 Inv-loop μ-loop
-index-3-rotates c = omega arith
+index-3-pp : tie.Need-index-3-pp Inv-loop3 μ-loop3 Inv-loop2 μ-loop2 Inv-loop μ-loop
+index-3-pp c = omega arith
 
-mul-rotates-3 : tie.Need-mul-rotates-3 Inv-loop3 μ-loop3 Inv-loop2 μ-loop2 Inv-loop μ-loop
-mul-rotates-3 c = omega arith
+mul-qq : tie.Need-mul-qq Inv-loop3 μ-loop3 Inv-loop2 μ-loop2 Inv-loop μ-loop
+mul-qq c = omega arith
 
-mul-rotates-4 : tie.Need-mul-rotates-4 Inv-loop3 μ-loop3 Inv-loop2 μ-loop2 Inv-loop μ-loop
-mul-rotates-4 c = omega arith
+mul-qq-2 : tie.Need-mul-qq-2 Inv-loop3 μ-loop3 Inv-loop2 μ-loop2 Inv-loop μ-loop
+mul-qq-2 c = omega arith
 
-index-1-rotates-2 : tie.Need-index-1-rotates-2 Inv-loop3 μ-loop3 Inv-loop2 μ-loop2 Inv-loop μ-loop
-index-1-rotates-2 c = omega arith
+index-1-qq : tie.Need-index-1-qq Inv-loop3 μ-loop3 Inv-loop2 μ-loop2 Inv-loop μ-loop
+index-1-qq c = omega arith
 
-index-2-rotates-2 : tie.Need-index-2-rotates-2 Inv-loop3 μ-loop3 Inv-loop2 μ-loop2 Inv-loop μ-loop
-index-2-rotates-2 c = omega arith
+index-2-qq : tie.Need-index-2-qq Inv-loop3 μ-loop3 Inv-loop2 μ-loop2 Inv-loop μ-loop
+index-2-qq c = omega arith
 
-index-3-rotates-2 : tie.Need-index-3-rotates-2 Inv-loop3 μ-loop3 Inv-loop2 μ-loop2 Inv-loop μ-loop
-index-3-rotates-2 c = omega arith
+index-3-qq : tie.Need-index-3-qq Inv-loop3 μ-loop3 Inv-loop2 μ-loop2 Inv-loop μ-loop
+index-3-qq c = omega arith
 
-mul-rotates-5 : tie.Need-mul-rotates-5 Inv-loop3 μ-loop3 Inv-loop2 μ-loop2 Inv-loop μ-loop
-mul-rotates-5 c = omega arith
+mul-pq : tie.Need-mul-pq Inv-loop3 μ-loop3 Inv-loop2 μ-loop2 Inv-loop μ-loop
+mul-pq c = omega arith
 
-mul-rotates-6 : tie.Need-mul-rotates-6 Inv-loop3 μ-loop3 Inv-loop2 μ-loop2 Inv-loop μ-loop
-mul-rotates-6 c = omega arith
+mul-pq-2 : tie.Need-mul-pq-2 Inv-loop3 μ-loop3 Inv-loop2 μ-loop2 Inv-loop μ-loop
+mul-pq-2 c = omega arith
 
-index-1-rotates-3 : tie.Need-index-1-rotates-3 Inv-loop3 μ-loop3 Inv-loop2 μ-loop2 Inv-loop μ-loop
-index-1-rotates-3 c = omega arith
+index-1-pq : tie.Need-index-1-pq Inv-loop3 μ-loop3 Inv-loop2 μ-loop2 Inv-loop μ-loop
+index-1-pq c = omega arith
 
-index-2-rotates-3 : tie.Need-index-2-rotates-3 Inv-loop3 μ-loop3 Inv-loop2 μ-loop2 Inv-loop μ-loop
-index-2-rotates-3 c = omega arith
+index-2-pq : tie.Need-index-2-pq Inv-loop3 μ-loop3 Inv-loop2 μ-loop2 Inv-loop μ-loop
+index-2-pq c = omega arith
 
-index-3-rotates-3 : tie.Need-index-3-rotates-3 Inv-loop3 μ-loop3 Inv-loop2 μ-loop2 Inv-loop μ-loop
-index-3-rotates-3 c = omega arith
+index-3-pq : tie.Need-index-3-pq Inv-loop3 μ-loop3 Inv-loop2 μ-loop2 Inv-loop μ-loop
+index-3-pq c = omega arith
+
+tested-mark-requires :
+    tie.Need-tested-mark-requires Inv-loop3 μ-loop3 Inv-loop2 μ-loop2 Inv-loop μ-loop
+tested-mark-requires c κs = search needs
 
 rotates-requires : tie.Need-rotates-requires Inv-loop3 μ-loop3 Inv-loop2 μ-loop2 Inv-loop μ-loop
 rotates-requires c κs = omega arith
@@ -123,8 +131,8 @@ loop3-again c =
       omega arith,
       fold-next _ _ _ _ _ _ (v .1) (v .3)
           (⊎-elim
-          (λ w. rw (w .4, w .3) (pair-rotated marks _ _ _ _ _ _ _ _ _ _ _ (c .before .rotates .ensures .0) (c .before .rotates .ensures .1) _ (w .0 .taken) (w .1 .ensures)))
-          (λ w. rw (w .2, w .1) (pair-left marks _ _ _ _ _ _ (l .out) _ _ _ _ (c .before .rotates .ensures .0) (c .before .rotates .ensures .1) (w .0 .left)))
+          (λ w. rw (w .4, w .3) (pair-rotated marks _ _ _ _ _ _ _ _ _ _ _ (c .before .rotates .ensures) (c .before .before .tested-mark .ensures) _ (w .0 .taken) (w .1 .ensures)))
+          (λ w. rw (w .2, w .1) (pair-left marks _ _ _ _ _ _ (l .out) _ _ _ _ (c .before .rotates .ensures) (c .before .before .tested-mark .ensures) (w .0 .left)))
           (c .if1 .came)),
     )
 
@@ -154,11 +162,16 @@ loop-again c =
     let w = c .before .before .before .loop .inv in
     (omega arith, fold-next _ _ _ _ _ _ (omega arith) (w .1) (fold-end _ _ _ _ _ _ (v .1) (c .loop2-test .left) (v .2)))
 
+is-inside-requires :
+    tie.Need-is-inside-requires Inv-loop3 μ-loop3 Inv-loop2 μ-loop2 Inv-loop μ-loop
+is-inside-requires c κs = search needs
+
 returns : tie.Need-returns Inv-loop3 μ-loop3 Inv-loop2 μ-loop2 Inv-loop μ-loop
 unfolding sweepsTo
 returns c =
-    let v = c .before .loop .inv in
-    fold-end _ _ _ _ _ _ (v .0) (c .loop-test .left) (v .1)
+    let d = c .before .before in
+    let v = d .loop .inv in
+    seen-told _ _ _ _ _ _ _ _ _ _ _ _ _ (d .before .zero-of .ensures) (fold-end _ _ _ _ _ _ (v .0) (c .before .loop-test .left) (v .1)) (c .is-inside .ensures)
 
 pub sweeps-spec : {M : Type 1} → statement M
 sweeps-spec =
@@ -170,25 +183,27 @@ sweeps-spec =
     μ-loop2
     Inv-loop
     μ-loop
+    zero-of-requires
     loop-holds
     loop2-holds
     add-q
     loop3-holds
-    mul-rotates
-    mul-rotates-2
-    index-1-rotates
-    index-2-rotates
-    index-3-rotates
-    mul-rotates-3
-    mul-rotates-4
-    index-1-rotates-2
-    index-2-rotates-2
-    index-3-rotates-2
-    mul-rotates-5
-    mul-rotates-6
-    index-1-rotates-3
-    index-2-rotates-3
-    index-3-rotates-3
+    mul-pp
+    mul-pp-2
+    index-1-pp
+    index-2-pp
+    index-3-pp
+    mul-qq
+    mul-qq-2
+    index-1-qq
+    index-2-qq
+    index-3-qq
+    mul-pq
+    mul-pq-2
+    index-1-pq
+    index-2-pq
+    index-3-pq
+    tested-mark-requires
     rotates-requires
     rotated-pair-requires
     add-count
@@ -201,4 +216,5 @@ sweeps-spec =
     add-i
     loop-less
     loop-again
+    is-inside-requires
     returns)

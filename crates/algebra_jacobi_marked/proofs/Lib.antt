@@ -1,0 +1,2 @@
+-- What the sweeps on marked numbers hand out.
+pub mod Seen
