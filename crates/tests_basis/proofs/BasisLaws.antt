@@ -1,7 +1,7 @@
 -- The steps of the contrast basis, from what each call gave.
 use Prim.Native.Nat.{ℕ, _+_, _≤_, min, max}
 use mathlib.Core.Path.{_≡_}
-use mathlib.Core.Bool.{true, false, cond}
+use mathlib.Core.Bool.{Bool, true, false, cond}
 use mathlib.Core.List.{List, []}
 use lib.ListN.{getD, set}
 use lib.IntN.{negsuc}
@@ -9,7 +9,7 @@ use lib.Ieee.{Float, fin, binary64, mul, lt}
 use borrow.Author.Tests.{eq-eqb, ne-eqb}
 use Rattle.arithmetic.specs.declared.Marked.{Marked}
 use Rattle.arithmetic.specs.Numbers.{plusZero, isZero, ofCount}
-use Rattle.arithmetic.specs.Marks.{marked, given, markedDiv}
+use Rattle.arithmetic.specs.Marks.{marked, given, isInside, markedDiv}
 use Rattle.algebra.specs.Fold.{fold}
 use Rattle.algebra.specs.Table.{row}
 use Rattle.algebra.specs.Kind.{floats}
@@ -75,17 +75,17 @@ marked-is : (x : Float) (m : Marked) → m .value ≡ x → marked x (m .inside)
 marked-is x m e = rw (← e)
 
 -- the basis of one row, and of several
-module _ (rows p : ℕ) (l : Rows) (d : List (List Marked)) (zero all : Marked) (m : Rows) (ed : d ≡ divided rows p l) (ez : zero ≡ given plusZero)
-    (ea : all ≡ allMarks rows p d zero) (em : m ≡ values 6 6 rows p d) where
-  seen-is : marked plusZero (all .inside) ≡ allMarks rows p (divided rows p l) (given plusZero)
-  seen-is = rw (ea, ez, ed) (marked-is plusZero (allMarks rows p (divided rows p l) (given plusZero)) (allMarks-value rows p (divided rows p l) (given plusZero)))
+module _ (rows p : ℕ) (l : Rows) (d : List (List Marked)) (zero all : Marked) (inside : Bool) (m : Rows) (ed : d ≡ divided rows p l) (ez : zero ≡ given plusZero)
+    (ea : all ≡ allMarks rows p d zero) (ei : inside ≡ isInside all) (em : m ≡ values 6 6 rows p d) where
+  seen-is : marked plusZero inside ≡ allMarks rows p (divided rows p l) (given plusZero)
+  seen-is = rw (ei, ea, ez, ed) (marked-is plusZero (allMarks rows p (divided rows p l) (given plusZero)) (allMarks-value rows p (divided rows p l) (given plusZero)))
 
-  pub basis-of-one : rows ≡ 1 → _≡_ {A = Basis} (record { rows = m; rank = 1; seen = marked plusZero (all .inside) }) (contrastBasis rows p l)
+  pub basis-of-one : rows ≡ 1 → _≡_ {A = Basis} (record { rows = m; rank = 1; seen = marked plusZero inside }) (contrastBasis rows p l)
   unfolding contrastBasis
   basis-of-one h = rw (eq-eqb rows 1 h, seen-is, em, ed)
 
   pub basis-of-several : (t r : Rows) (rank : ℕ) → (rows ≡ 1 → ⊥) → t ≡ sweepsTo 30 rows p m → rank ≡ rankOf rows p (norms rows p t)
       → r ≡ basisRows rows p rank t (norms rows p t)
-      → _≡_ {A = Basis} (record { rows = r; rank = rank; seen = marked plusZero (all .inside) }) (contrastBasis rows p l)
+      → _≡_ {A = Basis} (record { rows = r; rank = rank; seen = marked plusZero inside }) (contrastBasis rows p l)
   unfolding contrastBasis
   basis-of-several t r rank h et en er = rw (ne-eqb rows 1 h, seen-is, er, en, et, em, ed)

@@ -19,6 +19,7 @@ use arithmetic::plain::magnitude;
 use arithmetic::plain::of_count;
 use arithmetic::root::sqrt;
 use arithmetic_steps::given;
+use arithmetic_steps::is_inside;
 use tests_falling_order::counted;
 use tests_falling_order::index_at;
 
@@ -300,7 +301,7 @@ pub fn contrast_basis(
 {
     let d = divided(rows, p, l);
     let all = algebra_products_marked::cells::all_marks(d, rows, p, given(0.0));
-    *seen = all.inside;
+    *seen = is_inside(all);
     let m = algebra_products_marked::cells::values(d, rows, p);
     if rows == 1 {
         *rank = 1;

@@ -15,6 +15,9 @@ given-requires c κs = search needs
 all-marks-requires : tie.Need-all-marks-requires
 all-marks-requires c κs = search needs
 
+is-inside-requires : tie.Need-is-inside-requires
+is-inside-requires c κs = search needs
+
 values-requires : tie.Need-values-requires
 values-requires c κs = search needs
 
@@ -22,8 +25,8 @@ returns : tie.Need-returns
 unfolding ofBits
 returns c =
     let v = c .before in
-    let a = v .before in
-    (basis-of-one _ _ _ _ _ _ _ (a .before .before .divided .ensures) (a .before .given .ensures) (a .all-marks .ensures) (v .values .ensures) (c .if1 .taken), omega arith)
+    let a = v .before .before in
+    (basis-of-one _ _ _ _ _ _ _ _ (a .before .before .divided .ensures) (a .before .given .ensures) (a .all-marks .ensures) (v .before .is-inside .ensures) (v .values .ensures) (c .if1 .taken), omega arith)
 
 sweeps-requires : tie.Need-sweeps-requires
 sweeps-requires c κs = search needs
@@ -36,8 +39,8 @@ unfolding ofBits
 returns-2 c =
     let i = c .before .before .before in
     let v = i .before in
-    let a = v .before in
-    (basis-of-several _ _ _ _ _ _ _ (a .before .before .divided .ensures) (a .before .given .ensures) (a .all-marks .ensures) (v .values .ensures) _ _ _ (i .if1 .left) (c .before .before .sweeps .ensures) (c .unit-rows .ensures .0) (c .unit-rows .ensures .2), c .unit-rows .ensures .1)
+    let a = v .before .before in
+    (basis-of-several _ _ _ _ _ _ _ _ (a .before .before .divided .ensures) (a .before .given .ensures) (a .all-marks .ensures) (v .before .is-inside .ensures) (v .values .ensures) _ _ _ (i .if1 .left) (c .before .before .sweeps .ensures) (c .unit-rows .ensures .0) (c .unit-rows .ensures .2), c .unit-rows .ensures .1)
 
 pub contrast-basis-spec : {M : Type 1} → statement M
 contrast-basis-spec =
@@ -46,6 +49,7 @@ contrast-basis-spec =
     divided-requires
     given-requires
     all-marks-requires
+    is-inside-requires
     values-requires
     returns
     sweeps-requires
