@@ -22,8 +22,10 @@ use arithmetic_cutoffs::Cutoffs;
 use arithmetic_steps::add;
 use arithmetic_steps::also;
 use arithmetic_steps::given;
+use arithmetic_steps::is_inside;
 use arithmetic_steps::mul;
 use arithmetic_steps::sub;
+use arithmetic_steps::zero_of;
 use tests::Entry;
 use tests::Number;
 use tests::both::is_positive;
@@ -150,10 +152,7 @@ pub fn wald_many(ld: [[Marked; 6]; 6], y: [[Marked; 6]; 6], q: usize) -> Marked
     requires { ⌜ q ≤ 6 ⌝ }
     ensures { λ r. ⌜ r ≡ waldMany q ld y ⌝ }
 {
-    let mut sum = Marked {
-        value: 0.0,
-        inside: true,
-    };
+    let mut sum = zero_of();
     for i in 0..q {
         sum = add(sum, mul(ld[i][0], y[i][0]));
     }
@@ -255,7 +254,7 @@ pub fn entry_of(
         f: f,
         df: df,
         rank: q as u8,
-        inside: seen.inside,
+        inside: is_inside(seen),
     }
 }
 

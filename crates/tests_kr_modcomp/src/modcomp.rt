@@ -7,6 +7,7 @@ use crate::full_rank::kr_modcomp_full_rank;
 use crate::full_rank::unit_row;
 use arithmetic::Marked;
 use arithmetic_cutoffs::Cutoffs;
+use arithmetic_steps::seen_of;
 use tests::Entry;
 use tests_basis::basis::contrast_basis;
 
@@ -32,10 +33,7 @@ pub fn kr_modcomp_test(
     let mut rank: usize = 0;
     let mut inside = false;
     let basis = contrast_basis(l, rows, p, &mut rank, &mut inside);
-    let seen = Marked {
-        value: 0.0,
-        inside: inside,
-    };
+    let seen = seen_of(inside);
     kr_modcomp_full_rank(
         c,
         phi,

@@ -22,11 +22,15 @@ df-of-requires c κs = search needs
 cast-t14 : tie.Need-cast-t14
 cast-t14 c = search needs
 
+is-inside-requires : tie.Need-is-inside-requires
+is-inside-requires c κs = search needs
+
 returns : tie.Need-returns
 returns c =
-    let a1 = c .before .before .before .before .a1-of .ensures in
-    let a2 = c .before .before .before .a2-of .ensures in
-    entry-is _ _ _ _ _ _ _ _ _ _ _ _ _ a1 a2 (c .before .before .scaling-of .ensures) (c .before .f-of .ensures) (c .df-of .ensures)
+    let d = c .before in
+    let a1 = d .before .before .before .before .a1-of .ensures in
+    let a2 = d .before .before .before .a2-of .ensures in
+    rw (c .is-inside .ensures) (entry-is _ _ _ _ _ _ _ _ _ _ _ _ _ a1 a2 (d .before .before .scaling-of .ensures) (d .before .f-of .ensures) (d .df-of .ensures))
 
 pub entry-of-spec : {M : Type 1} → statement M
 entry-of-spec =
@@ -38,4 +42,5 @@ entry-of-spec =
     f-of-requires
     df-of-requires
     cast-t14
+    is-inside-requires
     returns)

@@ -16,9 +16,12 @@ Inv-loop q ld y sum₀ i₀ sum i = (i ≤ q) × (sum ≡ waldMany i ld y)
 abbrev μ-loop : tie.MeasureT-loop
 μ-loop q ld y sum₀ i₀ sum i = q - i
 
+zero-of-requires : tie.Need-zero-of-requires Inv-loop μ-loop
+zero-of-requires c κs = search needs
+
 loop-holds : tie.Need-loop-holds Inv-loop μ-loop
 unfolding waldMany ofBits
-loop-holds c = (omega arith, sum-none marks _)
+loop-holds c = (omega arith, rw (c .zero-of .ensures) (sum-none marks _))
 
 mul-mul : tie.Need-mul-mul Inv-loop μ-loop
 mul-mul c = omega arith
@@ -64,6 +67,7 @@ wald-many-spec =
     (tie.spec
     Inv-loop
     μ-loop
+    zero-of-requires
     loop-holds
     mul-mul
     index-1-mul
