@@ -30,6 +30,7 @@ use arithmetic_steps::add;
 use arithmetic_steps::div;
 use arithmetic_steps::given;
 use arithmetic_steps::mul;
+use arithmetic_steps::zero_of;
 use tests::Number;
 use tests::both::is_positive;
 use tests::number_of;
@@ -126,10 +127,7 @@ pub fn squares_sum(y: [[Marked; 6]; 6], es: [Marked; 6], q: usize) -> Marked
     requires { ⌜ q ≤ 6 ⌝ }
     ensures { λ r. ⌜ r ≡ sum marks q (λ k. markedDiv (markedMul (at marks y k 0) (at marks y k 0)) (entryAt es k)) ⌝ }
 {
-    let mut sum = Marked {
-        value: 0.0,
-        inside: true,
-    };
+    let mut sum = zero_of();
     for k in 0..q {
         sum = add(sum, square_over(y, es, k));
     }

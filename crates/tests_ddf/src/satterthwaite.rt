@@ -1,8 +1,6 @@
 // The Satterthwaite test, for one contrast row and for several. Everything up to and with g carries its mark.
 ghost use mathlib.Core.Path.{_≡_};
 ghost use Prim.Native.Nat.{_≤_};
-ghost use Rattle.arithmetic.specs.Marks.{marked};
-ghost use Rattle.arithmetic.specs.Numbers.{plusZero};
 ghost use Rattle.algebra.specs.Kind.{marks};
 ghost use Rattle.algebra.specs.Product.{at};
 ghost use Rattle.tests.specs.Satterthwaite.{gradientOne, satterthwaite};
@@ -30,6 +28,8 @@ use algebra_products_marked::cells::given_cells;
 use arithmetic::Marked;
 use arithmetic_cutoffs::Cutoffs;
 use arithmetic_steps::also;
+use arithmetic_steps::is_inside;
+use arithmetic_steps::seen_of;
 use tests::Entry;
 use tests::both::square_one;
 use tests::number_of;
@@ -68,7 +68,7 @@ pub fn one_row(
         f: number,
         df: df,
         rank: q as u8,
-        inside: seen.inside,
+        inside: is_inside(seen),
     }
 }
 
@@ -95,7 +95,7 @@ pub fn components_entry(
         f: number,
         df: df,
         rank: q as u8,
-        inside: all.inside,
+        inside: is_inside(all),
     }
 }
 
@@ -126,19 +126,15 @@ pub fn rotations_seen(
     d: [[Marked; 6]; 6],
     x: [[Marked; 6]; 6],
     q: usize,
-    tests: bool,
+    tests: Marked,
     start: Marked,
 ) -> Marked
     requires { ⌜ q ≤ 6 ⌝ }
-    ensures { λ r. ⌜ r ≡ rotationsSeenOf q d x (marked plusZero tests) start ⌝ }
+    ensures { λ r. ⌜ r ≡ rotationsSeenOf q d x tests start ⌝ }
 {
     let first = all_marks(d, q, q, start);
     let second = all_marks(x, q, q, first);
-    let last = Marked {
-        value: 0.0,
-        inside: tests,
-    };
-    also(second, last)
+    also(second, tests)
 }
 
 // Several rows; an eigenvalue that is not finite or not above zero refuses the test.
@@ -157,8 +153,9 @@ pub fn several_rows(
     ensures { λ r. ⌜ now (refused .exit) ≡ severalOutcomeOf c n q a ld v js .refused ⌝ }
 {
     let mut count = 0;
-    let mut tests = true;
-    let both = jacobi(v, q, c.rotation, &mut count, &mut tests);
+    let mut inside = true;
+    let both = jacobi(v, q, c.rotation, &mut count, &mut inside);
+    let tests = seen_of(inside);
     let d = both[0];
     let x = both[1];
     *refused = not_positive(eigenvalues(d, q), q);

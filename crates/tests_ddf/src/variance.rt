@@ -12,6 +12,7 @@ ghost use Rattle.tests.specs.VarianceDf.{entryAt, relativeGradient, relativeVar
 use arithmetic::Marked;
 use arithmetic_steps::also;
 use arithmetic_steps::div;
+use arithmetic_steps::zero_of;
 use tests::Number;
 use tests::both::is_positive;
 
@@ -19,10 +20,7 @@ use tests::both::is_positive;
 pub fn no_marks() -> [Marked; 6]
     ensures { λ r. ⌜ r ≡ replicate 6 (given plusZero) ⌝ }
 {
-    let zero = Marked {
-        value: 0.0,
-        inside: true,
-    };
+    let zero = zero_of();
     [zero; 6]
 }
 

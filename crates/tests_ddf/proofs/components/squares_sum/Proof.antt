@@ -27,9 +27,12 @@ Inv-loop y es q sum₀ k₀ sum k = (k ≤ q) × (sum ≡ total k (term y es))
 abbrev μ-loop : tie.MeasureT-loop
 μ-loop y es q sum₀ k₀ sum k = q - k
 
+zero-of-requires : tie.Need-zero-of-requires Inv-loop μ-loop
+zero-of-requires c κs = search needs
+
 loop-holds : tie.Need-loop-holds Inv-loop μ-loop
 unfolding ofBits
-loop-holds c = (omega arith, sum-none marks _)
+loop-holds c = (omega arith, rw (c .zero-of .ensures) (sum-none marks _))
 
 square-over-requires : tie.Need-square-over-requires Inv-loop μ-loop
 square-over-requires c κs = omega arith
@@ -55,6 +58,7 @@ squares-sum-spec =
     (tie.spec
     Inv-loop
     μ-loop
+    zero-of-requires
     loop-holds
     square-over-requires
     add-requires

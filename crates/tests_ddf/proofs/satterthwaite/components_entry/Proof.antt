@@ -28,10 +28,15 @@ number-of-requires c κs = search needs
 cast-t17 : tie.Need-cast-t17
 cast-t17 c = search needs
 
+is-inside-requires : tie.Need-is-inside-requires
+is-inside-requires c κs = search needs
+
 returns : tie.Need-returns
 returns c =
-    components-entry-is _ _ _ _ _ _ _ _ _ _ _ _ _ _ _ _ (c .before .before .before .before .before .before .projected .ensures) (c .before .before .before .before .before .squares-over .ensures) (c .before .before .before .before .component-dfs .ensures)
-    (c .before .before .before .several-df .ensures) (c .before .before .also .ensures) (c .before .components-seen .ensures) (c .number-of .ensures)
+    let d = c .before in
+    rw (c .is-inside .ensures)
+    (components-entry-is _ _ _ _ _ _ _ _ _ _ _ _ _ _ _ _ (d .before .before .before .before .before .before .projected .ensures) (d .before .before .before .before .before .squares-over .ensures) (d .before .before .before .before .component-dfs .ensures)
+    (d .before .before .before .several-df .ensures) (d .before .before .also .ensures) (d .before .components-seen .ensures) (d .number-of .ensures))
 
 pub components-entry-spec : {M : Type 1} → statement M
 components-entry-spec =
@@ -45,4 +50,5 @@ components-entry-spec =
     components-seen-requires
     number-of-requires
     cast-t17
+    is-inside-requires
     returns)

@@ -22,9 +22,14 @@ number-of-requires c κs = search needs
 cast-t13 : tie.Need-cast-t13
 cast-t13 c = search needs
 
+is-inside-requires : tie.Need-is-inside-requires
+is-inside-requires c κs = search needs
+
 returns : tie.Need-returns
 unfolding oneEntryOf
-returns c = rw (← (c .before .before .before .before .square-one .ensures), ← (c .before .before .before .variance-df .ensures), ← (c .before .before .also .ensures), ← (c .before .gradient-seen .ensures), ← (c .number-of .ensures))
+returns c =
+    let d = c .before in
+    rw (c .is-inside .ensures, ← (d .before .before .before .before .square-one .ensures), ← (d .before .before .before .variance-df .ensures), ← (d .before .before .also .ensures), ← (d .before .gradient-seen .ensures), ← (d .number-of .ensures))
 
 pub one-row-spec : {M : Type 1} → statement M
 one-row-spec =
@@ -36,4 +41,5 @@ one-row-spec =
     gradient-seen-requires
     number-of-requires
     cast-t13
+    is-inside-requires
     returns)

@@ -1,5 +1,4 @@
 -- `tests_ddf::satterthwaite::rotations_seen` meets its contract.
-use lib.Ieee.{ofBits}
 use Rattle.tests_ddf.specs.joints.Parts.{rotationsSeenOf}
 use borrow.Author.Needs.{needs}
 use Rattle.tests_ddf.proofs.satterthwaite.rotations_seen.Statement.{statement}
@@ -15,7 +14,7 @@ also-requires : tie.Need-also-requires
 also-requires c κs = search needs
 
 returns : tie.Need-returns
-unfolding rotationsSeenOf ofBits
+unfolding rotationsSeenOf
 returns c = rw (← (c .before .before .all-marks .ensures), ← (c .before .all-marks2 .ensures)) (c .also .ensures)
 
 pub rotations-seen-spec : {M : Type 1} → statement M

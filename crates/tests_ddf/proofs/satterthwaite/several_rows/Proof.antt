@@ -7,6 +7,9 @@ use Rattle.tests_ddf.proofs.satterthwaite.several_rows.Tie as tie
 jacobi-requires : tie.Need-jacobi-requires
 jacobi-requires c κs = search needs
 
+seen-of-requires : tie.Need-seen-of-requires
+seen-of-requires c κs = search needs
+
 array-copy-out-d : tie.Need-array-copy-out-d
 array-copy-out-d c = search needs
 
@@ -30,9 +33,11 @@ several-entry-requires c κs = search needs
 
 returns : tie.Need-returns
 returns c =
-    let both = c .before .before .before .before .before .before .before .jacobi .result in
-    let state = c .before .before .before .before .before .before .before .jacobi .ensures .0 in (
-      several-entry-is _ _ _ _ _ _ _ both _ _ state _ _ _ (c .before .before .start-seen .ensures) (c .before .rotations-seen .ensures) (c .several-entry .ensures),
+    let t = c .before .before .before .before .before .before .before in
+    let both = t .before .jacobi .result in
+    let state = t .before .jacobi .ensures .0 in
+    let seen = rw (t .seen-of .ensures) at (c .before .rotations-seen .ensures) in (
+      several-entry-is _ _ _ _ _ _ _ both _ _ state _ _ _ (c .before .before .start-seen .ensures) seen (c .several-entry .ensures),
       several-refused-is _ _ _ _ _ _ _ both _ _ state _ _ (c .before .before .before .before .eigenvalues .ensures) (c .before .before .before .not-positive .ensures),
     )
 
@@ -41,6 +46,7 @@ several-rows-spec =
     tie.close
     (tie.spec
     jacobi-requires
+    seen-of-requires
     array-copy-out-d
     array-copy-out-x
     eigenvalues-requires

@@ -1,12 +1,13 @@
 -- `tests_ddf::variance::no_marks` meets its contract.
-use mathlib.Core.Path.{refl}
-use lib.Ieee.{ofBits}
+use borrow.Author.Needs.{needs}
 use Rattle.tests_ddf.proofs.variance.no_marks.Statement.{statement}
 use Rattle.tests_ddf.proofs.variance.no_marks.Tie as tie
 
+zero-of-requires : tie.Need-zero-of-requires
+zero-of-requires c κs = search needs
+
 returns : tie.Need-returns
-unfolding ofBits
-returns c = refl
+returns c = rw (c .zero-of .ensures)
 
 pub no-marks-spec : {M : Type 1} → statement M
-no-marks-spec = tie.close (tie.spec returns)
+no-marks-spec = tie.close (tie.spec zero-of-requires returns)
