@@ -9,7 +9,7 @@ pub fn number(x: f64) {
 
 pub fn marked_number(x: Marked) {
     number(x.value);
-    if x.inside {
+    if arithmetic_steps::is_inside(x) {
         io::write_all(1, b"+");
     } else {
         io::write_all(1, b"-");

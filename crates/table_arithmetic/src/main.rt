@@ -9,10 +9,8 @@ ghost use lib.ListN.{length};
 fn operand(line: &[u8], at: usize, mark: usize) -> Marked
     requires { ⌜ (at + 16 ≤ length (now line)) × (mark < length (now line)) ⌝ }
 {
-    Marked {
-        value: arithmetic::plain::of_bits(table_bits_text::word_at(line, at)),
-        inside: line[mark] == 49,
-    }
+    let x = arithmetic_steps::given(arithmetic::plain::of_bits(table_bits_text::word_at(line, at)));
+    arithmetic_steps::also(x, arithmetic_steps::seen_of(line[mark] == 49))
 }
 
 // The step that the line's first letters name: sqrt, add, sub, mul or div.
@@ -46,7 +44,7 @@ fn print_line(line: &[u8])
     io::write_all(1, &line[..41]);
     io::write_all(1, b" ");
     table_bits_text::print_word(arithmetic::plain::to_bits(r.value));
-    if r.inside {
+    if arithmetic_steps::is_inside(r) {
         io::write_all(1, b" inside\n");
     } else {
         io::write_all(1, b" outside\n");

@@ -27,6 +27,9 @@ to-bits-requires c κs = search needs
 print-word-requires : tie.Need-print-word-requires
 print-word-requires c κs = search needs
 
+is-inside-requires : tie.Need-is-inside-requires
+is-inside-requires c κs = search needs
+
 slice-aggregate-write-all-3 : tie.Need-slice-aggregate-write-all-3
 slice-aggregate-write-all-3 c = search needs
 
@@ -56,6 +59,7 @@ print-line-spec =
     write-all-requires-2
     to-bits-requires
     print-word-requires
+    is-inside-requires
     slice-aggregate-write-all-3
     write-all-requires-3
     slice-aggregate-write-all-4
