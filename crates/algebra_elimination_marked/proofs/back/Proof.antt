@@ -1,7 +1,6 @@
 -- `algebra_elimination_marked::back` meets its contract.
 use Prim.Native.Nat.{_≤_, _-_}
 use mathlib.Core.Path.{_≡_}
-use lib.Ieee.{ofBits}
 use native.Mathlib.Omega.{arith}
 use borrow.Author.Needs.{needs}
 use Rattle.algebra.specs.Kind.{marks}
@@ -22,7 +21,7 @@ zero-of-requires : tie.Need-zero-of-requires Inv-loop μ-loop
 zero-of-requires c κs = search needs
 
 loop-holds : tie.Need-loop-holds Inv-loop μ-loop
-unfolding backTo blank ofBits
+unfolding backTo blank
 loop-holds c = (omega arith, rw (c .zero-of .ensures) (fold-start _ _ _))
 
 sub-i : tie.Need-sub-i Inv-loop μ-loop

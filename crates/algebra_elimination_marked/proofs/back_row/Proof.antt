@@ -2,7 +2,6 @@
 use borrow.Author.Needs.{needs}
 use Prim.Native.Nat.{_≤_, _<_, _-_, _+_}
 use mathlib.Core.Path.{_≡_, refl}
-use lib.Ieee.{ofBits}
 use native.Mathlib.Omega.{arith}
 use Rattle.algebra.specs.Kind.{marks, zeroOf}
 use Rattle.algebra.specs.Table.{row}
@@ -28,7 +27,7 @@ zero-of-requires : tie.Need-zero-of-requires Inv-loop2 μ-loop2 Inv-loop μ-loop
 zero-of-requires c κs = search needs
 
 loop-holds : tie.Need-loop-holds Inv-loop2 μ-loop2 Inv-loop μ-loop
-unfolding row ofBits
+unfolding row
 loop-holds c = (omega arith, rw (c .zero-of .ensures) (fold-start _ _ _))
 
 add-sum : tie.Need-add-sum Inv-loop2 μ-loop2 Inv-loop μ-loop

@@ -2,7 +2,6 @@
 use Prim.Native.Nat.{_≤_, _-_, _+_}
 use mathlib.Core.Path.{_≡_}
 use mathlib.Core.List.{[]}
-use lib.Ieee.{ofBits}
 use lib.ListN.{getD}
 use native.Mathlib.Omega.{arith}
 use borrow.Author.Needs.{needs}
@@ -24,7 +23,7 @@ zero-of-requires : tie.Need-zero-of-requires Inv-loop μ-loop
 zero-of-requires c κs = search needs
 
 loop-holds : tie.Need-loop-holds Inv-loop μ-loop
-unfolding table blank ofBits
+unfolding table blank
 loop-holds c = (omega arith, rw (c .zero-of .ensures) (fold-start _ _ _))
 
 mul-joined-row : tie.Need-mul-joined-row Inv-loop μ-loop

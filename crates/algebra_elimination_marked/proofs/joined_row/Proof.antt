@@ -1,7 +1,6 @@
 -- `algebra_elimination_marked::joined_row` meets its contract.
 use Prim.Native.Nat.{_≤_, _-_, _+_}
 use mathlib.Core.Path.{_≡_, refl}
-use lib.Ieee.{ofBits}
 use native.Mathlib.Omega.{arith}
 use borrow.Author.Needs.{needs}
 use lib.ListN.{getD, set}
@@ -30,7 +29,7 @@ zero-of-requires : tie.Need-zero-of-requires Inv-loop μ-loop Inv-loop2 μ-loop2
 zero-of-requires c κs = search needs
 
 loop-holds : tie.Need-loop-holds Inv-loop μ-loop Inv-loop2 μ-loop2
-unfolding row ofBits
+unfolding row
 loop-holds c = (omega arith, rw (c .zero-of .ensures) (fold-start _ _ _))
 
 mul-out : tie.Need-mul-out Inv-loop μ-loop Inv-loop2 μ-loop2

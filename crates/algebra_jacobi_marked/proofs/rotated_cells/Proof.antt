@@ -2,7 +2,6 @@
 use Prim.Native.Nat.{_≤_, _<_, _-_}
 use native.Mathlib.Nat.{le-antisymm}
 use mathlib.Core.Path.{_≡_, refl}
-use lib.Ieee.{ofBits}
 use Rattle.algebra.specs.Kind.{marks, zeroOf}
 use Rattle.algebra.specs.Table.{table, blank}
 use Rattle.algebra.proofs.TableLaws.{Filling, table-none, filling-none, filling-more, filling-row}
@@ -28,7 +27,7 @@ zero-of-requires : tie.Need-zero-of-requires Inv-loop2 μ-loop2 Inv-loop μ-loop
 zero-of-requires c κs = search needs
 
 loop-holds : tie.Need-loop-holds Inv-loop2 μ-loop2 Inv-loop μ-loop
-unfolding blank ofBits
+unfolding blank
 loop-holds c = (omega arith, rw (c .zero-of .ensures) (table-none _ _ _ _ _ _ refl))
 
 loop2-holds : tie.Need-loop2-holds Inv-loop2 μ-loop2 Inv-loop μ-loop

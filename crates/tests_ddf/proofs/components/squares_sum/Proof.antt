@@ -2,7 +2,6 @@
 use Prim.Native.Nat.{ℕ, _≤_, _-_}
 use mathlib.Core.Path.{_≡_}
 use mathlib.Core.List.{List}
-use lib.Ieee.{ofBits}
 use Rattle.arithmetic.specs.declared.Marked.{Marked}
 use Rattle.arithmetic.specs.Marks.{markedMul, markedDiv}
 use Rattle.algebra.specs.Kind.{marks}
@@ -31,7 +30,6 @@ zero-of-requires : tie.Need-zero-of-requires Inv-loop μ-loop
 zero-of-requires c κs = search needs
 
 loop-holds : tie.Need-loop-holds Inv-loop μ-loop
-unfolding ofBits
 loop-holds c = (omega arith, rw (c .zero-of .ensures) (sum-none marks _))
 
 square-over-requires : tie.Need-square-over-requires Inv-loop μ-loop
