@@ -37,14 +37,14 @@ abbrev pub finiteStepMarked : List (List Marked) → ℕ → ℕ → Bool → Bo
 finiteStepMarked m i j z = z || not (isFinite (at marks m i j .value))
 
 -- a P and the P over sigma2, joined to what was found before
-pub ps-step : (p : ℕ) (m : Rows) (sigma2 : Float) (z plain scaled : Bool) (down : List (List Marked)) → plain ≡ notAllFinite p p m → down ≡ scaledDown p m sigma2
-    → scaled ≡ notAllFiniteMarked p p down → z || plain || scaled ≡ z || notAllFinite p p m || notAllFiniteMarked p p (scaledDown p m sigma2)
+pub ps-step : (p : ℕ) (m : Rows) (sigma2 : Float) (z plain scaled : Bool) (down : List (List Marked)) → plain ≡ notAllFinite p p m → down ≡ scaledDown marks p m sigma2
+    → scaled ≡ notAllFiniteMarked p p down → z || plain || scaled ≡ z || notAllFinite p p m || notAllFiniteMarked p p (scaledDown marks p m sigma2)
 ps-step p m sigma2 z plain scaled down e f g = rw (g, e, f)
 
 -- what is not finite in the output, from its five parts
 pub output-is : (p N : ℕ) (phi : Rows) (sigma2 : Float) (phiA : Rows) (ps : Stack) (w : Rows) (k : ℕ) (plain inverse before after each : Bool)
-    → plain ≡ notAllFinite p p phiA → inverse ≡ notAllFinite N N w → before ≡ notAllFiniteMarked p p (scaledUp p phi sigma2)
-    → after ≡ notAllFiniteMarked p p (scaledUp p phiA sigma2) → each ≡ fold 0 N (λ r z. z || notAllFinite p p (matrixAt ps r) || notAllFiniteMarked p p (scaledDown p (matrixAt ps r) sigma2)) false
+    → plain ≡ notAllFinite p p phiA → inverse ≡ notAllFinite N N w → before ≡ notAllFiniteMarked p p (scaledUp marks p phi sigma2)
+    → after ≡ notAllFiniteMarked p p (scaledUp marks p phiA sigma2) → each ≡ fold 0 N (λ r z. z || notAllFinite p p (matrixAt ps r) || notAllFiniteMarked p p (scaledDown marks p (matrixAt ps r) sigma2)) false
     → plain || inverse || before || after || each ≡ outputNotFinite p N phi sigma2 (record { phiA = phiA; ps = ps; w = w; rotations = k })
 unfolding outputNotFinite
 output-is p N phi sigma2 phiA ps w k plain inverse before after each e f g h l = rw (e, f, g, h, l)

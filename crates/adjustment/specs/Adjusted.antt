@@ -6,10 +6,9 @@ use lib.ListN.{getD, replicate, set}
 use lib.Ieee.{Float, binary64, add, sub, mul}
 use Rattle.arithmetic.specs.declared.Marked.{Marked}
 use Rattle.arithmetic.specs.Numbers.{plusZero, isFinite}
-use Rattle.arithmetic.specs.Marks.{given}
 use Rattle.algebra.specs.Fold.{fold, span}
 use Rattle.algebra.specs.Table.{table, blank}
-use Rattle.algebra.specs.Kind.{floats, marks}
+use Rattle.algebra.specs.Kind.{Arith, floats, marks}
 use Rattle.algebra.specs.Product.{at, product, transpose, plusCells, minusCells, timesNumber, overNumber}
 use Rattle.algebra.specs.Jacobi.{State, two, jacobi}
 use Rattle.algebra.specs.Small.{Rows, givenCells}
@@ -111,12 +110,12 @@ precisionOf d = precision (d .n) (inverseFactor (d .n) (cholesky (d .n) (sigmaRo
 abbrev pub adjustment : Cutoffs → Design → Rows → Adjustment
 adjustment c d phi = fromPrecision c d phi (precisionOf d)
 
--- ---- the scaling by sigma2, as marked steps: Φ and Φ_A times it, each P divided by it
-unfoldable pub scaledUp : ℕ → Rows → Float → List (List Marked)
-scaledUp p m sigma2 = timesNumber marks 6 6 p p (givenCells 6 6 p p m) (given sigma2)
+-- ---- the scaling by sigma2, on any kind of number; the document's steps are marked: Φ and Φ_A times it, each P divided by it
+unfoldable pub scaledUp : {A : Type 0} → Arith A → ℕ → Rows → Float → List (List A)
+scaledUp N p m sigma2 = timesNumber N 6 6 p p (givenCells N 6 6 p p m) (N .of sigma2)
 
-unfoldable pub scaledDown : ℕ → Rows → Float → List (List Marked)
-scaledDown p m sigma2 = overNumber marks 6 6 p p (givenCells 6 6 p p m) (given sigma2)
+unfoldable pub scaledDown : {A : Type 0} → Arith A → ℕ → Rows → Float → List (List A)
+scaledDown N p m sigma2 = overNumber N 6 6 p p (givenCells N 6 6 p p m) (N .of sigma2)
 
 -- ---- the late refusal 4: some number of the output, scaled or not, is not finite
 unfoldable pub notAllFinite : ℕ → ℕ → Rows → Bool
@@ -127,8 +126,8 @@ notAllFiniteMarked r c m = fold 0 r (λ i z. fold 0 c (λ j z. z || not (isFinit
 
 unfoldable pub outputNotFinite : ℕ → ℕ → Rows → Float → Adjustment → Bool
 outputNotFinite p N phi sigma2 a =
-    notAllFinite p p (a .phiA) || notAllFinite N N (a .w) || notAllFiniteMarked p p (scaledUp p phi sigma2) || notAllFiniteMarked p p (scaledUp p (a .phiA) sigma2)
-    || fold 0 N (λ r z. z || notAllFinite p p (matrixAt (a .ps) r) || notAllFiniteMarked p p (scaledDown p (matrixAt (a .ps) r) sigma2)) false
+    notAllFinite p p (a .phiA) || notAllFinite N N (a .w) || notAllFiniteMarked p p (scaledUp marks p phi sigma2) || notAllFiniteMarked p p (scaledUp marks p (a .phiA) sigma2)
+    || fold 0 N (λ r z. z || notAllFinite p p (matrixAt (a .ps) r) || notAllFiniteMarked p p (scaledDown marks p (matrixAt (a .ps) r) sigma2)) false
 
 -- what refuses the adjustment, in document 01's order: 9 (a Cholesky diagonal of Σ not > 0), 10 (a zero pivot, of L or of the matrix that is inverted for W), then 4
 unfoldable pub adjustmentReasons : Cutoffs → Design → Rows → Float → List (ℕ × Bool)

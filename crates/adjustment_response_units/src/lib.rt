@@ -2,6 +2,7 @@
 ghost use mathlib.Core.Path.{_≡_};
 ghost use mathlib.Core.Bool.{false, _||_};
 ghost use Prim.Native.Nat.{ℕ, _≤_};
+ghost use Rattle.algebra.specs.Kind.{marks};
 ghost use Rattle.algebra.specs.Fold.{fold};
 ghost use Rattle.adjustment.specs.Adjusted.{scaledUp, scaledDown, notAllFinite, notAllFiniteMarked, matrixAt, outputNotFinite};
 use arithmetic::Marked;
@@ -11,7 +12,7 @@ use arithmetic_steps::given;
 // m times sigma2, as marked steps.
 pub fn scaled_up(p: usize, m: [[f64; 6]; 6], sigma2: f64) -> [[Marked; 6]; 6]
     requires { ⌜ p ≤ 6 ⌝ }
-    ensures { λ r. ⌜ r ≡ scaledUp p m sigma2 ⌝ }
+    ensures { λ r. ⌜ r ≡ scaledUp marks p m sigma2 ⌝ }
 {
     let cells = algebra_products_marked::cells::given_cells(m, p, p);
     let x = given(sigma2);
@@ -21,7 +22,7 @@ pub fn scaled_up(p: usize, m: [[f64; 6]; 6], sigma2: f64) -> [[Marked; 6]; 6]
 // m divided by sigma2, as marked steps.
 pub fn scaled_down(p: usize, m: [[f64; 6]; 6], sigma2: f64) -> [[Marked; 6]; 6]
     requires { ⌜ p ≤ 6 ⌝ }
-    ensures { λ r. ⌜ r ≡ scaledDown p m sigma2 ⌝ }
+    ensures { λ r. ⌜ r ≡ scaledDown marks p m sigma2 ⌝ }
 {
     let cells = algebra_products_marked::cells::given_cells(m, p, p);
     let x = given(sigma2);
@@ -60,7 +61,7 @@ pub fn not_all_finite_marked(rows: usize, cols: usize, m: [[Marked; 6]; 6]) -> b
 // Whether some cell of a P, or of it over sigma2, is not finite.
 pub fn ps_not_finite(p: usize, n: usize, ps: [[[f64; 6]; 6]; 4], sigma2: f64) -> bool
     requires { ⌜ (p ≤ 6) × (n ≤ 4) ⌝ }
-    ensures { λ r. ⌜ r ≡ fold 0 n (λ r z. z || notAllFinite p p (matrixAt ps r) || notAllFiniteMarked p p (scaledDown p (matrixAt ps r) sigma2)) false ⌝ }
+    ensures { λ r. ⌜ r ≡ fold 0 n (λ r z. z || notAllFinite p p (matrixAt ps r) || notAllFiniteMarked p p (scaledDown marks p (matrixAt ps r) sigma2)) false ⌝ }
 {
     let mut found = false;
     for r in 0..n {
@@ -76,7 +77,7 @@ pub fn ps_not_finite(p: usize, n: usize, ps: [[[f64; 6]; 6]; 4], sigma2: f64) ->
 // Whether some cell of m times sigma2 is not finite.
 pub fn scaled_not_finite(p: usize, m: [[f64; 6]; 6], sigma2: f64) -> bool
     requires { ⌜ p ≤ 6 ⌝ }
-    ensures { λ r. ⌜ r ≡ notAllFiniteMarked p p (scaledUp p m sigma2) ⌝ }
+    ensures { λ r. ⌜ r ≡ notAllFiniteMarked p p (scaledUp marks p m sigma2) ⌝ }
 {
     let up = scaled_up(p, m, sigma2);
     not_all_finite_marked(p, p, up)

@@ -39,13 +39,13 @@ cells-by {t} {r} {c} {u} {v} {a} {a'} e p = subst (λ (z : ℤ). MovesCells t z 
 
 module _ {t : ℕ} where
   -- a count of all marks: what was seen before it bears as much, and so does every cell
-  pub allMarks-first : (r c : ℕ) (a : Matrix) (seen : Marked) → Bears t (allMarks r c a seen) → Bears t seen
+  pub allMarks-first : (r c : ℕ) (a : Matrix) (seen : Marked) → Bears t (allMarks marks r c a seen) → Bears t seen
   unfolding allMarks
   allMarks-first r c a seen h =
       let s : ℕ → ℕ → Marked → Marked = λ i j s. also s (at marks a i j) in
       first-bears 0 r (λ i x. fold 0 c (s i) x) seen (λ i b y. first-bears 0 c (s i) b (λ j x z. also-bears x (at marks a i j) z .0) y) h
 
-  pub allMarks-cells : (r c : ℕ) (a : Matrix) (seen : Marked) → Bears t (allMarks r c a seen) → BearsCells t r c a
+  pub allMarks-cells : (r c : ℕ) (a : Matrix) (seen : Marked) → Bears t (allMarks marks r c a seen) → BearsCells t r c a
   unfolding allMarks
   allMarks-cells r c a seen h =
       let s : ℕ → ℕ → Marked → Marked = λ i j s. also s (at marks a i j) in
@@ -59,18 +59,18 @@ module _ {t : ℕ} where
       }
 
   -- the same of the first N matrices of several
-  pub stack-first : (N r c : ℕ) (st : List Matrix) (seen : Marked) → Bears t (fold 0 N (λ i x. allMarks r c (getD st i []) x) seen) → Bears t seen
-  stack-first N r c st seen h = first-bears 0 N (λ i x. allMarks r c (getD st i []) x) seen (λ i b y. allMarks-first r c (getD st i []) b y) h
+  pub stack-first : (N r c : ℕ) (st : List Matrix) (seen : Marked) → Bears t (fold 0 N (λ i x. allMarks marks r c (getD st i []) x) seen) → Bears t seen
+  stack-first N r c st seen h = first-bears 0 N (λ i x. allMarks marks r c (getD st i []) x) seen (λ i b y. allMarks-first r c (getD st i []) b y) h
 
-  pub stack-cells : (N r c : ℕ) (st : List Matrix) (seen : Marked) → Bears t (fold 0 N (λ i x. allMarks r c (getD st i []) x) seen) → (i : ℕ) → i < N
+  pub stack-cells : (N r c : ℕ) (st : List Matrix) (seen : Marked) → Bears t (fold 0 N (λ i x. allMarks marks r c (getD st i []) x) seen) → (i : ℕ) → i < N
       → BearsCells t r c (getD st i [])
   stack-cells N r c st seen h i l =
-      let o : ℕ → Marked → Marked = λ i x. allMarks r c (getD st i []) x in
+      let o : ℕ → Marked → Marked = λ i x. allMarks marks r c (getD st i []) x in
       allMarks-cells r c (getD st i []) (fold 0 i o seen) (step-bears 0 N o seen (λ i b y. allMarks-first r c (getD st i []) b y) h i (omega arith) l)
 
   -- given cells move as the numbers do
   pub given-cells : (R C r c : ℕ) → r ≤ R → c ≤ C → (u : ℤ) (a a' : List (List Float)) → ((i j : ℕ) → i < r → j < c → Tied u (at floats a i j) (at floats a' i j))
-      → MovesCells t u r c (givenCells R C r c a) (givenCells R C r c a')
+      → MovesCells t u r c (givenCells marks R C r c a) (givenCells marks R C r c a')
   unfolding givenCells
   given-cells R C r c hr hc u a a' p =
       table-moves u R C r c (λ i j. given (at floats a i j)) (λ i j. given (at floats a' i j)) hr hc
@@ -89,7 +89,7 @@ module _ {t : ℕ} where
       (transpose marks R C q p l') (cells-by (+ℤ-idl u) a) b)
 
   -- the values of cells that do not move
-  pub values-agree : (R C r c : ℕ) (a a' : Matrix) → MovesCells t (pos 0) r c a a' → BearsCells t r c a → values R C r c a' ≡ values R C r c a
+  pub values-agree : (R C r c : ℕ) (a a' : Matrix) → MovesCells t (pos 0) r c a a' → BearsCells t r c a → values marks R C r c a' ≡ values marks R C r c a
   unfolding values
   values-agree R C r c a a' p b =
       table-ext plusZero R C r c (λ i j. at marks a' i j .value) (λ i j. at marks a i j .value)

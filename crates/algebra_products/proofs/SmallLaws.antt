@@ -16,7 +16,7 @@ unfolding sandwich
 sandwich-is N K C q p l m left turned out e f g = rw (← e, ← f) g
 
 -- counting marks changes no value
-pub allMarks-value : (r c : ℕ) (a : List (List Marked)) (seen : Marked) → allMarks r c a seen .value ≡ seen .value
+pub allMarks-value : (r c : ℕ) (a : List (List Marked)) (seen : Marked) → allMarks marks r c a seen .value ≡ seen .value
 unfolding allMarks
 allMarks-value r c a seen =
     fold-keeps (λ s. s .value ≡ seen .value) 0 r _ seen refl

@@ -251,7 +251,7 @@ marks-row c f s =
     let q = p (and-l (y .inside) (f k .inside) h) in
     (q .0, below-more _ _ (q .1) (and-r (y .inside) (f k .inside) h)))
 
-pub whole-is : (r c : ℕ) (m : List (List Marked)) (seen all : Marked) → all ≡ allMarks r c m seen → Whole (all .inside) r c m
+pub whole-is : (r c : ℕ) (m : List (List Marked)) (seen all : Marked) → all ≡ allMarks marks r c m seen → Whole (all .inside) r c m
 unfolding allMarks
 whole-is r c m seen all e =
     record {

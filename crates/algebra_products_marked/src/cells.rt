@@ -24,7 +24,7 @@ pub fn zeros() -> [[Marked; 6]; 6]
 // Every cell an input: no step led to it.
 pub fn given_cells(a: [[f64; 6]; 6], rows: usize, cols: usize) -> [[Marked; 6]; 6]
     requires { ⌜ (rows ≤ 6) × (cols ≤ 6) ⌝ }
-    ensures { λ r. ⌜ r ≡ givenCells 6 6 rows cols a ⌝ }
+    ensures { λ r. ⌜ r ≡ givenCells marks 6 6 rows cols a ⌝ }
 {
     let mut out = zeros();
     for i in 0..rows {
@@ -46,7 +46,7 @@ pub fn identity(n: usize) -> [[Marked; 6]; 6]
 // The values without their marks.
 pub fn values(a: [[Marked; 6]; 6], rows: usize, cols: usize) -> [[f64; 6]; 6]
     requires { ⌜ (rows ≤ 6) × (cols ≤ 6) ⌝ }
-    ensures { λ r. ⌜ r ≡ values 6 6 rows cols a ⌝ }
+    ensures { λ r. ⌜ r ≡ values marks 6 6 rows cols a ⌝ }
 {
     let mut out = algebra_products::zeros();
     for i in 0..rows {
@@ -61,7 +61,7 @@ pub fn values(a: [[Marked; 6]; 6], rows: usize, cols: usize) -> [[f64; 6]; 6]
 // `seen`, with the mark of every cell counted.
 pub fn all_marks(a: [[Marked; 6]; 6], rows: usize, cols: usize, seen: Marked) -> Marked
     requires { ⌜ (rows ≤ 6) × (cols ≤ 6) ⌝ }
-    ensures { λ r. ⌜ r ≡ allMarks rows cols a seen ⌝ }
+    ensures { λ r. ⌜ r ≡ allMarks marks rows cols a seen ⌝ }
 {
     let mut all = seen;
     for i in 0..rows {

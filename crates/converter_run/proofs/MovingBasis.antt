@@ -134,7 +134,7 @@ module _ (xs : List Float) where
 
 -- ---- the divided cells do not move
 module _ {t : ℕ} (p i : ℕ) (u : ℤ) (l l' : Rows) (e : (j : ℕ) → j < p → Tied u (at floats l i j) (at floats l' i j)) where
-  dividedCell-moves : (j : ℕ) → j < p → Moves t (pos 0) (dividedCell p l i j) (dividedCell p l' i j)
+  dividedCell-moves : (j : ℕ) → j < p → Moves t (pos 0) (dividedCell marks p l i j) (dividedCell marks p l' i j)
   unfolding dividedCell
   dividedCell-moves j h = rw (less-agrees u plusZero s plusZero s' (tied-nil u) es) (go (lt plusZero s) refl)
     where
@@ -160,7 +160,7 @@ module _ {t : ℕ} (p i : ℕ) (u : ℤ) (l l' : Rows) (e : (j : ℕ) → j < p 
           given-moves (pos 0) x x' (record { fine = e j h .fine; moved = e j h .moved ∙ k ∙ sym (scale-zero x) })
 
 -- what was divided can be scaled, and is an f64 number again
-pub divided-fits : {t : ℕ} (p i : ℕ) (u : ℤ) → natAbs u ≤ t → (l : Rows) → ((j : ℕ) → j < p → T (fits binary64 (at floats l i j))) → (j : ℕ) → j < p → Bears t (dividedCell p l i j)
+pub divided-fits : {t : ℕ} (p i : ℕ) (u : ℤ) → natAbs u ≤ t → (l : Rows) → ((j : ℕ) → j < p → T (fits binary64 (at floats l i j))) → (j : ℕ) → j < p → Bears t (dividedCell marks p l i j)
     → T (fits binary64 (scale u (at floats l i j)))
 unfolding dividedCell
 divided-fits {t} p i u n l f j h b = go (lt plusZero s) refl b
@@ -177,7 +177,7 @@ divided-fits {t} p i u n l f j h b = go (lt plusZero s) refl b
     go false e k = rw (zero-row (getD l i []) p f e j h u) (f j h)
 
 -- ---- the basis, from the divided rows
-unfoldable fromRows : ℕ → ℕ → Rows → Marked → Basis
+unfoldable fromRows : ℕ → ℕ → Rows → Marked → Basis Marked
 fromRows rows p v seen =
     let m : Rows = sweepsTo 30 rows p v in
     let ns : List Float = norms rows p m in
@@ -185,60 +185,60 @@ fromRows rows p v seen =
     cond (eqb rows 1) (record { rows = v; rank = 1; seen = seen }) (record { rows = basisRows rows p rank m ns; rank = rank; seen = seen })
 
 module _ (rows p : ℕ) where
-  from-rows : (l : Rows) → contrastBasis rows p l ≡ fromRows rows p (values 6 6 rows p (divided rows p l)) (allMarks rows p (divided rows p l) (given plusZero))
+  from-rows : (l : Rows) → contrastBasis marks rows p l ≡ fromRows rows p (values marks 6 6 rows p (divided marks rows p l)) (allMarks marks rows p (divided marks rows p l) (given plusZero))
   unfolding contrastBasis fromRows
   from-rows l = refl
 
   seen-is : (v : Rows) (seen : Marked) → fromRows rows p v seen .seen ≡ seen
   unfolding fromRows
-  seen-is v seen = cond-both (λ (b : Basis). b .seen ≡ seen) (eqb rows 1) _ _ refl refl
+  seen-is v seen = cond-both (λ (b : Basis Marked). b .seen ≡ seen) (eqb rows 1) _ _ refl refl
 
   same-rows : (v : Rows) (seen seen' : Marked) → fromRows rows p v seen' .rows ≡ fromRows rows p v seen .rows
   unfolding fromRows
-  same-rows v seen seen' = cond-two (λ (b b' : Basis). b' .rows ≡ b .rows) (eqb rows 1) _ _ _ _ refl refl
+  same-rows v seen seen' = cond-two (λ (b b' : Basis Marked). b' .rows ≡ b .rows) (eqb rows 1) _ _ _ _ refl refl
 
   same-rank : (v : Rows) (seen seen' : Marked) → fromRows rows p v seen' .rank ≡ fromRows rows p v seen .rank
   unfolding fromRows
-  same-rank v seen seen' = cond-two (λ (b b' : Basis). b' .rank ≡ b .rank) (eqb rows 1) _ _ _ _ refl refl
+  same-rank v seen seen' = cond-two (λ (b b' : Basis Marked). b' .rank ≡ b .rank) (eqb rows 1) _ _ _ _ refl refl
 
 -- the divisions of the contrast's rows count in the basis
-pub basis-seen : (rows p : ℕ) (l : Rows) → contrastBasis rows p l .seen ≡ allMarks rows p (divided rows p l) (given plusZero)
-basis-seen rows p l = ap (λ (b : Basis). b .seen) (from-rows rows p l) ∙ seen-is rows p (values 6 6 rows p (divided rows p l)) (allMarks rows p (divided rows p l) (given plusZero))
+pub basis-seen : (rows p : ℕ) (l : Rows) → contrastBasis marks rows p l .seen ≡ allMarks marks rows p (divided marks rows p l) (given plusZero)
+basis-seen rows p l = ap (λ (b : Basis Marked). b .seen) (from-rows rows p l) ∙ seen-is rows p (values marks 6 6 rows p (divided marks rows p l)) (allMarks marks rows p (divided marks rows p l) (given plusZero))
 
 -- what stays: the rows of the basis and its rank
-pub record SameBasis (b b' : Basis) : Type 0 where
+pub record SameBasis (b b' : Basis Marked) : Type 0 where
   pub rows : b' .rows ≡ b .rows
   pub rank : b' .rank ≡ b .rank
 
 module _ {t : ℕ} (rows p : ℕ) (hr : rows ≤ 6) (hp : p ≤ 6) (m : ℕ → ℤ) (l l' : Rows) (e : (i j : ℕ) → i < rows → j < p → Tied (m i) (at floats l i j) (at floats l' i j)) where
-  divided-moves : MovesCells t (pos 0) rows p (divided rows p l) (divided rows p l')
+  divided-moves : MovesCells t (pos 0) rows p (divided marks rows p l) (divided marks rows p l')
   unfolding divided
-  divided-moves = table-moves (pos 0) 6 6 rows p (dividedCell p l) (dividedCell p l') hr hp (λ i j h k. dividedCell-moves p i (m i) l l' (λ j o. e i j h o) j k)
+  divided-moves = table-moves (pos 0) 6 6 rows p (dividedCell marks p l) (dividedCell marks p l') hr hp (λ i j h k. dividedCell-moves p i (m i) l l' (λ j o. e i j h o) j k)
 
-  pub basis-agrees : Bears t (contrastBasis rows p l .seen) → SameBasis (contrastBasis rows p l) (contrastBasis rows p l')
+  pub basis-agrees : Bears t (contrastBasis marks rows p l .seen) → SameBasis (contrastBasis marks rows p l) (contrastBasis marks rows p l')
   basis-agrees b =
-      let d : List (List Marked) = divided rows p l in
-      let d' : List (List Marked) = divided rows p l' in
-      let seen : Marked = allMarks rows p d (given plusZero) in
-      let seen' : Marked = allMarks rows p d' (given plusZero) in
-      let v : values 6 6 rows p d' ≡ values 6 6 rows p d = values-agree 6 6 rows p d d' divided-moves (allMarks-cells rows p d (given plusZero) (rw (basis-seen rows p l) at b)) in
-      let f : contrastBasis rows p l' ≡ fromRows rows p (values 6 6 rows p d) seen' = from-rows rows p l' ∙ ap (λ (x : Rows). fromRows rows p x seen') v in
+      let d : List (List Marked) = divided marks rows p l in
+      let d' : List (List Marked) = divided marks rows p l' in
+      let seen : Marked = allMarks marks rows p d (given plusZero) in
+      let seen' : Marked = allMarks marks rows p d' (given plusZero) in
+      let v : values marks 6 6 rows p d' ≡ values marks 6 6 rows p d = values-agree 6 6 rows p d d' divided-moves (allMarks-cells rows p d (given plusZero) (rw (basis-seen rows p l) at b)) in
+      let f : contrastBasis marks rows p l' ≡ fromRows rows p (values marks 6 6 rows p d) seen' = from-rows rows p l' ∙ ap (λ (x : Rows). fromRows rows p x seen') v in
       record {
-        rows = ap (λ (b : Basis). b .rows) f ∙ same-rows rows p (values 6 6 rows p d) seen seen' ∙ ap (λ (b : Basis). b .rows) (sym (from-rows rows p l));
-        rank = ap (λ (b : Basis). b .rank) f ∙ same-rank rows p (values 6 6 rows p d) seen seen' ∙ ap (λ (b : Basis). b .rank) (sym (from-rows rows p l));
+        rows = ap (λ (b : Basis Marked). b .rows) f ∙ same-rows rows p (values marks 6 6 rows p d) seen seen' ∙ ap (λ (b : Basis Marked). b .rows) (sym (from-rows rows p l));
+        rank = ap (λ (b : Basis Marked). b .rank) f ∙ same-rank rows p (values marks 6 6 rows p d) seen seen' ∙ ap (λ (b : Basis Marked). b .rank) (sym (from-rows rows p l));
       }
 
 -- ---- the cells of a basis are f64 numbers
 module _ (rows p : ℕ) (hr : rows ≤ 6) (hp : p ≤ 6) (l : Rows) (w : WrittenCells rows p l) where
-  divided-written : (i j : ℕ) → i < rows → j < p → T (fits binary64 (dividedCell p l i j .value))
+  divided-written : (i j : ℕ) → i < rows → j < p → T (fits binary64 (dividedCell marks p l i j .value))
   unfolding dividedCell markedDiv
   divided-written i j h k =
       cond-both (λ (x : Marked). T (fits binary64 (x .value))) (lt plusZero (largest p (getD l i []))) _ _ (div-fits binary64 (at floats l i j) (largest p (getD l i []))) (w i j h k)
 
-  values-written : WrittenCells rows p (values 6 6 rows p (divided rows p l))
+  values-written : WrittenCells rows p (values marks 6 6 rows p (divided marks rows p l))
   unfolding values divided
   values-written i j h k =
-      rw (table-at plusZero 6 6 rows p (λ i j. at marks (divided rows p l) i j .value) i j nan h k hr hp, table-at (given plusZero) 6 6 rows p (dividedCell p l) i j (marks .void) h k hr hp)
+      rw (table-at plusZero 6 6 rows p (λ i j. at marks (divided marks rows p l) i j .value) i j nan h k hr hp, table-at (given plusZero) 6 6 rows p (dividedCell marks p l) i j (marks .void) h k hr hp)
       (divided-written i j h k)
 
   quotients-written : (rank : ℕ) → rank ≤ 6 → (m : Rows) (ns : List Float) → WrittenCells rank p (basisRows rows p rank m ns)
@@ -247,15 +247,15 @@ module _ (rows p : ℕ) (hr : rows ≤ 6) (hp : p ≤ 6) (l : Rows) (w : Written
       rw (table-at plusZero 6 6 rank p (λ k j. div binary64 (at floats m (indexAt rows ns k) j) (singular rows ns k)) i j nan h k q hp)
       (div-fits binary64 (at floats m (indexAt rows ns i) j) (singular rows ns i))
 
-  pub basis-written : 1 ≤ rows → 1 ≤ p → WrittenCells (contrastBasis rows p l .rank) p (contrastBasis rows p l .rows)
+  pub basis-written : 1 ≤ rows → 1 ≤ p → WrittenCells (contrastBasis marks rows p l .rank) p (contrastBasis marks rows p l .rows)
   unfolding contrastBasis
   basis-written r1 p1 = go (eqb rows 1) refl (le-trans (rank-most rows p l r1 p1) (le-trans (min-le-left rows p) hr))
     where
       v : Rows
-      v = values 6 6 rows p (divided rows p l)
+      v = values marks 6 6 rows p (divided marks rows p l)
 
       seen : Marked
-      seen = allMarks rows p (divided rows p l) (given plusZero)
+      seen = allMarks marks rows p (divided marks rows p l) (given plusZero)
 
       turned : Rows
       turned = sweepsTo 30 rows p v
@@ -266,7 +266,7 @@ module _ (rows p : ℕ) (hr : rows ≤ 6) (hp : p ≤ 6) (l : Rows) (w : Written
       rank : ℕ
       rank = rankOf rows p ns
 
-      basis : Bool → Basis
+      basis : Bool → Basis Marked
       basis b = cond b (record { rows = v; rank = 1; seen = seen }) (record { rows = basisRows rows p rank turned ns; rank = rank; seen = seen })
 
       go : (b : Bool) → eqb rows 1 ≡ b → basis b .rank ≤ 6 → WrittenCells (basis b .rank) p (basis b .rows)

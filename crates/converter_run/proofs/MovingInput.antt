@@ -37,15 +37,15 @@ zero-fits = tt
 
 -- ---- the numbers that a test starts from
 module _ {t : ℕ} (p : ℕ) (hp : p ≤ 6) (u : ℤ) (n : natAbs u ≤ t) where
-  sigma2-fits : 0 < p → (phi : Rows) (x : Float) → WrittenCells p p phi → T (fits binary64 x) → BearsCells t p p (scaledUp p phi x) → T (fits binary64 (scale u x))
+  sigma2-fits : 0 < p → (phi : Rows) (x : Float) → WrittenCells p p phi → T (fits binary64 x) → BearsCells t p p (scaledUp marks p phi x) → T (fits binary64 (scale u x))
   unfolding scaledUp timesNumber givenCells
   sigma2-fits h phi x w f b =
-      let m : List (List Marked) = givenCells 6 6 p p phi in
+      let m : List (List Marked) = givenCells marks 6 6 p p phi in
       let e : Bears t (markedMul (at marks m 0 0) (given x)) = table-bears 6 6 p p (λ i j. markedMul (at marks m i j) (given x)) hp hp 0 0 h h (b .cell 0 0 h h) in
       mul-operands u n (at marks m 0 0) (given x) e (rw (table-at (given plusZero) 6 6 p p (λ i j. given (at floats phi i j)) 0 0 (marks .void) h h hp hp) (w 0 0 h h)) f .1
 
   module _ (beta betaH : List Float) (f : (i : ℕ) → i < p → T (fits binary64 (getD beta i nan))) (g : (i : ℕ) → i < p → T (fits binary64 (getD betaH i nan)))
-      (b : BearsCells t p 1 (difference p beta betaH)) where
+      (b : BearsCells t p 1 (difference marks p beta betaH)) where
     difference-fits : (i : ℕ) → i < p → T (fits binary64 (scale u (getD beta i nan))) × T (fits binary64 (scale u (getD betaH i nan)))
     unfolding difference
     difference-fits i h =
@@ -53,21 +53,21 @@ module _ {t : ℕ} (p : ℕ) (hp : p ≤ 6) (u : ℤ) (n : natAbs u ≤ t) where
         table-bears 6 6 p 1 (λ i j. markedSub (given (getD beta i nan)) (given (getD betaH i nan))) hp (lit≤ tt) i 0 h (lit≤ tt) (b .cell i 0 h (lit≤ tt)) in
         sub-operands u n (given (getD beta i nan)) (given (getD betaH i nan)) e (f i h) (g i h)
 
-contrast-fits : {t : ℕ} (rows p : ℕ) → rows ≤ 6 → p ≤ 6 → (l : Rows) → WrittenCells rows p l → Bears t (contrastBasis rows p l .seen) → (u : ℤ) → natAbs u ≤ t
+contrast-fits : {t : ℕ} (rows p : ℕ) → rows ≤ 6 → p ≤ 6 → (l : Rows) → WrittenCells rows p l → Bears t (contrastBasis marks rows p l .seen) → (u : ℤ) → natAbs u ≤ t
     → (i j : ℕ) → i < rows → j < p → T (fits binary64 (scale u (at floats l i j)))
 unfolding divided
 contrast-fits {t} rows p hr hp l w b u n i j h o =
-    let c : BearsCells t rows p (divided rows p l) = allMarks-cells rows p (divided rows p l) (given plusZero) (rw (basis-seen rows p l) at b) in
-    divided-fits p i u n l (λ j q. w i j h q) j o (table-bears 6 6 rows p (dividedCell p l) hr hp i j h o (c .cell i j h o))
+    let c : BearsCells t rows p (divided marks rows p l) = allMarks-cells rows p (divided marks rows p l) (given plusZero) (rw (basis-seen rows p l) at b) in
+    divided-fits p i u n l (λ j q. w i j h q) j o (table-bears 6 6 rows p (dividedCell marks p l) hr hp i j h o (c .cell i j h o))
 
 -- ---- the input of a run that is inside, k and every m from -32 to 32
 module _ (c : Cutoffs) (p N rows : ℕ) (k : ℤ) (m : ℕ → ℤ) (phi : Rows) (a : Adjustment) (x : Input) (sizes : RunSizes p N rows) (near : natAbs k ≤ 32)
     (nears : (i : ℕ) → i < rows → natAbs (m i) ≤ 32) (w : WrittenCells p p phi) (written : Written p rows x) (inside : Inside p rows (runOn c p N rows phi a x)) where
-  abbrev s : Scaled
-  s = scaledBy p N phi (x .sigma2) a
+  abbrev s : Scaled Marked
+  s = scaledBy marks p N phi (x .sigma2) a
 
-  abbrev unit : Basis
-  unit = contrastBasis 1 p (unitRow p 0)
+  abbrev unit : Basis Marked
+  unit = contrastBasis marks 1 p (unitRow p 0)
 
   first-test : TestBears 64 c s (x .beta) (replicate 6 plusZero) unit
   unfolding coefficientTest scaledBy
@@ -75,11 +75,11 @@ module _ (c : Cutoffs) (p N rows : ℕ) (k : ℤ) (m : ℕ → ℤ) (phi : Rows)
       test-bears c s (x .beta) (replicate 6 plusZero) unit
       (inside-seen c s (x .beta) (replicate 6 plusZero) unit (lit≤ tt) (coefficient-inside c p N rows phi a x (sizes .coefficients) inside 0 (sizes .some)))
 
-  contrast-test : 0 < rows → TestBears 64 c s (x .beta) (x .betaH) (contrastBasis rows p (x .contrast))
+  contrast-test : 0 < rows → TestBears 64 c s (x .beta) (x .betaH) (contrastBasis marks rows p (x .contrast))
   unfolding contrastTest scaledBy
   contrast-test r =
-      test-bears c s (x .beta) (x .betaH) (contrastBasis rows p (x .contrast))
-      (inside-seen c s (x .beta) (x .betaH) (contrastBasis rows p (x .contrast)) (lit≤ tt)
+      test-bears c s (x .beta) (x .betaH) (contrastBasis marks rows p (x .contrast))
+      (inside-seen c s (x .beta) (x .betaH) (contrastBasis marks rows p (x .contrast)) (lit≤ tt)
       (contrast-inside c p N rows phi a x (sizes .coefficients) inside (ne-eqb rows 0 (λ e. omega arith))))
 
   near2 : natAbs (k +ℤ k) ≤ 64

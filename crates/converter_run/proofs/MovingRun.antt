@@ -19,7 +19,7 @@ use Rattle.arithmetic.proofs.Tied.{Tied}
 use Rattle.arithmetic.proofs.PlainLaws.{of-eq}
 use Rattle.arithmetic.proofs.MarkLaws.{Bears, inside-bears}
 use Rattle.algebra.specs.Table.{blank}
-use Rattle.algebra.specs.Kind.{floats}
+use Rattle.algebra.specs.Kind.{floats, marks}
 use Rattle.algebra.specs.Product.{at}
 use Rattle.algebra.proofs.FoldLaws.{fold-both, fold-steps, span-at}
 use Rattle.algebra.proofs.TableLaws.{table-at}
@@ -40,22 +40,22 @@ use Rattle.converter_run.proofs.MovingBasis.{SameBasis, basis-agrees, b
 use Rattle.converter_run.proofs.MovingTest.{ScalingBears, test-bears, SameTested, test-survives}
 
 -- ---- the Ps
-ps-at : (p N : ℕ) (ps : List Rows) (x : Float) → N ≤ 4 → (r : ℕ) → r < N → getD (scaledPs p N ps x) r [] ≡ scaledDown p (getD ps r []) x
+ps-at : (p N : ℕ) (ps : List Rows) (x : Float) → N ≤ 4 → (r : ℕ) → r < N → getD (scaledPs marks p N ps x) r [] ≡ scaledDown marks p (getD ps r []) x
 unfolding scaledPs
 ps-at p N ps x hN r h =
-    span-at 0 N (λ r. scaledDown p (getD ps r []) x) (replicate 4 (blank (given plusZero) 6 6)) r [] (omega arith) h
+    span-at 0 N (λ r. scaledDown marks p (getD ps r []) x) (replicate 4 (blank (given plusZero) 6 6)) r [] (omega arith) h
     (omega (arith, length-replicate 4 (blank (given plusZero) 6 6), hN))
 
 -- ---- a test's mark
-pub inside-seen : {t : ℕ} (c : Cutoffs) (s : Scaled) (beta betaH : List Float) (b : Basis) → t ≤ 221 → tested c s beta betaH b .entry .inside ≡ true → Bears t (testSeen c s beta betaH b)
+pub inside-seen : {t : ℕ} (c : Cutoffs) (s : Scaled Marked) (beta betaH : List Float) (b : Basis Marked) → t ≤ 221 → tested marks c s beta betaH b .entry .inside ≡ true → Bears t (testSeen marks c s beta betaH b)
 unfolding tested
-inside-seen c s beta betaH b h e = inside-bears (testSeen c s beta betaH b) h (of-eq e)
+inside-seen c s beta betaH b h e = inside-bears (testSeen marks c s beta betaH b) h (of-eq e)
 
 -- a basis from its parts; one with the same rows and rank, and its own mark
-abbrev basisFrom : Rows → ℕ → Marked → Basis
+abbrev basisFrom : Rows → ℕ → Marked → Basis Marked
 basisFrom rows rank seen = record { rows = rows; rank = rank; seen = seen }
 
-basis-is : (b b' : Basis) → SameBasis b b' → basisFrom (b .rows) (b .rank) (b' .seen) ≡ b'
+basis-is : (b b' : Basis Marked) → SameBasis b b' → basisFrom (b .rows) (b .rank) (b' .seen) ≡ b'
 basis-is b b' e = ap (λ (x : Rows). basisFrom x (b .rank) (b' .seen)) (sym (e .rows)) ∙ ap (λ (x : ℕ). basisFrom (b' .rows) x (b' .seen)) (sym (e .rank))
 
 -- a row of the unit matrix
@@ -70,97 +70,97 @@ unit-tied p i hp r j h l =
 module _ {t : ℕ} (c : Cutoffs) (p N : ℕ) (p1 : 1 ≤ p) (hp : p ≤ 6) (hN : N ≤ 4) (k : ℤ) (small : t ≤ 221) (n2 : natAbs (k +ℤ k) ≤ t) (phi : Rows) (a : Adjustment)
     (units : WrittenUnits p N phi a) (sigma2 sigma2' : Float) (es : Tied (k +ℤ k) sigma2 sigma2') (beta beta' : List Float)
     (eb : (i : ℕ) → i < p → Tied k (getD beta i nan) (getD beta' i nan)) where
-  abbrev s : Scaled
-  s = scaledBy p N phi sigma2 a
+  abbrev s : Scaled Marked
+  s = scaledBy marks p N phi sigma2 a
 
-  abbrev s' : Scaled
-  s' = scaledBy p N phi sigma2' a
+  abbrev s' : Scaled Marked
+  s' = scaledBy marks p N phi sigma2' a
 
-  ps-moves : (r : ℕ) → r < N → MovesCells t (negℤ (k +ℤ k)) p p (getD (scaledPs p N (a .ps) sigma2) r []) (getD (scaledPs p N (a .ps) sigma2') r [])
+  ps-moves : (r : ℕ) → r < N → MovesCells t (negℤ (k +ℤ k)) p p (getD (scaledPs marks p N (a .ps) sigma2) r []) (getD (scaledPs marks p N (a .ps) sigma2') r [])
   ps-moves r h =
       rw (ps-at p N (a .ps) sigma2 hN r h, ps-at p N (a .ps) sigma2' hN r h) (scaledDown-moves p hp (k +ℤ k) n2 sigma2 sigma2' es (matrixAt (a .ps) r) (units .ps r h))
 
   module _ (betaH betaH' : List Float) (eh : (i : ℕ) → i < p → Tied k (getD betaH i nan) (getD betaH' i nan)) where
-    basis-test : (rows : Rows) (q : ℕ) (seen seen' : Marked) → q ≤ 6 → WrittenCells q p rows → Bears t (testSeen c s beta betaH (basisFrom rows q seen))
-        → SameTested (tested c s beta betaH (basisFrom rows q seen)) (tested c s' beta' betaH' (basisFrom rows q seen'))
+    basis-test : (rows : Rows) (q : ℕ) (seen seen' : Marked) → q ≤ 6 → WrittenCells q p rows → Bears t (testSeen marks c s beta betaH (basisFrom rows q seen))
+        → SameTested (tested marks c s beta betaH (basisFrom rows q seen)) (tested marks c s' beta' betaH' (basisFrom rows q seen'))
     unfolding scaledBy
     basis-test rows q seen seen' hq w h =
-        test-survives c p N q hp p1 hN hq k n2 (scaledUp p phi sigma2) (scaledUp p (a .phiA) sigma2) (scaledUp p phi sigma2') (scaledUp p (a .phiA) sigma2')
-        (scaledPs p N (a .ps) sigma2) (scaledPs p N (a .ps) sigma2') (a .w) beta betaH beta' betaH' rows seen seen'
+        test-survives c p N q hp p1 hN hq k n2 (scaledUp marks p phi sigma2) (scaledUp marks p (a .phiA) sigma2) (scaledUp marks p phi sigma2') (scaledUp marks p (a .phiA) sigma2')
+        (scaledPs marks p N (a .ps) sigma2) (scaledPs marks p N (a .ps) sigma2') (a .w) beta betaH beta' betaH' rows seen seen'
         (scaledUp-moves p hp (k +ℤ k) n2 sigma2 sigma2' es phi (units .phi)) (scaledUp-moves p hp (k +ℤ k) n2 sigma2 sigma2' es (a .phiA) (units .phiA)) ps-moves eb eh w h
 
     pub contrast-survives : (rows : ℕ) → 1 ≤ rows → rows ≤ 6 → (m : ℕ → ℤ) (l l' : Rows)
-        → ((i j : ℕ) → i < rows → j < p → Tied (m i) (at floats l i j) (at floats l' i j)) → contrastTest c s beta betaH rows l .entry .inside ≡ true
-        → SameTested (contrastTest c s beta betaH rows l) (contrastTest c s' beta' betaH' rows l')
+        → ((i j : ℕ) → i < rows → j < p → Tied (m i) (at floats l i j) (at floats l' i j)) → contrastTest marks c s beta betaH rows l .entry .inside ≡ true
+        → SameTested (contrastTest marks c s beta betaH rows l) (contrastTest marks c s' beta' betaH' rows l')
     unfolding contrastTest scaledBy
     contrast-survives rows r1 hr m l l' el e =
-        let b : Basis = contrastBasis rows p l in
-        let b' : Basis = contrastBasis rows p l' in
-        let seen : Bears t (testSeen c s beta betaH b) = inside-seen c s beta betaH b small e in
+        let b : Basis Marked = contrastBasis marks rows p l in
+        let b' : Basis Marked = contrastBasis marks rows p l' in
+        let seen : Bears t (testSeen marks c s beta betaH b) = inside-seen c s beta betaH b small e in
         let same : SameBasis b b' = basis-agrees rows p hr hp m l l' el (test-bears c s beta betaH b seen .scaling .before) in
         let hq : b .rank ≤ 6 = le-trans (rank-most rows p l r1 p1) (le-trans (min-le-left rows p) hr) in
-        subst (λ (x : Basis). SameTested (tested c s beta betaH b) (tested c s' beta' betaH' x)) (basis-is b b' same)
+        subst (λ (x : Basis Marked). SameTested (tested marks c s beta betaH b) (tested marks c s' beta' betaH' x)) (basis-is b b' same)
         (basis-test (b .rows) (b .rank) (b .seen) (b' .seen) hq (basis-written rows p hr hp l (λ i j h o. el i j h o .fine) r1 p1) seen)
 
-  pub coefficient-survives : (i : ℕ) → coefficientTest c s beta i .entry .inside ≡ true → SameTested (coefficientTest c s beta i) (coefficientTest c s' beta' i)
+  pub coefficient-survives : (i : ℕ) → coefficientTest marks c s beta i .entry .inside ≡ true → SameTested (coefficientTest marks c s beta i) (coefficientTest marks c s' beta' i)
   unfolding coefficientTest contrastTest scaledBy
   coefficient-survives i e =
       contrast-survives (replicate 6 plusZero) (replicate 6 plusZero) (λ j h. rw (getD-replicate 6 j plusZero nan (omega arith)) (tied-nil k)) 1 (omega arith) (omega arith) (λ r. pos 0)
       (unitRow p i) (unitRow p i) (unit-tied p i hp) e
 
   -- the late refusal 4, where one coefficient's test is marked inside
-  pub output-survives : (i : ℕ) → coefficientTest c s beta i .entry .inside ≡ true → outputNotFinite p N phi sigma2' a ≡ outputNotFinite p N phi sigma2 a
+  pub output-survives : (i : ℕ) → coefficientTest marks c s beta i .entry .inside ≡ true → outputNotFinite p N phi sigma2' a ≡ outputNotFinite p N phi sigma2 a
   unfolding coefficientTest scaledBy
   output-survives i e =
       let betaH : List Float = replicate 6 plusZero in
-      let b : Basis = contrastBasis 1 p (unitRow p i) in
+      let b : Basis Marked = contrastBasis marks 1 p (unitRow p i) in
       let seen : ScalingBears t s (b .seen) = test-bears c s beta betaH b (inside-seen c s beta betaH b small e) .scaling in
       output-agrees p hp (k +ℤ k) n2 sigma2 sigma2' es N phi a (units .phi) (units .phiA) (units .ps) (seen .phi) (seen .phiA) (λ r h. rw (ps-at p N (a .ps) sigma2 hN r h) at (seen .ps r h))
 
 -- ---- the entries of a run
 -- the first k entries are those of the coefficients
-record Filled (c : Cutoffs) (s : Scaled) (beta : List Float) (k : ℕ) (r : Run) : Type 0 where
+record Filled (c : Cutoffs) (s : Scaled Marked) (beta : List Float) (k : ℕ) (r : Run) : Type 0 where
   pub size : length (r .entries) ≡ 7
-  pub entry : (i : ℕ) → i < k → getD (r .entries) i noEntry ≡ coefficientTest c s beta i .entry
+  pub entry : (i : ℕ) → i < k → getD (r .entries) i noEntry ≡ coefficientTest marks c s beta i .entry
 
-module _ (c : Cutoffs) (s : Scaled) (beta : List Float) where
-  filled : (k : ℕ) → k ≤ 7 → Filled c s beta k (coefficientsTo k c s beta)
+module _ (c : Cutoffs) (s : Scaled Marked) (beta : List Float) where
+  filled : (k : ℕ) → k ≤ 7 → Filled c s beta k (coefficientsTo marks k c s beta)
   unfolding coefficientsTo withTest
   filled k h =
-      fold-steps (λ k r. Filled c s beta k r) 0 k (λ i r. withTest i (coefficientTest c s beta i) r) (record { refused = false; entries = replicate 7 noEntry }) (omega arith)
+      fold-steps (λ k r. Filled c s beta k r) 0 k (λ i r. withTest i (coefficientTest marks c s beta i) r) (record { refused = false; entries = replicate 7 noEntry }) (omega arith)
       (record { size = length-replicate 7 noEntry; entry = λ i l. absurd (omega arith) })
       (λ j l o r q. record {
-        size = length-set (r .entries) j (coefficientTest c s beta j .entry) ∙ q .size;
+        size = length-set (r .entries) j (coefficientTest marks c s beta j .entry) ∙ q .size;
         entry = λ i l. one-more j r q i l (omega arith) (decLt i j);
       })
     where
       one-more : (j : ℕ) (r : Run) → Filled c s beta j r → (i : ℕ) → i < j + 1 → j < 7 → Dec (i < j)
-          → getD (set (r .entries) j (coefficientTest c s beta j .entry)) i noEntry ≡ coefficientTest c s beta i .entry
-      one-more j r q i l o (yes h) = getD-set-other (r .entries) j i (coefficientTest c s beta j .entry) noEntry (λ e. omega arith) ∙ q .entry i h
+          → getD (set (r .entries) j (coefficientTest marks c s beta j .entry)) i noEntry ≡ coefficientTest marks c s beta i .entry
+      one-more j r q i l o (yes h) = getD-set-other (r .entries) j i (coefficientTest marks c s beta j .entry) noEntry (λ e. omega arith) ∙ q .entry i h
       one-more j r q i l o (no h) =
           let e : i ≡ j = omega arith in
-          rw e (getD-set-same (r .entries) j (coefficientTest c s beta j .entry) noEntry (omega (arith, q .size)))
+          rw e (getD-set-same (r .entries) j (coefficientTest marks c s beta j .entry) noEntry (omega (arith, q .size)))
 
   module _ (betaH : List Float) (rows : ℕ) (l : Rows) (hp : s .p ≤ 6) where
-    pub run-coefficient : (i : ℕ) → i < s .p → getD (runOf c s beta betaH rows l .entries) i noEntry ≡ coefficientTest c s beta i .entry
+    pub run-coefficient : (i : ℕ) → i < s .p → getD (runOf marks c s beta betaH rows l .entries) i noEntry ≡ coefficientTest marks c s beta i .entry
     unfolding runOf withTest
     run-coefficient i h = go (eqb rows 0)
       where
         r : Run
-        r = coefficientsTo (s .p) c s beta
+        r = coefficientsTo marks (s .p) c s beta
 
         e : Entry
-        e = contrastTest c s beta betaH rows l .entry
+        e = contrastTest marks c s beta betaH rows l .entry
 
-        go : (b : Bool) → getD (cond b r (withTest 6 (contrastTest c s beta betaH rows l) r) .entries) i noEntry ≡ coefficientTest c s beta i .entry
+        go : (b : Bool) → getD (cond b r (withTest 6 (contrastTest marks c s beta betaH rows l) r) .entries) i noEntry ≡ coefficientTest marks c s beta i .entry
         go true = filled (s .p) (omega arith) .entry i h
         go false = getD-set-other (r .entries) 6 i e noEntry (λ q. omega arith) ∙ filled (s .p) (omega arith) .entry i h
 
-    pub run-contrast : eqb rows 0 ≡ false → getD (runOf c s beta betaH rows l .entries) 6 noEntry ≡ contrastTest c s beta betaH rows l .entry
+    pub run-contrast : eqb rows 0 ≡ false → getD (runOf marks c s beta betaH rows l .entries) 6 noEntry ≡ contrastTest marks c s beta betaH rows l .entry
     unfolding runOf withTest
     run-contrast h =
-        let r : Run = coefficientsTo (s .p) c s beta in
-        rw h (getD-set-same (r .entries) 6 (contrastTest c s beta betaH rows l .entry) noEntry (omega (arith, filled (s .p) (omega arith) .size)))
+        let r : Run = coefficientsTo marks (s .p) c s beta in
+        rw h (getD-set-same (r .entries) 6 (contrastTest marks c s beta betaH rows l .entry) noEntry (omega (arith, filled (s .p) (omega arith) .size)))
 
 -- ---- two runs
 map-set : {A B : Type 0} (f : A → B) (l : List A) (i : ℕ) (a : A) → map f (set l i a) ≡ set (map f l) i (f a)
@@ -189,15 +189,15 @@ double-small (negsuc a) h = omega arith
 
 -- a run that is inside: each of its tests is
 module _ (c : Cutoffs) (p N rows : ℕ) (phi : Rows) (a : Adjustment) (x : Input) (hp : p ≤ 6) (inside : Inside p rows (runOn c p N rows phi a x)) where
-  pub coefficient-inside : (i : ℕ) → i < p → coefficientTest c (scaledBy p N phi (x .sigma2) a) (x .beta) i .entry .inside ≡ true
+  pub coefficient-inside : (i : ℕ) → i < p → coefficientTest marks c (scaledBy marks p N phi (x .sigma2) a) (x .beta) i .entry .inside ≡ true
   unfolding scaledBy
   coefficient-inside i h =
-      ap (λ (e : Entry). e .inside) (sym (run-coefficient c (scaledBy p N phi (x .sigma2) a) (x .beta) (x .betaH) rows (x .contrast) hp i h)) ∙ inside .coefficient i h
+      ap (λ (e : Entry). e .inside) (sym (run-coefficient c (scaledBy marks p N phi (x .sigma2) a) (x .beta) (x .betaH) rows (x .contrast) hp i h)) ∙ inside .coefficient i h
 
-  pub contrast-inside : eqb rows 0 ≡ false → contrastTest c (scaledBy p N phi (x .sigma2) a) (x .beta) (x .betaH) rows (x .contrast) .entry .inside ≡ true
+  pub contrast-inside : eqb rows 0 ≡ false → contrastTest marks c (scaledBy marks p N phi (x .sigma2) a) (x .beta) (x .betaH) rows (x .contrast) .entry .inside ≡ true
   unfolding scaledBy
   contrast-inside h =
-      ap (λ (e : Entry). e .inside) (sym (run-contrast c (scaledBy p N phi (x .sigma2) a) (x .beta) (x .betaH) rows (x .contrast) hp h))
+      ap (λ (e : Entry). e .inside) (sym (run-contrast c (scaledBy marks p N phi (x .sigma2) a) (x .beta) (x .betaH) rows (x .contrast) hp h))
       ∙ inside .contrast (some rows (eqb-false rows 0 h))
 
 module _ (c : Cutoffs) (p N rows : ℕ) (k : ℤ) (m : ℕ → ℤ) (phi : Rows) (a : Adjustment) (x x' : Input) (sizes : RunSizes p N rows) (near : natAbs k ≤ 32)
@@ -214,18 +214,18 @@ module _ (c : Cutoffs) (p N rows : ℕ) (k : ℤ) (m : ℕ → ℤ) (phi : Rows)
   contrast-tied : (i j : ℕ) → i < rows → j < p → Tied (m i) (at floats (x .contrast) i j) (at floats (x' .contrast) i j)
   contrast-tied i j h l = record { fine = written .contrast i j h l; moved = converted .contrast i j h l }
 
-  abbrev before : Scaled
-  before = scaledBy p N phi (x .sigma2) a
+  abbrev before : Scaled Marked
+  before = scaledBy marks p N phi (x .sigma2) a
 
-  abbrev after : Scaled
-  after = scaledBy p N phi (x' .sigma2) a
+  abbrev after : Scaled Marked
+  after = scaledBy marks p N phi (x' .sigma2) a
 
-  coefficients-survive : RunSurvives (coefficientsTo p c before (x .beta)) (coefficientsTo p c after (x' .beta))
+  coefficients-survive : RunSurvives (coefficientsTo marks p c before (x .beta)) (coefficientsTo marks p c after (x' .beta))
   unfolding coefficientsTo
   coefficients-survive =
-      fold-both (λ r r'. RunSurvives r r') 0 p (λ i r. withTest i (coefficientTest c before (x .beta) i) r) (λ i r. withTest i (coefficientTest c after (x' .beta) i) r)
+      fold-both (λ r r'. RunSurvives r r') 0 p (λ i r. withTest i (coefficientTest marks c before (x .beta) i) r) (λ i r. withTest i (coefficientTest marks c after (x' .beta) i) r)
       (record { refused = false; entries = replicate 7 noEntry }) (record { refused = false; entries = replicate 7 noEntry }) (record { refusal = refl; same = refl })
-      (λ i h l r r' q. with-survives i (coefficientTest c before (x .beta) i) (coefficientTest c after (x' .beta) i) r r'
+      (λ i h l r r' q. with-survives i (coefficientTest marks c before (x .beta) i) (coefficientTest marks c after (x' .beta) i) r r'
       (coefficient-survives c p N (sizes .some) (sizes .coefficients) (sizes .matrices) k (lit≤ tt) (double-small k near) phi a units (x .sigma2) (x' .sigma2) sigma2-tied
       (x .beta) (x' .beta) beta-tied i (coefficient-inside c p N rows phi a x (sizes .coefficients) inside i l)) q)
 
@@ -236,16 +236,16 @@ module _ (c : Cutoffs) (p N rows : ℕ) (k : ℤ) (m : ℕ → ℤ) (phi : Rows)
   run-survives = go (eqb rows 0) refl
     where
       t : Tested
-      t = contrastTest c before (x .beta) (x .betaH) rows (x .contrast)
+      t = contrastTest marks c before (x .beta) (x .betaH) rows (x .contrast)
 
       t' : Tested
-      t' = contrastTest c after (x' .beta) (x' .betaH) rows (x' .contrast)
+      t' = contrastTest marks c after (x' .beta) (x' .betaH) rows (x' .contrast)
 
       r : Run
-      r = coefficientsTo p c before (x .beta)
+      r = coefficientsTo marks p c before (x .beta)
 
       r' : Run
-      r' = coefficientsTo p c after (x' .beta)
+      r' = coefficientsTo marks p c after (x' .beta)
 
       go : (b : Bool) → eqb rows 0 ≡ b → RunSurvives (cond b r (withTest 6 t r)) (cond b r' (withTest 6 t' r'))
       go true e = coefficients-survive

@@ -44,35 +44,35 @@ module _ {t : ℕ} where
       (λ j o l y. ap (λ (e : Bool). y || not e) (finite-agrees u (at marks a i j .value) (at marks a' i j .value) (p .cell i j k l (b .cell i j k l)))))
 
   module _ (p : ℕ) (hp : p ≤ 6) (u : ℤ) (n : natAbs u ≤ t) (x x' : Float) (e : Tied u x x') where
-    still-cells : (m : Rows) → WrittenCells p p m → MovesCells t (pos 0) p p (givenCells 6 6 p p m) (givenCells 6 6 p p m)
+    still-cells : (m : Rows) → WrittenCells p p m → MovesCells t (pos 0) p p (givenCells marks 6 6 p p m) (givenCells marks 6 6 p p m)
     still-cells m w = given-cells 6 6 p p hp hp (pos 0) m m (λ i j h l. tied-still (at floats m i j) (w i j h l))
 
-    pub scaledUp-moves : (m : Rows) → WrittenCells p p m → MovesCells t u p p (scaledUp p m x) (scaledUp p m x')
+    pub scaledUp-moves : (m : Rows) → WrittenCells p p m → MovesCells t u p p (scaledUp marks p m x) (scaledUp marks p m x')
     unfolding scaledUp
     scaledUp-moves m w =
         cells-by (+ℤ-idl u)
-        (timesNumber-moves 6 6 p p hp hp (pos 0) u (rw +ℤ-idl n) (givenCells 6 6 p p m) (givenCells 6 6 p p m) (given x) (given x') (still-cells m w) (given-moves u x x' e))
+        (timesNumber-moves 6 6 p p hp hp (pos 0) u (rw +ℤ-idl n) (givenCells marks 6 6 p p m) (givenCells marks 6 6 p p m) (given x) (given x') (still-cells m w) (given-moves u x x' e))
 
-    pub scaledDown-moves : (m : Rows) → WrittenCells p p m → MovesCells t (negℤ u) p p (scaledDown p m x) (scaledDown p m x')
+    pub scaledDown-moves : (m : Rows) → WrittenCells p p m → MovesCells t (negℤ u) p p (scaledDown marks p m x) (scaledDown marks p m x')
     unfolding scaledDown
     scaledDown-moves m w =
         cells-by (+ℤ-idl (negℤ u))
-        (overNumber-moves 6 6 p p hp hp (pos 0) u (rw (+ℤ-idl, abs-neg) n) (givenCells 6 6 p p m) (givenCells 6 6 p p m) (given x) (given x') (still-cells m w)
+        (overNumber-moves 6 6 p p hp hp (pos 0) u (rw (+ℤ-idl, abs-neg) n) (givenCells marks 6 6 p p m) (givenCells marks 6 6 p p m) (given x) (given x') (still-cells m w)
         (given-moves u x x' e))
 
     -- the late refusal 4 looks at all that is scaled: where it bears the shift, the answer is what it was
     pub output-agrees : (N : ℕ) (phi : Rows) (a : Adjustment) → WrittenCells p p phi → WrittenCells p p (a .phiA) → ((r : ℕ) → r < N → WrittenCells p p (matrixAt (a .ps) r))
-        → BearsCells t p p (scaledUp p phi x) → BearsCells t p p (scaledUp p (a .phiA) x) → ((r : ℕ) → r < N → BearsCells t p p (scaledDown p (matrixAt (a .ps) r) x))
+        → BearsCells t p p (scaledUp marks p phi x) → BearsCells t p p (scaledUp marks p (a .phiA) x) → ((r : ℕ) → r < N → BearsCells t p p (scaledDown marks p (matrixAt (a .ps) r) x))
         → outputNotFinite p N phi x' a ≡ outputNotFinite p N phi x a
     unfolding outputNotFinite
     output-agrees N phi a w wA wP b bA bP =
         rw (
-          finite-cells p p u (scaledUp p phi x) (scaledUp p phi x') (scaledUp-moves phi w) b,
-          finite-cells p p u (scaledUp p (a .phiA) x) (scaledUp p (a .phiA) x') (scaledUp-moves (a .phiA) wA) bA,
+          finite-cells p p u (scaledUp marks p phi x) (scaledUp marks p phi x') (scaledUp-moves phi w) b,
+          finite-cells p p u (scaledUp marks p (a .phiA) x) (scaledUp marks p (a .phiA) x') (scaledUp-moves (a .phiA) wA) bA,
         )
         (ap
-        (λ (y : Bool). notAllFinite p p (a .phiA) || notAllFinite N N (a .w) || notAllFiniteMarked p p (scaledUp p phi x) || notAllFiniteMarked p p (scaledUp p (a .phiA) x) || y)
-        (fold-ext 0 N (λ r z. z || notAllFinite p p (matrixAt (a .ps) r) || notAllFiniteMarked p p (scaledDown p (matrixAt (a .ps) r) x'))
-        (λ r z. z || notAllFinite p p (matrixAt (a .ps) r) || notAllFiniteMarked p p (scaledDown p (matrixAt (a .ps) r) x)) false
+        (λ (y : Bool). notAllFinite p p (a .phiA) || notAllFinite N N (a .w) || notAllFiniteMarked p p (scaledUp marks p phi x) || notAllFiniteMarked p p (scaledUp marks p (a .phiA) x) || y)
+        (fold-ext 0 N (λ r z. z || notAllFinite p p (matrixAt (a .ps) r) || notAllFiniteMarked p p (scaledDown marks p (matrixAt (a .ps) r) x'))
+        (λ r z. z || notAllFinite p p (matrixAt (a .ps) r) || notAllFiniteMarked p p (scaledDown marks p (matrixAt (a .ps) r) x)) false
         (λ r h k z. ap (λ (y : Bool). z || notAllFinite p p (matrixAt (a .ps) r) || y)
-        (finite-cells p p (negℤ u) (scaledDown p (matrixAt (a .ps) r) x) (scaledDown p (matrixAt (a .ps) r) x') (scaledDown-moves (matrixAt (a .ps) r) (wP r k)) (bP r k)))))
+        (finite-cells p p (negℤ u) (scaledDown marks p (matrixAt (a .ps) r) x) (scaledDown marks p (matrixAt (a .ps) r) x') (scaledDown-moves (matrixAt (a .ps) r) (wP r k)) (bP r k)))))

@@ -48,32 +48,32 @@ module _ {t : ℕ} where
       sum-bears n (λ k. markedMul (at marks a i k) (at marks b k j)) (table-bears 6 6 r c (cell marks n a b) hr hc i j h l x) k o
 
   module _ (p q : ℕ) (hp : p ≤ 6) (hq : q ≤ 6) (some : 0 < q) (l : Rows) (wl : WrittenCells q p l) (u : ℤ) (n : natAbs u ≤ t) where
-    l-at : (i : ℕ) → i < p → at marks (givenCells 6 6 q p l) 0 i ≡ given (at floats l 0 i)
+    l-at : (i : ℕ) → i < p → at marks (givenCells marks 6 6 q p l) 0 i ≡ given (at floats l 0 i)
     unfolding givenCells
     l-at i h = table-at (given plusZero) 6 6 q p (λ i j. given (at floats l i j)) 0 i (marks .void) some h hq hp
 
     -- Lb
     column-again : (b : List Float) → ((i : ℕ) → i < p → T (fits binary64 (getD b i nan)))
-        → Bears t (at marks (product marks 6 6 q p 1 (givenCells 6 6 q p l) (column p b)) 0 0) → (i : ℕ) → i < p → T (fits binary64 (scale u (getD b i nan)))
+        → Bears t (at marks (product marks 6 6 q p 1 (givenCells marks 6 6 q p l) (column marks p b)) 0 0) → (i : ℕ) → i < p → T (fits binary64 (scale u (getD b i nan)))
     unfolding column
     column-again b f x i h =
-        let e : Bears t (markedMul (at marks (givenCells 6 6 q p l) 0 i) (at marks (column p b) i 0)) =
-        product-term q p 1 hq (lit≤ tt) (givenCells 6 6 q p l) (column p b) 0 0 some (lit≤ tt) x i h in
+        let e : Bears t (markedMul (at marks (givenCells marks 6 6 q p l) 0 i) (at marks (column marks p b) i 0)) =
+        product-term q p 1 hq (lit≤ tt) (givenCells marks 6 6 q p l) (column marks p b) 0 0 some (lit≤ tt) x i h in
         let g : Bears t (markedMul (given (at floats l 0 i)) (given (getD b i nan))) =
         rw (l-at i h, table-at (given plusZero) 6 6 p 1 (λ i j. given (getD b i nan)) i 0 (marks .void) h (lit≤ tt) hp (lit≤ tt)) at e in
         mul-operands u n (given (at floats l 0 i)) (given (getD b i nan)) g (wl 0 i some h) (f i h) .1
 
-    cell-at : (m : Rows) (i j : ℕ) → i < p → j < p → at marks (givenCells 6 6 p p m) i j ≡ given (at floats m i j)
+    cell-at : (m : Rows) (i j : ℕ) → i < p → j < p → at marks (givenCells marks 6 6 p p m) i j ≡ given (at floats m i j)
     unfolding givenCells
     cell-at m i j h o = table-at (given plusZero) 6 6 p p (λ i j. given (at floats m i j)) i j (marks .void) h o hp hp
 
     -- L m Lᵀ
-    matrix-again : (m : Rows) → WrittenCells p p m → Bears t (at marks (transformed p q (givenCells 6 6 q p l) m) 0 0)
+    matrix-again : (m : Rows) → WrittenCells p p m → Bears t (at marks (transformed marks p q (givenCells marks 6 6 q p l) m) 0 0)
         → (i j : ℕ) → i < p → j < p → T (fits binary64 (scale u (at floats m i j)))
     unfolding transformed sandwich
     matrix-again m w x i j h o =
-        let a : MarkedRows = givenCells 6 6 q p l in
-        let b : MarkedRows = givenCells 6 6 p p m in
+        let a : MarkedRows = givenCells marks 6 6 q p l in
+        let b : MarkedRows = givenCells marks 6 6 p p m in
         let d : MarkedRows = transpose marks 6 6 q p a in
         let first : Bears t (at marks (product marks 6 6 q p p a b) 0 j) =
         mul-bears (at marks (product marks 6 6 q p p a b) 0 j) (at marks d j 0) (product-term q p q hq hq (product marks 6 6 q p p a b) d 0 0 some some x j o) .0 in
@@ -86,65 +86,65 @@ module _ (c : Cutoffs) (x : Inputs) (z : InputSizes x) where
   few : x .n ≤ 6
   few = omega (arith, z .n)
 
-  one-start : Bears 128 (seenOne c x) → Bears 128 (startSeen c x)
+  one-start : Bears 128 (seenOne marks c x) → Bears 128 (startSeen marks c x)
   unfolding seenOne
   one-start b =
-      also-bears (startSeen c x) (fOne c x) (gradient-first (x .n) few (at marks (vRows c x) 0 0) (gradientOne (x .n) (jStack c x)) (also (startSeen c x) (fOne c x)) b) .0
+      also-bears (startSeen marks c x) (fOne marks c x) (gradient-first (x .n) few (at marks (vRows marks c x) 0 0) (gradientOne marks (x .n) (jStack marks c x)) (also (startSeen marks c x) (fOne marks c x)) b) .0
 
-  several-start : Bears 128 (seenSeveral c x) → Bears 128 (startSeen c x)
+  several-start : Bears 128 (seenSeveral marks c x) → Bears 128 (startSeen marks c x)
   unfolding seenSeveral
   several-start b =
-      let matrixSeen : Marked = allMarks (x .q) (x .q) (rotatedV c x .a) (startSeen c x) in
-      let vectorsSeen : Marked = allMarks (x .q) (x .q) (rotatedV c x .v) matrixSeen in
-      let rotationsSeen : Marked = also vectorsSeen (rotatedV c x .seen) in
+      let matrixSeen : Marked = allMarks marks (x .q) (x .q) (rotatedV marks c x .a) (startSeen marks c x) in
+      let vectorsSeen : Marked = allMarks marks (x .q) (x .q) (rotatedV marks c x .v) matrixSeen in
+      let rotationsSeen : Marked = also vectorsSeen (rotatedV marks c x .seen) in
       let r : Bears 128 rotationsSeen =
-      also-bears rotationsSeen (fSeveral c x) (components-first (x .n) (x .q) few (variances c x) (directions c x) (jxStack c x) (also rotationsSeen (fSeveral c x)) b) .0 in
-      allMarks-first (x .q) (x .q) (rotatedV c x .a) (startSeen c x)
-      (allMarks-first (x .q) (x .q) (rotatedV c x .v) matrixSeen (also-bears vectorsSeen (rotatedV c x .seen) r .0))
+      also-bears rotationsSeen (fSeveral marks c x) (components-first (x .n) (x .q) few (variances marks c x) (directions marks c x) (jxStack marks c x) (also rotationsSeen (fSeveral marks c x)) b) .0 in
+      allMarks-first (x .q) (x .q) (rotatedV marks c x .a) (startSeen marks c x)
+      (allMarks-first (x .q) (x .q) (rotatedV marks c x .v) matrixSeen (also-bears vectorsSeen (rotatedV marks c x .seen) r .0))
 
-  pub start-inside : T (satterthwaite c x .entry .inside) → Bears 128 (startSeen c x)
+  pub start-inside : T (satterthwaite marks c x .entry .inside) → Bears 128 (startSeen marks c x)
   unfolding satterthwaite oneRow severalRows
   start-inside = go (eqb (x .q) 1)
     where
-      go : (b : Bool) → T (cond b (oneRow c x) (severalRows c x) .entry .inside) → Bears 128 (startSeen c x)
-      go true h = one-start (inside-bears (seenOne c x) (lit≤ tt) h)
-      go false h = several-start (inside-bears (seenSeveral c x) (lit≤ tt) h)
+      go : (b : Bool) → T (cond b (oneRow marks c x) (severalRows marks c x) .entry .inside) → Bears 128 (startSeen marks c x)
+      go true h = one-start (inside-bears (seenOne marks c x) (lit≤ tt) h)
+      go false h = several-start (inside-bears (seenSeveral marks c x) (lit≤ tt) h)
 
-  module _ (b : Bears 128 (startSeen c x)) (w : Written x) (u : ℤ) (n : natAbs u ≤ 128) where
+  module _ (b : Bears 128 (startSeen marks c x)) (w : Written x) (u : ℤ) (n : natAbs u ≤ 128) where
     abbrev lSeen : Marked
-    lSeen = allMarks (x .q) 1 (ldRows c x) (given plusZero)
+    lSeen = allMarks marks (x .q) 1 (ldRows marks c x) (given plusZero)
 
     abbrev vSeen : Marked
-    vSeen = allMarks (x .q) (x .q) (vRows c x) lSeen
+    vSeen = allMarks marks (x .q) (x .q) (vRows marks c x) lSeen
 
     before-js : Bears 128 vSeen
     unfolding startSeen
-    before-js = stack-first (x .n) (x .q) (jStack c x) vSeen b
+    before-js = stack-first (x .n) (x .q) (jStack marks c x) vSeen b
 
-    ld-bears : Bears 128 (at marks (ldRows c x) 0 0)
-    ld-bears = allMarks-cells (x .q) 1 (ldRows c x) (given plusZero) (allMarks-first (x .q) (x .q) (vRows c x) lSeen before-js) .cell 0 0 (z .some) (lit≤ tt)
+    ld-bears : Bears 128 (at marks (ldRows marks c x) 0 0)
+    ld-bears = allMarks-cells (x .q) 1 (ldRows marks c x) (given plusZero) (allMarks-first (x .q) (x .q) (vRows marks c x) lSeen before-js) .cell 0 0 (z .some) (lit≤ tt)
 
-    v-bears : Bears 128 (at marks (vRows c x) 0 0)
-    v-bears = allMarks-cells (x .q) (x .q) (vRows c x) lSeen before-js .cell 0 0 (z .some) (z .some)
+    v-bears : Bears 128 (at marks (vRows marks c x) 0 0)
+    v-bears = allMarks-cells (x .q) (x .q) (vRows marks c x) lSeen before-js .cell 0 0 (z .some) (z .some)
 
-    j-bears : (r : ℕ) → r < x .n → Bears 128 (at marks (transformed (x .p) (x .q) (lRows c x) (getD (x .js) r [])) 0 0)
+    j-bears : (r : ℕ) → r < x .n → Bears 128 (at marks (transformed marks (x .p) (x .q) (lRows marks c x) (getD (x .js) r [])) 0 0)
     unfolding startSeen stackSeen jStack transformedAll
     j-bears r h =
-        let ms : List MarkedRows = jStack c x in
-        let step : ℕ → Marked → Marked = λ i s. allMarks (x .q) (x .q) (getD ms i []) s in
+        let ms : List MarkedRows = jStack marks c x in
+        let step : ℕ → Marked → Marked = λ i s. allMarks marks (x .q) (x .q) (getD ms i []) s in
         let e : Bears 128 (step r (fold 0 r step vSeen)) =
         step-bears 0 (x .n) step vSeen (λ i s y. allMarks-first (x .q) (x .q) (getD ms i []) s y) b r (omega arith) h in
         let f : Bears 128 (at marks (getD ms r []) 0 0) =
         allMarks-cells (x .q) (x .q) (getD ms r []) (fold 0 r step vSeen) e .cell 0 0 (z .some) (z .some) in
-        rw (span-at 0 (x .n) (λ i. transformed (x .p) (x .q) (lRows c x) (getD (x .js) i [])) (replicate 4 (blank (given plusZero) 6 6)) r [] (omega arith) h
+        rw (span-at 0 (x .n) (λ i. transformed marks (x .p) (x .q) (lRows marks c x) (getD (x .js) i [])) (replicate 4 (blank (given plusZero) 6 6)) r [] (omega arith) h
         (omega (arith, z .n, length-replicate 4 (blank (given plusZero) 6 6)))) at f
 
-    estimates-bear : Bears 128 (at marks (product marks 6 6 (x .q) (x .p) 1 (lRows c x) (column (x .p) (x .beta))) 0 0)
-        × Bears 128 (at marks (product marks 6 6 (x .q) (x .p) 1 (lRows c x) (column (x .p) (x .betaH))) 0 0)
+    estimates-bear : Bears 128 (at marks (product marks 6 6 (x .q) (x .p) 1 (lRows marks c x) (column marks (x .p) (x .beta))) 0 0)
+        × Bears 128 (at marks (product marks 6 6 (x .q) (x .p) 1 (lRows marks c x) (column marks (x .p) (x .betaH))) 0 0)
     unfolding ldRows contrastOf
     estimates-bear =
-        minusCells-bears 6 6 (x .q) 1 (z .q) (lit≤ tt) (product marks 6 6 (x .q) (x .p) 1 (lRows c x) (column (x .p) (x .beta)))
-        (product marks 6 6 (x .q) (x .p) 1 (lRows c x) (column (x .p) (x .betaH))) 0 0 (z .some) (lit≤ tt) ld-bears
+        minusCells-bears 6 6 (x .q) 1 (z .q) (lit≤ tt) (product marks 6 6 (x .q) (x .p) 1 (lRows marks c x) (column marks (x .p) (x .beta)))
+        (product marks 6 6 (x .q) (x .p) 1 (lRows marks c x) (column marks (x .p) (x .betaH))) 0 0 (z .some) (lit≤ tt) ld-bears
 
     pub beta-again : (i : ℕ) → i < x .p → T (fits binary64 (scale u (getD (x .beta) i nan)))
     beta-again = column-again (x .p) (x .q) (z .p) (z .q) (z .some) (x .l) (w .l) u n (x .beta) (w .beta) (estimates-bear .0)

@@ -10,6 +10,7 @@ use lib.Ieee.{Float, fin, round, add, sub, mul, div, neg, lt, eq, le, ofInt, ofB
 use Rattle.arithmetic.specs.Numbers.{plusZero, one, magnitude, isZero, isFinite, sign, ofCount}
 use Rattle.arithmetic.specs.SquareRoot.{squareRoot, wholeRoot}
 use Rattle.arithmetic.specs.Marks.{inRange, stepMark, lostProduct, lostQuotient, markedAdd, markedSub, markedMul, markedDiv, markedRoot, markedMagnitude, also}
+use Rattle.algebra.specs.Kind.{marks}
 use Rattle.algebra.specs.Fold.{fold}
 use Rattle.algebra.specs.Table.{row, blank, table}
 use Rattle.algebra.specs.Product.{sum, cell, product, transpose, sumCells, identity, minusCells}
@@ -18,7 +19,7 @@ use Rattle.algebra.specs.Small.{sandwich, givenCells, allMarks}
 use Rattle.arithmetic_cutoffs.specs.Cutoffs.{decimal, documentCutoffs}
 use Rattle.tests.specs.Answer.{numberOf}
 use Rattle.tests.specs.Order.{comesBefore, placeIn, indexAt}
-use Rattle.tests.specs.VarianceDf.{relativeGradient, relativeVariance, dfOfRelative, varianceDf, gradientSeen}
+use Rattle.tests.specs.VarianceDf.{relativeGradient, gradientValues, relativeVariance, dfOfRelative, varianceDf, gradientSeen}
 use Rattle.tests.specs.Both.{isPositive, squareOne, stackSeen}
 use Rattle.tests.specs.PooledDf.{tolerance, allWithin, anyLow, expected, pooled, getFstatDdf}
 use Rattle.tests.specs.Satterthwaite.{column, contrastOf, transformed, transformedAll, gradientOne, eigenvalues, notPositive, variancesOf, directionsOf, projected, squaresOver, jxAll, gradientAt, capped, componentDf, componentDfs, anyNone, severalDf, componentsSeen, Inputs, Outcome, ldRows, vRows, jStack, rotatedV, variances, directions, jxStack, fOne, fSeveral, dfOne, dfSeveral, startSeen, seenOne, seenSeveral, oneRow, severalRows, satterthwaite as test}
@@ -86,13 +87,13 @@ says = record { inputs = refl; passes = refl }
 abbrev parameterOutcome : Outcome
 parameterOutcome = record { refused = false; entry = record { f = Is (fin false 5 (negsuc 0)); df = Is four; rank = 2; inside = true } }
 
-tests : test documentCutoffs parameterInputs ≡ parameterOutcome
-unfolding test severalRows oneRow seenSeveral seenOne startSeen dfSeveral dfOne fSeveral fOne jxStack directions variances rotatedV jStack vRows ldRows stackSeen componentsSeen severalDf anyNone componentDfs componentDf capped gradientAt jxAll squaresOver projected directionsOf variancesOf notPositive eigenvalues gradientOne squareOne transformedAll transformed contrastOf column getFstatDdf pooled expected anyLow allWithin tolerance gradientSeen varianceDf dfOfRelative relativeVariance relativeGradient isPositive indexAt placeIn comesBefore numberOf documentCutoffs decimal allMarks givenCells sandwich jacobi mirrored sweepsTo sweepTo rowTo rotate rotateTested bound squared rotated rotatedCell turnColumns turnRow turnedSecond turnedFirst sine cosine tangent ratio identity minusCells sumCells transpose product cell sum table blank row fold markedMagnitude markedRoot markedDiv markedMul markedSub markedAdd also lostQuotient lostProduct stepMark inRange squareRoot wholeRoot ofCount isFinite isZero magnitude sign round add sub mul div neg lt eq le ofInt lib.Ieee.isNan
+tests : test marks documentCutoffs parameterInputs ≡ parameterOutcome
+unfolding test severalRows oneRow seenSeveral seenOne startSeen dfSeveral dfOne fSeveral fOne jxStack directions variances rotatedV jStack vRows ldRows stackSeen componentsSeen severalDf anyNone componentDfs componentDf capped gradientAt jxAll squaresOver projected directionsOf variancesOf notPositive eigenvalues gradientOne squareOne transformedAll transformed contrastOf column getFstatDdf pooled expected anyLow allWithin tolerance gradientSeen varianceDf dfOfRelative relativeVariance gradientValues relativeGradient isPositive indexAt placeIn comesBefore numberOf documentCutoffs decimal allMarks givenCells sandwich jacobi mirrored sweepsTo sweepTo rowTo rotate rotateTested bound squared rotated rotatedCell turnColumns turnRow turnedSecond turnedFirst sine cosine tangent ratio identity minusCells sumCells transpose product cell sum table blank row fold markedMagnitude markedRoot markedDiv markedMul markedSub markedAdd also lostQuotient lostProduct stepMark inRange squareRoot wholeRoot ofCount isFinite isZero magnitude sign round add sub mul div neg lt eq le ofInt lib.Ieee.isNan
 tests = refl
 
 -- ---- together
-parameter-outcome : test documentCutoffs (inputs parameterFile) ≡ parameterOutcome
-parameter-outcome = ap (test documentCutoffs) (says .inputs) ∙ tests
+parameter-outcome : test marks documentCutoffs (inputs parameterFile) ≡ parameterOutcome
+parameter-outcome = ap (test marks documentCutoffs) (says .inputs) ∙ tests
 
 parameter-accepted : number documentCutoffs parameterFile ≡ 0
 parameter-accepted =

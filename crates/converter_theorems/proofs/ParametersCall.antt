@@ -11,7 +11,7 @@ use Rattle.arithmetic.specs.Scale.{scale}
 use Rattle.arithmetic.proofs.ScaleLaws.{scale-zero}
 use Rattle.arithmetic.proofs.PlainLaws.{of-eq}
 use Rattle.arithmetic.proofs.MarkLaws.{Bears}
-use Rattle.algebra.specs.Kind.{floats}
+use Rattle.algebra.specs.Kind.{floats, marks}
 use Rattle.algebra.specs.Product.{at}
 use Rattle.arithmetic_cutoffs.specs.declared.Cutoffs.{Cutoffs}
 use Rattle.arithmetic_cutoffs.specs.Cutoffs.{documentCutoffs}
@@ -83,18 +83,18 @@ module _ (k : ℤ) (s : List ℕ) (c : AcceptedParameters s) (h : InputExact k s
 
 -- ---- the call's parts
 module _ (c : Cutoffs) (s : List ℕ) where
-  pub number-is : number c s ≡ first (reasons s ++ ((11, test c (inputs s) .refused) ∷ []))
+  pub number-is : number c s ≡ first (reasons s ++ ((11, test marks c (inputs s) .refused) ∷ []))
   unfolding number allReasons testReasons outcome
   number-is = refl
 
   -- an accepted file's entry is the test's
-  pub entry-is : number c s ≡ 0 → entry c s ≡ test c (inputs s) .entry
+  pub entry-is : number c s ≡ 0 → entry c s ≡ test marks c (inputs s) .entry
   unfolding entry outcome
   entry-is e = rw e
 
   not-refused : number c s ≡ 0 → refusal s ≡ 0
   unfolding refusal
-  not-refused e = first-front (reasons s) ((11, test c (inputs s) .refused) ∷ []) (sym number-is ∙ e)
+  not-refused e = first-front (reasons s) ((11, test marks c (inputs s) .refused) ∷ []) (sym number-is ∙ e)
 
 once-small : (k : ℤ) → natAbs k ≤ 32 → natAbs k ≤ 128
 once-small k h = omega arith
@@ -114,10 +114,10 @@ module _ (c : Cutoffs) (rotation : T (fits binary64 (c .rotation))) (s : List �
   z : InputSizes (inputs s)
   z = inputs-sized s taken
 
-  test-inside : T (test c (inputs s) .entry .inside)
+  test-inside : T (test marks c (inputs s) .entry .inside)
   test-inside = of-eq (ap (λ (x : Entry). x .inside) (sym (entry-is c s e)) ∙ inside)
 
-  start : Bears 128 (startSeen c (inputs s))
+  start : Bears 128 (startSeen marks c (inputs s))
   start = start-inside c (inputs s) z test-inside
 
   numbers-exact : InputExact k s
@@ -182,13 +182,13 @@ module _ (c : Cutoffs) (rotation : T (fits binary64 (c .rotation))) (s : List �
     a = λ i j h o. a-at s' z' i j (of-n h) (of-n o) ∙ stays k s 32 0 i j refl ∙ sym (a-at s z i j h o);
   }
 
-  survives : SameOutcome (test c (inputs s)) (test c (inputs s'))
+  survives : SameOutcome (test marks c (inputs s)) (test marks c (inputs s'))
   survives = satterthwaite-survives c rotation k near (inputs s) (inputs s') z scaled-input test-inside
 
   number-after : number c s' ≡ 0
   number-after =
       number-is c s'
-      ∙ ap (λ (rs : List (ℕ × Bool)). first (rs ++ ((11, test c (inputs s') .refused) ∷ []))) reasons-after
+      ∙ ap (λ (rs : List (ℕ × Bool)). first (rs ++ ((11, test marks c (inputs s') .refused) ∷ []))) reasons-after
       ∙ ap (λ (b : Bool). first (reasons s ++ ((11, b) ∷ []))) (survives .refused)
       ∙ sym (number-is c s) ∙ e
 
@@ -201,7 +201,7 @@ module _ (c : Cutoffs) (rotation : T (fits binary64 (c .rotation))) (s : List �
   parameters-same = record {
     accepted = number-after;
     same = ap verdict (entry-is c s' number-after)
-        ∙ three (test c (inputs s) .entry) (test c (inputs s') .entry) (survives .f) (survives .df) (survives .rank)
+        ∙ three (test marks c (inputs s) .entry) (test marks c (inputs s') .entry) (survives .f) (survives .df) (survives .rank)
         ∙ sym (ap verdict (entry-is c s e));
   }
 

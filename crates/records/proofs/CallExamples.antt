@@ -11,6 +11,7 @@ use lib.Ieee.{Float, fin, round, add, sub, mul, div, neg, lt, eq, le, ofInt, ofB
 use Rattle.arithmetic.specs.Numbers.{plusZero, one, magnitude, isZero, isFinite, sign, isLarger, ofCount}
 use Rattle.arithmetic.specs.SquareRoot.{squareRoot, wholeRoot}
 use Rattle.arithmetic.specs.Marks.{inRange, stepMark, lostProduct, lostQuotient, markedAdd, markedSub, markedMul, markedDiv, markedRoot, also}
+use Rattle.algebra.specs.Kind.{marks}
 use Rattle.algebra.specs.Fold.{fold}
 use Rattle.algebra.specs.Table.{row, blank, table}
 use Rattle.algebra.specs.Product.{sum, cell, product, transpose, sumCells, likeCells, trace, identity, plusCells, minusCells, timesNumber, overNumber}
@@ -109,7 +110,7 @@ says = record {
 
 -- ---- what is made of them
 abbrev runAt : Design → Rows → Float → List Float → List Float → ℕ → Rows → Run
-runAt d f v b h r l = runOf documentCutoffs (scaledBy (d .p) (matrices d) f v (adjustment documentCutoffs d f)) b h r l
+runAt d f v b h r l = runOf marks documentCutoffs (scaledBy marks (d .p) (matrices d) f v (adjustment documentCutoffs d f)) b h r l
 
 record Makes : Type 0 where
   pub nine : adjustmentRefusal documentCutoffs nineDesign (single half) eight ≡ 9

@@ -11,7 +11,7 @@ use Rattle.arithmetic.specs.declared.Marked.{Marked}
 use Rattle.arithmetic.specs.Numbers.{plusZero, one}
 use Rattle.arithmetic.specs.Marks.{given}
 use Rattle.arithmetic_cutoffs.specs.Cutoffs.{decimal, documentCutoffs}
-use Rattle.algebra.specs.Kind.{floats}
+use Rattle.algebra.specs.Kind.{floats, marks}
 use Rattle.algebra.specs.Product.{at}
 use Rattle.adjustment.specs.Information.{packed}
 use Rattle.adjustment.specs.Covariance.{Design}
@@ -45,7 +45,7 @@ abbrev cellAlone : Float → List (List Marked)
 cellAlone x = (given x ∷ replicate 5 (given plusZero)) ∷ replicate 5 (replicate 6 (given plusZero))
 
 -- (h): "Φ 1, Φ_A 4, P -1, W 2"
-abbrev pub scaledH : Scaled
+abbrev pub scaledH : Scaled Marked
 scaledH = record { p = 1; matrices = 1; phi = cellAlone one; phiA = cellAlone four; ps = cellAlone (fin true 1 (pos 0)) ∷ []; w = (two ∷ []) ∷ [] }
 
 -- (h): "F 9, df 1", with its rank, accepted and inside
@@ -99,16 +99,16 @@ pub record BenchExamples : Type 0 where
   -- "(e) 2,5 give 2."
   pub e : getFstatDdf 2 (two ∷ fin false 5 (pos 0) ∷ []) tolerance ≡ two
   -- "(f) V 2, J 2, A 4 give 0.5."
-  pub f : varianceDf 1 ((four ∷ []) ∷ []) (given two) (given two ∷ []) ≡ Is half
+  pub f : varianceDf marks 1 ((four ∷ []) ∷ []) (given two) (given two ∷ []) ≡ Is half
   -- "(g) V 0 gives none."
-  pub g : varianceDf 1 ((four ∷ []) ∷ []) (given plusZero) (given two ∷ []) ≡ None
+  pub g : varianceDf marks 1 ((four ∷ []) ∷ []) (given plusZero) (given two ∷ []) ≡ None
   -- "(h) Φ 1, Φ_A 4, P -1, W 2, L -8, β 6: F 9, df 1."
-  pub h : tested documentCutoffs scaledH (six ∷ []) (plusZero ∷ []) (contrastBasis 1 1 ((fin true 1 (pos 3) ∷ []) ∷ [])) ≡ testedH
+  pub h : tested marks documentCutoffs scaledH (six ∷ []) (plusZero ∷ []) (contrastBasis marks 1 1 ((fin true 1 (pos 3) ∷ []) ∷ [])) ≡ testedH
   -- "(i) Satterthwaite L identity, v = diag(4,1), one Jacobian equal to v, A 0.5, β (4,1): F 2.5, df 4."
-  pub i : satterthwaite documentCutoffs (inputsI 2 half) ≡ outcomeI (fin false 5 (negsuc 0)) four 2
+  pub i : satterthwaite marks documentCutoffs (inputsI 2 half) ≡ outcomeI (fin false 5 (negsuc 0)) four 2
   -- "(j) as (i), A 2^-12: df 3000; one row: 8192."
-  pub j : (satterthwaite documentCutoffs (inputsI 2 (fin false 1 (negsuc 11))) ≡ outcomeI (fin false 5 (negsuc 0)) (fin false 375 (pos 3)) 2)
-      × (satterthwaite documentCutoffs (inputsI 1 (fin false 1 (negsuc 11))) ≡ outcomeI four (fin false 1 (pos 13)) 1)
+  pub j : (satterthwaite marks documentCutoffs (inputsI 2 (fin false 1 (negsuc 11))) ≡ outcomeI (fin false 5 (negsuc 0)) (fin false 375 (pos 3)) 2)
+      × (satterthwaite marks documentCutoffs (inputsI 1 (fin false 1 (negsuc 11))) ≡ outcomeI four (fin false 1 (pos 13)) 1)
   -- "(k) n 2, X 1,1, Z 1,1, one group, theta 0, Φ 0.5: Φ_A 0.5, W_00 200000000."; nothing refuses it
   pub k : (adjustmentRefusal documentCutoffs designK phiK one ≡ 0) × (at floats (adjustment documentCutoffs designK phiK .phiA) 0 0 ≡ half)
       × (at floats (adjustment documentCutoffs designK phiK .w) 0 0 ≡ decimal 200000000 0)

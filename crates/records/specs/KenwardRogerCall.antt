@@ -4,6 +4,7 @@ use mathlib.Core.Bool.{Bool, not, cond}
 use mathlib.Core.List.{List, [], _∷_, _++_}
 use lib.Dec.{eqb}
 use lib.ListN.{length, replicate}
+use Rattle.arithmetic.specs.declared.Marked.{Marked}
 use Rattle.arithmetic_cutoffs.specs.declared.Cutoffs.{Cutoffs}
 use Rattle.adjustment.specs.Covariance.{matrices}
 use Rattle.adjustment.specs.Adjusted.{Adjustment, adjustment, adjustmentReasons}
@@ -11,6 +12,7 @@ use Rattle.tests.specs.declared.Entry.{Entry}
 use Rattle.tests.specs.Answer.{noEntry}
 use Rattle.records.specs.Layout.{answerBytes}
 use Rattle.tests.specs.KenwardRoger.{Scaled, scaledBy, Run, runOf}
+use Rattle.algebra.specs.Kind.{marks}
 use Rattle.algebra.specs.Reasons.{first}
 use Rattle.records.specs.Series.{reasons, specimens, coefficients, contrastRows, design, phi, sigma2, beta, betaH, contrast}
 
@@ -20,12 +22,12 @@ module _ (c : Cutoffs) (s : List ℕ) where
   unfoldable pub adjusted : Adjustment
   adjusted = adjustment c (design s) (phi s)
 
-  unfoldable pub scaled : Scaled
-  scaled = scaledBy (coefficients s) (matrices (design s)) (phi s) (sigma2 s) adjusted
+  unfoldable pub scaled : Scaled Marked
+  scaled = scaledBy marks (coefficients s) (matrices (design s)) (phi s) (sigma2 s) adjusted
 
   -- "The run tests each coefficient alone (β_H = 0), then the contrast if given."
   unfoldable pub run : Run
-  run = runOf c scaled (beta s) (betaH s) (contrastRows s) (contrast s)
+  run = runOf marks c scaled (beta s) (betaH s) (contrastRows s) (contrast s)
 
   -- a zero pivot in any one test
   unfoldable pub testReasons : List (ℕ × Bool)

@@ -8,13 +8,14 @@ use Rattle.arithmetic_cutoffs.specs.declared.Cutoffs.{Cutoffs}
 use Rattle.tests.specs.declared.Entry.{Entry}
 use Rattle.tests.specs.Answer.{noEntry}
 use Rattle.records.specs.Layout.{entryBytes}
+use Rattle.algebra.specs.Kind.{marks}
 use Rattle.algebra.specs.Reasons.{first}
 use Rattle.tests.specs.Satterthwaite.{Outcome, satterthwaite as test}
 use Rattle.records.specs.Parameters.{reasons, inputs}
 
 module _ (c : Cutoffs) (s : List ℕ) where
   unfoldable pub outcome : Outcome
-  outcome = test c (inputs s)
+  outcome = test marks c (inputs s)
 
   -- 11, "several-row V has an eigenvalue not finite or ≤ 0"
   unfoldable pub testReasons : List (ℕ × Bool)

@@ -16,6 +16,7 @@ use Rattle.arithmetic.specs.Marks.{markedMul, markedDiv}
 use Rattle.arithmetic.proofs.MarkLaws.{mul-value, div-value}
 use Rattle.arithmetic_cutoffs.specs.declared.Cutoffs.{Cutoffs}
 use Rattle.arithmetic_cutoffs.specs.Cutoffs.{documentCutoffs, decimal}
+use Rattle.algebra.specs.Kind.{floats, marks}
 use Rattle.algebra.specs.Jacobi.{two}
 use Rattle.algebra.specs.Small.{Rows}
 use Rattle.algebra.proofs.TableLaws.{row-at}
@@ -23,7 +24,7 @@ use Rattle.tests.specs.declared.Number.{Number}
 use Rattle.tests.specs.declared.Number.the-variants.{Is, None}
 use Rattle.tests.specs.declared.Entry.{Entry}
 use Rattle.tests.specs.Answer.{numberOf, floatOf, noEntry}
-use Rattle.tests.specs.VarianceDf.{entryAt, relativeGradient, relativeVariance, dfOfRelative, varianceDf}
+use Rattle.tests.specs.VarianceDf.{entryAt, relativeGradient, gradientValues, relativeVariance, dfOfRelative, varianceDf}
 use Rattle.tests.specs.PooledDf.{tolerance, allWithin, anyLow, expected, pooled, getFstatDdf}
 use Rattle.tests.specs.Satterthwaite.{Inputs, squaresOver, gradientAt, capped, componentDf, componentDfs, anyNone, severalDf, variances, directions, jxStack, fOne, fSeveral, dfOne, dfSeveral, oneRow, severalRows, satterthwaite}
 use Rattle.records.specs.Layout.{entryBytes, answerBytes, entryFrom}
@@ -46,12 +47,12 @@ relative-held r = go (isPositive r)
     go true = div-fits binary64 two r
     go false = tt
 
-variance-held : (n : ℕ) (a : Rows) (v : Marked) (g : List Marked) → Held (varianceDf n a v g)
+variance-held : (n : ℕ) (a : Rows) (v : Marked) (g : List Marked) → Held (varianceDf marks n a v g)
 unfolding varianceDf
 variance-held n a v g = go (isPositive (v .value))
   where
-    go : (b : Bool) → Held (cond b (dfOfRelative (relativeVariance n (relativeGradient n v g) a)) None)
-    go true = relative-held (relativeVariance n (relativeGradient n v g) a)
+    go : (b : Bool) → Held (cond b (dfOfRelative (relativeVariance floats n (gradientValues marks n (relativeGradient marks n v g)) a)) None)
+    go true = relative-held (relativeVariance floats n (gradientValues marks n (relativeGradient marks n v g)) a)
     go false = tt
 
 capped-held : (c : Cutoffs) → T (fits binary64 (c .cap)) → (n : Number) → Held n → Held (capped c n)
@@ -80,56 +81,56 @@ quotient-fits : (a b : Marked) → T (fits binary64 (markedDiv a b .value))
 quotient-fits a b = subst (λ (x : Float). T (fits binary64 x)) (sym (div-value a b)) (div-fits binary64 (a .value) (b .value))
 
 module _ (c : Cutoffs) (s : Inputs) where
-  one-f-held : Held (oneRow c s .entry .f)
+  one-f-held : Held (oneRow marks c s .entry .f)
   unfolding oneRow fOne squareOne
   one-f-held = number-held _ (product-fits _ _)
 
-  one-df-held : Held (oneRow c s .entry .df)
+  one-df-held : Held (oneRow marks c s .entry .df)
   unfolding oneRow dfOne
   one-df-held = variance-held _ _ _ _
 
-  several-f-held : Held (severalRows c s .entry .f)
+  several-f-held : Held (severalRows marks c s .entry .f)
   unfolding severalRows fSeveral squaresOver
   several-f-held = number-held _ (quotient-fits _ _)
 
   module _ (cap : T (fits binary64 (c .cap))) (some : 0 < s .q) (few : s .q ≤ 6) where
-    component-fits : (k : ℕ) → T (fits binary64 (floatOf (componentDf c (s .n) (s .q) (s .a) (variances c s) (directions c s) (jxStack c s) k)))
+    component-fits : (k : ℕ) → T (fits binary64 (floatOf (componentDf marks c (s .n) (s .q) (s .a) (variances marks c s) (directions marks c s) (jxStack marks c s) k)))
     unfolding componentDf
     component-fits k =
-        let n : Number = varianceDf (s .n) (s .a) (entryAt (variances c s) k) (gradientAt (s .n) (s .q) (directions c s) (jxStack c s) k) in
+        let n : Number = varianceDf marks (s .n) (s .a) (entryAt marks (variances marks c s) k) (gradientAt marks (s .n) (s .q) (directions marks c s) (jxStack marks c s) k) in
         float-fits (capped c n) (capped-held c cap n (variance-held _ _ _ _))
 
-    first-fits : T (fits binary64 (getD (componentDfs c (s .n) (s .q) (s .a) (variances c s) (directions c s) (jxStack c s)) 0 nan))
+    first-fits : T (fits binary64 (getD (componentDfs marks c (s .n) (s .q) (s .a) (variances marks c s) (directions marks c s) (jxStack marks c s)) 0 nan))
     unfolding componentDfs
     first-fits =
         subst (λ (x : Float). T (fits binary64 x))
-        (sym (row-at plusZero 6 (s .q) (λ k. floatOf (componentDf c (s .n) (s .q) (s .a) (variances c s) (directions c s) (jxStack c s) k)) 0 nan some few))
+        (sym (row-at plusZero 6 (s .q) (λ k. floatOf (componentDf marks c (s .n) (s .q) (s .a) (variances marks c s) (directions marks c s) (jxStack marks c s) k)) 0 nan some few))
         (component-fits 0)
 
-    several-df-held : Held (severalRows c s .entry .df)
+    several-df-held : Held (severalRows marks c s .entry .df)
     unfolding severalRows dfSeveral
-    several-df-held = several-held (s .q) (componentDfs c (s .n) (s .q) (s .a) (variances c s) (directions c s) (jxStack c s)) first-fits
+    several-df-held = several-held (s .q) (componentDfs marks c (s .n) (s .q) (s .a) (variances marks c s) (directions marks c s) (jxStack marks c s)) first-fits
 
-    test-held : Held (satterthwaite c s .entry .f) × Held (satterthwaite c s .entry .df)
+    test-held : Held (satterthwaite marks c s .entry .f) × Held (satterthwaite marks c s .entry .df)
     unfolding satterthwaite
     test-held = go (eqb (s .q) 1)
       where
-        go : (b : Bool) → Held (cond b (oneRow c s) (severalRows c s) .entry .f) × Held (cond b (oneRow c s) (severalRows c s) .entry .df)
+        go : (b : Bool) → Held (cond b (oneRow marks c s) (severalRows marks c s) .entry .f) × Held (cond b (oneRow marks c s) (severalRows marks c s) .entry .df)
         go true = (one-f-held, one-df-held)
         go false = (several-f-held, several-df-held)
 
   -- "Rank is q"
-  test-rank : satterthwaite c s .entry .rank ≡ s .q
+  test-rank : satterthwaite marks c s .entry .rank ≡ s .q
   unfolding satterthwaite oneRow severalRows
   test-rank = go (eqb (s .q) 1)
     where
-      go : (b : Bool) → cond b (oneRow c s) (severalRows c s) .entry .rank ≡ s .q
+      go : (b : Bool) → cond b (oneRow marks c s) (severalRows marks c s) .entry .rank ≡ s .q
       go true = refl
       go false = refl
 
 -- ---- the entry of a file
 module _ (c : Cutoffs) (s : List ℕ) where
-  accepted-entry : number c s ≡ 0 → entry c s ≡ satterthwaite c (inputs s) .entry
+  accepted-entry : number c s ≡ 0 → entry c s ≡ satterthwaite marks c (inputs s) .entry
   unfolding entry outcome
   accepted-entry h = rw (eq-eqb (number c s) 0 h)
 

@@ -10,6 +10,7 @@ use lib.Ieee.{Float, fin, ofBits, toBits, round, add, sub, mul, div, neg, lt, eq
 use Rattle.arithmetic.specs.Numbers.{plusZero, one, magnitude, isZero, isFinite, sign, ofCount}
 use Rattle.arithmetic.specs.SquareRoot.{squareRoot, wholeRoot}
 use Rattle.arithmetic.specs.Marks.{inRange, stepMark, lostProduct, lostQuotient, markedAdd, markedSub, markedMul, markedDiv, markedRoot, markedMagnitude, also}
+use Rattle.algebra.specs.Kind.{marks}
 use Rattle.algebra.specs.Fold.{fold}
 use Rattle.algebra.specs.Table.{row, blank, table}
 use Rattle.algebra.specs.Product.{sum, cell, product, transpose, sumCells, identity, minusCells}
@@ -20,7 +21,7 @@ use Rattle.tests.specs.declared.Number.the-variants.{Is}
 use Rattle.tests.specs.declared.Entry.{Entry}
 use Rattle.tests.specs.Answer.{numberOf, noEntry}
 use Rattle.tests.specs.Order.{comesBefore, placeIn, indexAt}
-use Rattle.tests.specs.VarianceDf.{relativeGradient, relativeVariance, dfOfRelative, varianceDf, gradientSeen}
+use Rattle.tests.specs.VarianceDf.{relativeGradient, gradientValues, relativeVariance, dfOfRelative, varianceDf, gradientSeen}
 use Rattle.tests.specs.Both.{isPositive, squareOne, stackSeen}
 use Rattle.tests.specs.PooledDf.{tolerance, allWithin, anyLow, expected, pooled, getFstatDdf}
 use Rattle.tests.specs.Satterthwaite.{column, contrastOf, transformed, transformedAll, gradientOne, eigenvalues, notPositive, variancesOf, directionsOf, projected, squaresOver, jxAll, gradientAt, capped, componentDf, componentDfs, anyNone, severalDf, componentsSeen, Inputs, Outcome, ldRows, vRows, jStack, rotatedV, variances, directions, jxStack, fOne, fSeveral, dfOne, dfSeveral, startSeen, seenOne, seenSeveral, oneRow, severalRows, satterthwaite}
@@ -105,13 +106,13 @@ unfolding refusal reasons lengthReasons formReasons valueReasons first sizes out
 file-taken = (refl, refl)
 
 -- the test
-pub tested : (satterthwaite documentCutoffs (sent four one) ≡ record { refused = false; entry = answered }) × (satterthwaite documentCutoffs (sent one plusZero) .refused ≡ true)
-unfolding satterthwaite severalRows oneRow seenSeveral seenOne startSeen dfSeveral dfOne fSeveral fOne jxStack directions variances rotatedV jStack vRows ldRows stackSeen componentsSeen severalDf anyNone componentDfs componentDf capped gradientAt jxAll squaresOver projected directionsOf variancesOf notPositive eigenvalues gradientOne squareOne transformedAll transformed contrastOf column getFstatDdf pooled expected anyLow allWithin tolerance gradientSeen varianceDf dfOfRelative relativeVariance relativeGradient isPositive indexAt placeIn comesBefore numberOf documentCutoffs decimal allMarks givenCells sandwich jacobi mirrored sweepsTo sweepTo rowTo rotate rotateTested bound squared rotated rotatedCell turnColumns turnRow turnedSecond turnedFirst sine cosine tangent ratio identity minusCells sumCells transpose product cell sum table blank row fold markedMagnitude markedRoot markedDiv markedMul markedSub markedAdd also lostQuotient lostProduct stepMark inRange squareRoot wholeRoot ofCount isFinite isZero magnitude sign round add sub mul div neg lt eq le ofInt lib.Ieee.isNan
+pub tested : (satterthwaite marks documentCutoffs (sent four one) ≡ record { refused = false; entry = answered }) × (satterthwaite marks documentCutoffs (sent one plusZero) .refused ≡ true)
+unfolding satterthwaite severalRows oneRow seenSeveral seenOne startSeen dfSeveral dfOne fSeveral fOne jxStack directions variances rotatedV jStack vRows ldRows stackSeen componentsSeen severalDf anyNone componentDfs componentDf capped gradientAt jxAll squaresOver projected directionsOf variancesOf notPositive eigenvalues gradientOne squareOne transformedAll transformed contrastOf column getFstatDdf pooled expected anyLow allWithin tolerance gradientSeen varianceDf dfOfRelative relativeVariance gradientValues relativeGradient isPositive indexAt placeIn comesBefore numberOf documentCutoffs decimal allMarks givenCells sandwich jacobi mirrored sweepsTo sweepTo rowTo rotate rotateTested bound squared rotated rotatedCell turnColumns turnRow turnedSecond turnedFirst sine cosine tangent ratio identity minusCells sumCells transpose product cell sum table blank row fold markedMagnitude markedRoot markedDiv markedMul markedSub markedAdd also lostQuotient lostProduct stepMark inRange squareRoot wholeRoot ofCount isFinite isZero magnitude sign round add sub mul div neg lt eq le ofInt lib.Ieee.isNan
 tested = (refl, refl)
 
 tested-file : outcome documentCutoffs fileI ≡ record { refused = false; entry = answered }
 unfolding outcome
-tested-file = ap (satterthwaite documentCutoffs) (file-sends .0) ∙ tested .0
+tested-file = ap (satterthwaite marks documentCutoffs) (file-sends .0) ∙ tested .0
 
 -- the call, whole: number 0, and in the 24 lent bytes F 2.5, df 4, rank 2, both given, inside
 pub record Example : Type 0 where
@@ -131,7 +132,7 @@ example-i =
 -- ---- and what is refused
 eleven-file : outcome documentCutoffs fileEleven .refused ≡ true
 unfolding outcome
-eleven-file = ap (λ (i : Inputs). satterthwaite documentCutoffs i .refused) (file-sends .1) ∙ tested .1
+eleven-file = ap (λ (i : Inputs). satterthwaite marks documentCutoffs i .refused) (file-sends .1) ∙ tested .1
 
 pub record Refused : Type 0 where
   -- 1: 23 lent bytes

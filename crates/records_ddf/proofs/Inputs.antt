@@ -8,6 +8,7 @@ use lib.Dec.{lit<}
 use lib.ListN.{getD}
 use lib.Ieee.{Float}
 use Rattle.arithmetic_cutoffs.specs.declared.Cutoffs.{Cutoffs}
+use Rattle.algebra.specs.Kind.{marks}
 use Rattle.algebra.specs.Small.{Rows}
 use Rattle.tests.specs.declared.Entry.{Entry}
 use Rattle.tests.specs.Satterthwaite.{Inputs, satterthwaite as test}
@@ -97,9 +98,9 @@ module _ (z : Sizes) where
   pub test-is : (c : Cutoffs) (xs : List Float) (fs : List ℕ) → fs ≡ firstSlots t → (g : ℕ) (l v a : Rows) (b h : List Float) (js : List Rows) (x : Entry) (r : Bool) → g ≡ cond (z .hypothesis) (z .coefficients) 0
       → l ≡ cellsAt xs (getD fs 9 0) (z .contrasts) (z .coefficients) → b ≡ numbersAt xs 6 (getD fs 8 0) (z .coefficients) → h ≡ numbersAt xs 6 (getD fs 10 0) g
       → v ≡ cellsAt xs (getD fs 30 0) (z .coefficients) (z .coefficients) → js ≡ stackAt xs (getD fs 31 0) (z .parameters) (z .coefficients) → a ≡ cellsAt xs (getD fs 32 0) (z .parameters) (z .parameters)
-      → x ≡ test c (inputsOf (z .coefficients) (z .contrasts) (z .parameters) l b h v js a) .entry
-      → r ≡ test c (inputsOf (z .coefficients) (z .contrasts) (z .parameters) l b h v js a) .refused
-      → (x ≡ test c (inputsFrom xs z) .entry) × (r ≡ test c (inputsFrom xs z) .refused)
+      → x ≡ test marks c (inputsOf (z .coefficients) (z .contrasts) (z .parameters) l b h v js a) .entry
+      → r ≡ test marks c (inputsOf (z .coefficients) (z .contrasts) (z .parameters) l b h v js a) .refused
+      → (x ≡ test marks c (inputsFrom xs z) .entry) × (r ≡ test marks c (inputsFrom xs z) .refused)
   unfolding inputsFrom
   test-is c xs fs e g l v a b h js x r eg el eb eh ev ej ea ex er =
       let q =
@@ -110,7 +111,7 @@ module _ (z : Sizes) where
       (ev ∙ ap (λ (i : ℕ). cellsAt xs i (z .coefficients) (z .coefficients)) (starts fs e 30 (omega arith)))
       (ej ∙ ap (λ (i : ℕ). stackAt xs i (z .parameters) (z .coefficients)) (starts fs e 31 (omega arith)))
       (ea ∙ ap (λ (i : ℕ). cellsAt xs i (z .parameters) (z .parameters)) (starts fs e 32 (omega arith))) in
-      (ex ∙ ap (λ (i : Inputs). test c i .entry) q, er ∙ ap (λ (i : Inputs). test c i .refused) q)
+      (ex ∙ ap (λ (i : Inputs). test marks c i .entry) q, er ∙ ap (λ (i : Inputs). test marks c i .refused) q)
 
 -- ---- a file within its sizes, on a sheet of N numbers
 module _ (s : List ℕ) (within : any (count s) (beyond (kinds s) s) ≡ false) (N : ℕ) (room : slotCount (kinds s) ≤ N) where
@@ -127,6 +128,6 @@ module _ (s : List ℕ) (within : any (count s) (beyond (kinds s) s) ≡ false) 
       (cells-read 1 z s within N room 32 (parameters s) (parameters s) (parameters-flat z))
 
   -- the test of the sheet and the sizes at hand
-  pub outcome-is : (c : Cutoffs) (z : Sizes) (xs : List Float) → z ≡ sizes s → xs ≡ sheetAfter N (kinds s) s (count s) → test c (inputsFrom xs z) ≡ outcome c s
+  pub outcome-is : (c : Cutoffs) (z : Sizes) (xs : List Float) → z ≡ sizes s → xs ≡ sheetAfter N (kinds s) s (count s) → test marks c (inputsFrom xs z) ≡ outcome c s
   unfolding outcome
-  outcome-is c z xs e f = rw (e, f) (ap (test c) inputs-is)
+  outcome-is c z xs e f = rw (e, f) (ap (test marks c) inputs-is)

@@ -23,6 +23,7 @@ use records_sheet_parts::stack_at;
 use tests::Entry;
 use tests_ddf::satterthwaite::satterthwaite_contrast_f_test;
 use tests_entries::no_entry;
+ghost use Rattle.algebra.specs.Kind.{marks};
 
 // The number with which a file is refused before anything is computed; 0 where it is not, and then the lent sheet holds the file's numbers. The flags are all clear at first and the sheet is all +0, with a
 // slot for every cell that the limits allow.
@@ -49,8 +50,8 @@ fn refusal(s: &[u8], flags: &mut [bool], sheet: &mut [f64]) -> u32
 fn test(c: Cutoffs, sheet: &[f64], firsts: &[usize; 34], z: Sizes, refused: &mut bool) -> Entry
     requires { ⌜ (z .coefficients ≤ 6) × (z .contrasts ≤ 6) × (z .parameters ≤ 4) ⌝ }
     requires { ⌜ (now firsts ≡ firstSlots (satterthwaiteKinds z)) × (slotCount (satterthwaiteKinds z) ≤ length (now sheet)) ⌝ }
-    ensures { λ r. ⌜ r ≡ testOf c (inputsFrom (now (sheet .entry)) z) .entry ⌝ }
-    ensures { λ r. ⌜ now (refused .exit) ≡ testOf c (inputsFrom (now (sheet .entry)) z) .refused ⌝ }
+    ensures { λ r. ⌜ r ≡ testOf marks c (inputsFrom (now (sheet .entry)) z) .entry ⌝ }
+    ensures { λ r. ⌜ now (refused .exit) ≡ testOf marks c (inputsFrom (now (sheet .entry)) z) .refused ⌝ }
 {
     let p = z.coefficients;
     let q = z.contrasts;

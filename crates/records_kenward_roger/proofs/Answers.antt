@@ -11,8 +11,10 @@ use lib.Seq.{ext-getD}
 use lib.Ieee.{Float, binary64, add, sub, mul, div, lt}
 use lib.Ieee.Fits.{add-fits, mul-fits, div-fits}
 use borrow.Author.Tests.{eq-eqb}
+use Rattle.arithmetic.specs.declared.Marked.{Marked}
 use Rattle.arithmetic.specs.Numbers.{plusZero, one, magnitude, ofCount}
 use Rattle.arithmetic_cutoffs.specs.declared.Cutoffs.{Cutoffs}
+use Rattle.algebra.specs.Kind.{marks}
 use Rattle.algebra.specs.Jacobi.{two}
 use Rattle.algebra.specs.Small.{Rows}
 use Rattle.algebra.proofs.FoldLaws.{fold-keeps}
@@ -72,7 +74,7 @@ module _ (c : Cutoffs) (q : ℕ) (a1 a2 : Float) where
 abbrev EntryHeld : Entry → Type 0
 EntryHeld e = Held (e .f) × Held (e .df)
 
-tested-held : (c : Cutoffs) (s : Scaled) (beta betaH : List Float) (b : Basis) → EntryHeld (tested c s beta betaH b .entry)
+tested-held : (c : Cutoffs) (s : Scaled Marked) (beta betaH : List Float) (b : Basis Marked) → EntryHeld (tested marks c s beta betaH b .entry)
 unfolding tested
 tested-held c s beta betaH b = (f-held _ _ _, df-held c _ _ _)
 
@@ -95,18 +97,18 @@ none-seven = record { long = refl; held = λ i. rw (all-alike 7 i noEntry) (tt, 
 set-seven : (es : List Entry) (k : ℕ) (e : Entry) → Seven es → EntryHeld e → Seven (set es k e)
 set-seven es k e h w = record { long = length-set es k e ∙ h .long; held = set-every EntryHeld noEntry e w es k (h .held) }
 
-run-seven : (c : Cutoffs) (s : Scaled) (beta betaH : List Float) (rows : ℕ) (l : Rows) → Seven (runOf c s beta betaH rows l .entries)
+run-seven : (c : Cutoffs) (s : Scaled Marked) (beta betaH : List Float) (rows : ℕ) (l : Rows) → Seven (runOf marks c s beta betaH rows l .entries)
 unfolding runOf coefficientsTo withTest coefficientTest contrastTest
 run-seven c s beta betaH rows l = go (eqb rows 0)
   where
-    alone : Seven (coefficientsTo (s .p) c s beta .entries)
+    alone : Seven (coefficientsTo marks (s .p) c s beta .entries)
     alone =
-        fold-keeps (λ (r : Run). Seven (r .entries)) 0 (s .p) (λ i r. withTest i (coefficientTest c s beta i) r) (record { refused = false; entries = replicate 7 noEntry }) none-seven
-        (λ i _ _ r h. set-seven (r .entries) i (coefficientTest c s beta i .entry) h (tested-held c s beta (replicate 6 plusZero) (contrastBasis 1 (s .p) (unitRow (s .p) i))))
+        fold-keeps (λ (r : Run). Seven (r .entries)) 0 (s .p) (λ i r. withTest i (coefficientTest marks c s beta i) r) (record { refused = false; entries = replicate 7 noEntry }) none-seven
+        (λ i _ _ r h. set-seven (r .entries) i (coefficientTest marks c s beta i .entry) h (tested-held c s beta (replicate 6 plusZero) (contrastBasis marks 1 (s .p) (unitRow (s .p) i))))
 
-    go : (b : Bool) → Seven (cond b (coefficientsTo (s .p) c s beta) (withTest 6 (contrastTest c s beta betaH rows l) (coefficientsTo (s .p) c s beta)) .entries)
+    go : (b : Bool) → Seven (cond b (coefficientsTo marks (s .p) c s beta) (withTest 6 (contrastTest marks c s beta betaH rows l) (coefficientsTo marks (s .p) c s beta)) .entries)
     go true = alone
-    go false = set-seven (coefficientsTo (s .p) c s beta .entries) 6 (contrastTest c s beta betaH rows l .entry) alone (tested-held c s beta betaH (contrastBasis rows (s .p) l))
+    go false = set-seven (coefficientsTo marks (s .p) c s beta .entries) 6 (contrastTest marks c s beta betaH rows l .entry) alone (tested-held c s beta betaH (contrastBasis marks rows (s .p) l))
 
 -- ---- for every limit of specimens and every cutoffs
 module _ (w : ℕ) (c : Cutoffs) (s : List ℕ) where

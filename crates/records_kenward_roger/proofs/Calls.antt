@@ -6,7 +6,9 @@ use mathlib.Core.Bool.{Bool, true, false, cond, _&&_}
 use mathlib.Core.List.{List}
 use lib.ListN.{getD, length, take, drop}
 use lib.Ieee.{Float, nan}
+use Rattle.arithmetic.specs.declared.Marked.{Marked}
 use Rattle.arithmetic_cutoffs.specs.declared.Cutoffs.{Cutoffs}
+use Rattle.algebra.specs.Kind.{marks}
 use Rattle.algebra.specs.Table.{row}
 use Rattle.algebra.specs.Small.{Rows}
 use Rattle.algebra_large.specs.joints.Slab.{rowsAt, Holds}
@@ -243,13 +245,13 @@ module _ (w : ℕ) (s : List ℕ) (fs : List ℕ) (xs : List Float) (h : SeriesR
   own-holds = record { wide = omega arith; fits = (let e = part-long 1 (specimens s) (coefficients s) (omega arith) (flat-x s) in omega arith) }
 
   own-run : (c : Cutoffs)
-      → runOf c (responseUnits (coefficients s) (matrices (design s)) (cellsAt xs (getD fs 6 0) (coefficients s) (coefficients s)) (adjusted c s .phiA) (adjusted c s .ps) (adjusted c s .w) (getD xs (getD fs 7 0) nan))
+      → runOf marks c (responseUnits (coefficients s) (matrices (design s)) (cellsAt xs (getD fs 6 0) (coefficients s) (coefficients s)) (adjusted c s .phiA) (adjusted c s .ps) (adjusted c s .w) (getD xs (getD fs 7 0) nan))
       (numbersAt xs 6 (getD fs 8 0) (coefficients s)) (numbersAt xs 6 (getD fs 10 0) (hypotheses s)) (contrastRows s) (cellsAt xs (getD fs 9 0) (contrastRows s) (coefficients s))
       ≡ run c s
   unfolding run scaled
   own-run c =
       rw (phi-lent, ap₂ (λ (q : List Float) (j : ℕ). numbersAt q 6 j (coefficients s)) (h .numbers) (starts-at 8 (omega arith)) ∙ beta-are, ap₂ (λ (q : List Float) (j : ℕ). numbersAt q 6 j (hypotheses s)) (h .numbers) (starts-at 10 (omega arith)) ∙ hypothesis-are, ap₂ (λ (q : List Float) (j : ℕ). cellsAt q j (contrastRows s) (coefficients s)) (h .numbers) (starts-at 9 (omega arith)) ∙ contrast-are, sigma2-lent)
-      (ap (λ (q : Scaled). runOf c q (beta s) (betaH s) (contrastRows s) (contrast s)) (response-units-is (coefficients s) (matrices (design s)) (phi s) (sigma2 s) (adjusted c s)))
+      (ap (λ (q : Scaled Marked). runOf marks c q (beta s) (betaH s) (contrastRows s) (contrast s)) (response-units-is (coefficients s) (matrices (design s)) (phi s) (sigma2 s) (adjusted c s)))
 
 -- ---- the same with the sizes that the code has at hand
 module _ (w : ℕ) (s : List ℕ) (z : Sizes) (fs : List ℕ) (xs : List Float) (h : SeriesRead w s z fs xs) where
@@ -378,7 +380,7 @@ module _ (w : ℕ) (s : List ℕ) (z : Sizes) (fs : List ℕ) (xs : List Float) 
       → b ≡ numbersAt xs 6 (getD fs 8 0) (z .coefficients) → n ≡ cond (z .hypothesis) (z .coefficients) 0 → bh ≡ numbersAt xs 6 (getD fs 10 0) n
       → l ≡ cellsAt xs (getD fs 9 0) (z .contrasts) (z .coefficients) → x ≡ getD xs (getD fs 7 0) nan
       → phiA ≡ adjusted c s .phiA → ps ≡ adjusted c s .ps → v ≡ adjusted c s .w
-      → runOf c (responseUnits (z .coefficients) N m phiA ps v x) b bh (z .contrasts) l ≡ run c s
+      → runOf marks c (responseUnits (z .coefficients) N m phiA ps v x) b bh (z .contrasts) l ≡ run c s
   unfolding sizes
   run-is c N m phiA v l ps b bh x n eN em eb en eh el ex e1 e2 e3 = rw (eN, em, eb, eh, en, el, ex, e1, e2, e3, h .sized) (own-run w s fs xs read c)
 

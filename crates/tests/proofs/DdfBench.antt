@@ -9,6 +9,7 @@ use Rattle.arithmetic.specs.declared.Marked.{Marked}
 use Rattle.arithmetic.specs.Numbers.{plusZero, one, magnitude, isZero, isFinite, sign, ofCount}
 use Rattle.arithmetic.specs.SquareRoot.{squareRoot, wholeRoot}
 use Rattle.arithmetic.specs.Marks.{given, inRange, stepMark, lostProduct, lostQuotient, markedAdd, markedSub, markedMul, markedDiv, markedRoot, markedMagnitude, also}
+use Rattle.algebra.specs.Kind.{marks}
 use Rattle.algebra.specs.Fold.{fold}
 use Rattle.algebra.specs.Table.{row, blank, table}
 use Rattle.algebra.specs.Product.{sum, cell, product, transpose, sumCells, identity, minusCells}
@@ -19,7 +20,7 @@ use Rattle.tests.specs.declared.Number.the-variants.{Is, None}
 use Rattle.tests.specs.declared.Entry.{Entry}
 use Rattle.tests.specs.Answer.{numberOf}
 use Rattle.tests.specs.Order.{comesBefore, placeIn, indexAt}
-use Rattle.tests.specs.VarianceDf.{relativeGradient, relativeVariance, dfOfRelative, varianceDf, gradientSeen}
+use Rattle.tests.specs.VarianceDf.{relativeGradient, gradientValues, relativeVariance, dfOfRelative, varianceDf, gradientSeen}
 use Rattle.tests.specs.Both.{isPositive, squareOne, stackSeen}
 use Rattle.tests.specs.PooledDf.{tolerance, allWithin, anyLow, expected, pooled, getFstatDdf}
 use Rattle.tests.specs.Satterthwaite.{column, contrastOf, transformed, transformedAll, gradientOne, eigenvalues, notPositive, variancesOf, directionsOf, projected, squaresOver, jxAll, gradientAt, capped, componentDf, componentDfs, anyNone, severalDf, componentsSeen, Inputs, Outcome, ldRows, vRows, jStack, rotatedV, variances, directions, jxStack, fOne, fSeveral, dfOne, dfSeveral, startSeen, seenOne, seenSeveral, oneRow, severalRows, satterthwaite}
@@ -65,14 +66,14 @@ pub record SatterthwaiteExamples : Type 0 where
   pub d : getFstatDdf 2 (one ∷ one ∷ []) tolerance ≡ one
   pub e : getFstatDdf 2 (two ∷ five ∷ []) tolerance ≡ two
   -- (f) V 2, J 2, A 4 give 0.5; (g) V 0 gives none
-  pub f : varianceDf 1 ((four ∷ []) ∷ []) (given two) (given two ∷ []) ≡ Is half
-  pub g : varianceDf 1 ((four ∷ []) ∷ []) (given plusZero) (given two ∷ []) ≡ None
+  pub f : varianceDf marks 1 ((four ∷ []) ∷ []) (given two) (given two ∷ []) ≡ Is half
+  pub g : varianceDf marks 1 ((four ∷ []) ∷ []) (given plusZero) (given two ∷ []) ≡ None
   -- (i) L identity, v = diag(4,1), one Jacobian equal to v, A 0.5, β (4,1): F 2.5, df 4
-  pub i : satterthwaite documentCutoffs (example 2 half) ≡ accepted (fin false 5 (negsuc 0)) four 2
+  pub i : satterthwaite marks documentCutoffs (example 2 half) ≡ accepted (fin false 5 (negsuc 0)) four 2
   -- (j) as (i), A 2^-12: df 3000; one row: 8192
-  pub j : (satterthwaite documentCutoffs (example 2 tiny) ≡ accepted (fin false 5 (negsuc 0)) (fin false 375 (pos 3)) 2)
-      × (satterthwaite documentCutoffs (example 1 tiny) ≡ accepted four (fin false 1 (pos 13)) 1)
+  pub j : (satterthwaite marks documentCutoffs (example 2 tiny) ≡ accepted (fin false 5 (negsuc 0)) (fin false 375 (pos 3)) 2)
+      × (satterthwaite marks documentCutoffs (example 1 tiny) ≡ accepted four (fin false 1 (pos 13)) 1)
 
 pub bench : SatterthwaiteExamples
-unfolding satterthwaite severalRows oneRow seenSeveral seenOne startSeen dfSeveral dfOne fSeveral fOne jxStack directions variances rotatedV jStack vRows ldRows stackSeen componentsSeen severalDf anyNone componentDfs componentDf capped gradientAt jxAll squaresOver projected directionsOf variancesOf notPositive eigenvalues gradientOne squareOne transformedAll transformed contrastOf column getFstatDdf pooled expected anyLow allWithin tolerance gradientSeen varianceDf dfOfRelative relativeVariance relativeGradient isPositive indexAt placeIn comesBefore numberOf documentCutoffs decimal allMarks givenCells sandwich jacobi mirrored sweepsTo sweepTo rowTo rotate rotateTested bound squared rotated rotatedCell turnColumns turnRow turnedSecond turnedFirst sine cosine tangent ratio identity minusCells sumCells transpose product cell sum table blank row fold markedMagnitude markedRoot markedDiv markedMul markedSub markedAdd also lostQuotient lostProduct stepMark inRange squareRoot wholeRoot ofCount isFinite isZero magnitude sign round add sub mul div neg lt eq le ofInt lib.Ieee.isNan
+unfolding satterthwaite severalRows oneRow seenSeveral seenOne startSeen dfSeveral dfOne fSeveral fOne jxStack directions variances rotatedV jStack vRows ldRows stackSeen componentsSeen severalDf anyNone componentDfs componentDf capped gradientAt jxAll squaresOver projected directionsOf variancesOf notPositive eigenvalues gradientOne squareOne transformedAll transformed contrastOf column getFstatDdf pooled expected anyLow allWithin tolerance gradientSeen varianceDf dfOfRelative relativeVariance gradientValues relativeGradient isPositive indexAt placeIn comesBefore numberOf documentCutoffs decimal allMarks givenCells sandwich jacobi mirrored sweepsTo sweepTo rowTo rotate rotateTested bound squared rotated rotatedCell turnColumns turnRow turnedSecond turnedFirst sine cosine tangent ratio identity minusCells sumCells transpose product cell sum table blank row fold markedMagnitude markedRoot markedDiv markedMul markedSub markedAdd also lostQuotient lostProduct stepMark inRange squareRoot wholeRoot ofCount isFinite isZero magnitude sign round add sub mul div neg lt eq le ofInt lib.Ieee.isNan
 bench = record { c = refl; d = refl; e = refl; f = refl; g = refl; i = refl; j = (refl, refl) }

@@ -12,7 +12,7 @@ use Rattle.arithmetic.specs.SquareRoot.{squareRoot, wholeRoot}
 use Rattle.arithmetic.specs.Marks.{given, inRange, stepMark, lostProduct, lostQuotient, markedAdd, markedSub, markedMul, markedDiv, markedRoot, also}
 use Rattle.algebra.specs.Fold.{fold}
 use Rattle.algebra.specs.Table.{row, blank, table}
-use Rattle.algebra.specs.Kind.{floats}
+use Rattle.algebra.specs.Kind.{floats, marks}
 use Rattle.algebra.specs.Product.{at, sum, cell, product, transpose, sumCells, likeCells, trace, identity, plusCells, minusCells, timesNumber, overNumber}
 use Rattle.algebra.specs.Elimination.{larger, pivotRow, swapRows, factor, lessBy, cleared, eliminateColumn, eliminateTo, zeroPivot, columnOrStop, stopping, backSum, backCell, backTo, joined, solution, refused}
 use Rattle.algebra.specs.Reasons.{first}
@@ -40,7 +40,7 @@ abbrev pub single : Float → List (List Marked)
 single x = (given x ∷ replicate 5 (given plusZero)) ∷ replicate 5 (replicate 6 (given plusZero))
 
 -- (h): Φ 1, Φ_A 4, P -1, W 2
-abbrev pub scaledH : Scaled
+abbrev pub scaledH : Scaled Marked
 scaledH = record { p = 1; matrices = 1; phi = single one; phiA = single (fin false 1 (pos 2)); ps = single (fin true 1 (pos 0)) ∷ []; w = (fin false 1 (pos 1) ∷ []) ∷ [] }
 
 -- rank 1, F 9 and df 1, inside
@@ -68,8 +68,8 @@ designPull = record { n = 2; p = 1; x = ones; z = [] ∷ [] ∷ []; weighted = f
 abbrev pub eight : Float
 eight = fin false 1 (pos 3)
 
-abbrev pub scaledPull : Scaled
-scaledPull = scaledBy 1 1 halfPhi eight (adjustment documentCutoffs designPull halfPhi)
+abbrev pub scaledPull : Scaled Marked
+scaledPull = scaledBy marks 1 1 halfPhi eight (adjustment documentCutoffs designPull halfPhi)
 
 -- ---- the statement
 pub record KenwardRogerExamples : Type 0 where
@@ -77,13 +77,13 @@ pub record KenwardRogerExamples : Type 0 where
   pub a : (packed 3 1 2 ≡ 4) × (packed 3 2 1 ≡ 4)
   pub b : packed 3 2 2 ≡ 5
   -- (h) Φ 1, Φ_A 4, P -1, W 2, L -8, β 6: F 9, df 1
-  pub h : tested documentCutoffs scaledH betaSix (plusZero ∷ []) (contrastBasis 1 1 ((fin true 1 (pos 3) ∷ []) ∷ [])) ≡ nineAndOne
+  pub h : tested marks documentCutoffs scaledH betaSix (plusZero ∷ []) (contrastBasis marks 1 1 ((fin true 1 (pos 3) ∷ []) ∷ [])) ≡ nineAndOne
   -- (k) n 2, X 1,1, Z 1,1, one group, theta 0, Φ 0.5: Φ_A 0.5, W_00 200000000; nothing refuses it
   pub k : (adjustmentRefusal documentCutoffs designK halfPhi one ≡ 0) × (at floats (adjustment documentCutoffs designK halfPhi .phiA) 0 0 ≡ fin false 1 (negsuc 0))
       × (at floats (adjustment documentCutoffs designK halfPhi .w) 0 0 ≡ decimal 200000000 0)
   -- the `pulltest` example: X 1,1, Φ 0.5, sigma2 8, β 6, contrast 1: coefficient 0 and the contrast have rank 1, F 9, df 1, inside
-  pub pull : (adjustmentRefusal documentCutoffs designPull halfPhi eight ≡ 0) × (coefficientTest documentCutoffs scaledPull betaSix 0 ≡ nineAndOne)
-      × (contrastTest documentCutoffs scaledPull betaSix (plusZero ∷ []) 1 ((one ∷ []) ∷ []) ≡ nineAndOne)
+  pub pull : (adjustmentRefusal documentCutoffs designPull halfPhi eight ≡ 0) × (coefficientTest marks documentCutoffs scaledPull betaSix 0 ≡ nineAndOne)
+      × (contrastTest marks documentCutoffs scaledPull betaSix (plusZero ∷ []) 1 ((one ∷ []) ∷ []) ≡ nineAndOne)
 
 pub bench : KenwardRogerExamples
 unfolding adjustmentRefusal adjustmentReasons first outputNotFinite notAllFiniteMarked notAllFinite scaledDown scaledUp precisionOf informationRefused fromPrecision eigen ieRows qStackOf pStack oStack hStack phiARows uRows uAbove uTermAt uTerm qStack stack precision inverseFactorRefused inverseFactor cholesky sigmaRows sigmaCell gRows factorOfMatrix gCell residualCell blockCell groupCell directedCell direction factorOf thetaCell placeOf blockOf placesBefore columnsBefore wRefused wRows inverted ridged smallest mirror ieCell kCell packed qRows pRows oRows hRows lower choleskyRefused notPositive choleskyTo choleskyColumn belowDiagonal lessDot put jacobi mirrored sweepsTo sweepTo rowTo rotate rotateTested bound squared rotated rotatedCell turnColumns turnRow turnedSecond turnedFirst sine cosine tangent ratio identity plusCells minusCells timesNumber overNumber documentCutoffs decimal allMarks values givenCells sandwich solution refused joined backTo backCell backSum stopping columnOrStop zeroPivot eliminateTo eliminateColumn cleared lessBy factor swapRows pivotRow larger trace likeCells sumCells transpose product cell sum table blank row fold markedRoot markedDiv markedMul markedSub markedAdd also lostQuotient lostProduct stepMark inRange squareRoot wholeRoot ofCount isLarger isFinite isZero magnitude sign round add sub mul div neg lt eq le ofInt lib.Ieee.isNan tested testSeen a1 a2 waldNumber waldMarked yRows vRows ldRows us thetaPhi xRows aRows waldMany uValues uStack uOf thetaOf difference scalingSeen fOf scalingOf scalingAt dfOf rankOne generalDf positive rhoOf lessA2 divOf v2Of v1Of v0Of leadingOf c3Of c2Of c1Of dOf gOf bOf a2Of a1Of weight contrastBasis divided dividedCell largest numberOf unitRow coefficientTest contrastTest scaledPs scaledBy isPositive squareOne stackSeen

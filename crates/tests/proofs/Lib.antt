@@ -1,5 +1,6 @@
 -- The laws of the tests: the Satterthwaite test under a change of converter, and the bench examples, computed.
 pub mod MovingOrder
+pub mod VarianceLaws
 pub mod MovingVariance
 pub mod MovingComponents
 pub mod SatterthwaiteSurvives

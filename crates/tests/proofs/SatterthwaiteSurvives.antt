@@ -82,146 +82,146 @@ module _ (c : Cutoffs) (fine : T (fits binary64 (c .rotation))) (k : ℤ) (small
   four-small = twice-small (k +ℤ k) (twice-small k small)
 
   -- what both kinds of test start from
-  l-moves : MovesCells 128 (pos 0) (s .q) (s .p) (lRows c s) (lRows c other)
+  l-moves : MovesCells 128 (pos 0) (s .q) (s .p) (lRows marks c s) (lRows marks c other)
   l-moves = given-cells 6 6 (s .q) (s .p) (z .q) (z .p) (pos 0) (s .l) (r .l) (e .l)
 
-  ld-moves : MovesCells 128 k (s .q) 1 (ldRows c s) (ldRows c other)
+  ld-moves : MovesCells 128 k (s .q) 1 (ldRows marks c s) (ldRows marks c other)
   unfolding ldRows
-  ld-moves = contrastOf-moves (s .p) (s .q) (z .p) (z .q) (lRows c s) (lRows c other) l-moves k one-small (s .beta) (s .betaH) (r .beta) (r .betaH) (e .beta) (e .betaH)
+  ld-moves = contrastOf-moves (s .p) (s .q) (z .p) (z .q) (lRows marks c s) (lRows marks c other) l-moves k one-small (s .beta) (s .betaH) (r .beta) (r .betaH) (e .beta) (e .betaH)
 
-  v-moves : MovesCells 128 w (s .q) (s .q) (vRows c s) (vRows c other)
+  v-moves : MovesCells 128 w (s .q) (s .q) (vRows marks c s) (vRows marks c other)
   unfolding vRows
-  v-moves = transformed-moves (s .p) (s .q) (z .p) (z .q) (lRows c s) (lRows c other) l-moves w two-small (s .v) (r .v) (e .v)
+  v-moves = transformed-moves (s .p) (s .q) (z .p) (z .q) (lRows marks c s) (lRows marks c other) l-moves w two-small (s .v) (r .v) (e .v)
 
-  js-moves : MovesStack 128 w (s .n) (s .q) (s .q) (jStack c s) (jStack c other)
+  js-moves : MovesStack 128 w (s .n) (s .q) (s .q) (jStack marks c s) (jStack marks c other)
   unfolding jStack
-  js-moves = transformedAll-moves (s .p) (s .q) (z .p) (z .q) (lRows c s) (lRows c other) l-moves w two-small (s .n) (z .n) (s .js) (r .js) (e .js)
+  js-moves = transformedAll-moves (s .p) (s .q) (z .p) (z .q) (lRows marks c s) (lRows marks c other) l-moves w two-small (s .n) (z .n) (s .js) (r .js) (e .js)
 
-  start-v : Bears 128 (startSeen c s) → BearsCells 128 (s .q) (s .q) (vRows c s)
+  start-v : Bears 128 (startSeen marks c s) → BearsCells 128 (s .q) (s .q) (vRows marks c s)
   unfolding startSeen
   start-v b =
-      allMarks-cells (s .q) (s .q) (vRows c s) (allMarks (s .q) 1 (ldRows c s) (given plusZero))
-      (stack-first (s .n) (s .q) (jStack c s) (allMarks (s .q) (s .q) (vRows c s) (allMarks (s .q) 1 (ldRows c s) (given plusZero))) b)
+      allMarks-cells (s .q) (s .q) (vRows marks c s) (allMarks marks (s .q) 1 (ldRows marks c s) (given plusZero))
+      (stack-first (s .n) (s .q) (jStack marks c s) (allMarks marks (s .q) (s .q) (vRows marks c s) (allMarks marks (s .q) 1 (ldRows marks c s) (given plusZero))) b)
 
   few : s .n ≤ 6
   few = omega (arith, z .n)
 
   -- ---- one row
-  module _ (b : Bears 128 (seenOne c s)) where
-    one-bears : Bears 128 (startSeen c s) × Bears 128 (fOne c s)
+  module _ (b : Bears 128 (seenOne marks c s)) where
+    one-bears : Bears 128 (startSeen marks c s) × Bears 128 (fOne marks c s)
     unfolding seenOne
     one-bears =
-        also-bears (startSeen c s) (fOne c s) (gradient-first (s .n) few (at marks (vRows c s) 0 0) (gradientOne (s .n) (jStack c s)) (also (startSeen c s) (fOne c s)) b)
+        also-bears (startSeen marks c s) (fOne marks c s) (gradient-first (s .n) few (at marks (vRows marks c s) 0 0) (gradientOne marks (s .n) (jStack marks c s)) (also (startSeen marks c s) (fOne marks c s)) b)
 
-    fOne-agrees : fOne c other .value ≡ fOne c s .value
+    fOne-agrees : fOne marks c other .value ≡ fOne marks c s .value
     unfolding fOne
     fOne-agrees =
-        still-value (fOne c s) (fOne c other)
-        (squareOne-moves k (at marks (ldRows c s) 0 0) (at marks (vRows c s) 0 0) (at marks (ldRows c other) 0 0) (at marks (vRows c other) 0 0)
+        still-value (fOne marks c s) (fOne marks c other)
+        (squareOne-moves k (at marks (ldRows marks c s) 0 0) (at marks (vRows marks c s) 0 0) (at marks (ldRows marks c other) 0 0) (at marks (vRows marks c other) 0 0)
         (ld-moves .cell 0 0 (z .some) (omega arith)) (v-moves .cell 0 0 (z .some) (z .some))) (one-bears .1)
 
-    dfOne-agrees : dfOne c other ≡ dfOne c s
+    dfOne-agrees : dfOne marks c other ≡ dfOne marks c s
     unfolding dfOne seenOne
     dfOne-agrees =
-        varianceDf-agrees (s .n) few w (at marks (vRows c s) 0 0) (at marks (vRows c other) 0 0) (gradientOne (s .n) (jStack c s)) (gradientOne (s .n) (jStack c other))
-        (v-moves .cell 0 0 (z .some) (z .some)) (gradientOne-moves w (s .n) (s .q) (z .n) (z .some) (jStack c s) (jStack c other) js-moves)
-        (s .a) (r .a) (also (startSeen c s) (fOne c s)) (e .a) (start-v (one-bears .0) .cell 0 0 (z .some) (z .some)) b
+        varianceDf-agrees (s .n) few w (at marks (vRows marks c s) 0 0) (at marks (vRows marks c other) 0 0) (gradientOne marks (s .n) (jStack marks c s)) (gradientOne marks (s .n) (jStack marks c other))
+        (v-moves .cell 0 0 (z .some) (z .some)) (gradientOne-moves w (s .n) (s .q) (z .n) (z .some) (jStack marks c s) (jStack marks c other) js-moves)
+        (s .a) (r .a) (also (startSeen marks c s) (fOne marks c s)) (e .a) (start-v (one-bears .0) .cell 0 0 (z .some) (z .some)) b
 
-    one-survives : SameOutcome (oneRow c s) (oneRow c other)
+    one-survives : SameOutcome (oneRow marks c s) (oneRow marks c other)
     unfolding oneRow
     one-survives = record { refused = refl; f = ap numberOf fOne-agrees; df = dfOne-agrees; rank = refl }
 
   -- ---- several rows
-  module _ (b : Bears 128 (seenSeveral c s)) where
+  module _ (b : Bears 128 (seenSeveral marks c s)) where
     abbrev vectorsSeen : Marked
-    vectorsSeen = allMarks (s .q) (s .q) (rotatedV c s .v) (allMarks (s .q) (s .q) (rotatedV c s .a) (startSeen c s))
+    vectorsSeen = allMarks marks (s .q) (s .q) (rotatedV marks c s .v) (allMarks marks (s .q) (s .q) (rotatedV marks c s .a) (startSeen marks c s))
 
     abbrev rotationsSeen : Marked
-    rotationsSeen = also vectorsSeen (rotatedV c s .seen)
+    rotationsSeen = also vectorsSeen (rotatedV marks c s .seen)
 
-    several-bears : Bears 128 rotationsSeen × Bears 128 (fSeveral c s)
+    several-bears : Bears 128 rotationsSeen × Bears 128 (fSeveral marks c s)
     unfolding seenSeveral
-    several-bears = also-bears rotationsSeen (fSeveral c s) (components-first (s .n) (s .q) few (variances c s) (directions c s) (jxStack c s) (also rotationsSeen (fSeveral c s)) b)
+    several-bears = also-bears rotationsSeen (fSeveral marks c s) (components-first (s .n) (s .q) few (variances marks c s) (directions marks c s) (jxStack marks c s) (also rotationsSeen (fSeveral marks c s)) b)
 
-    state-bears : StateBears 128 (s .q) (rotatedV c s)
+    state-bears : StateBears 128 (s .q) (rotatedV marks c s)
     state-bears =
-        let h : Bears 128 vectorsSeen × Bears 128 (rotatedV c s .seen) = also-bears vectorsSeen (rotatedV c s .seen) (several-bears .0) in
+        let h : Bears 128 vectorsSeen × Bears 128 (rotatedV marks c s .seen) = also-bears vectorsSeen (rotatedV marks c s .seen) (several-bears .0) in
         record {
           matrix =
-              allMarks-cells (s .q) (s .q) (rotatedV c s .a) (startSeen c s)
-              (allMarks-first (s .q) (s .q) (rotatedV c s .v) (allMarks (s .q) (s .q) (rotatedV c s .a) (startSeen c s)) (h .0));
-          vectors = allMarks-cells (s .q) (s .q) (rotatedV c s .v) (allMarks (s .q) (s .q) (rotatedV c s .a) (startSeen c s)) (h .0);
+              allMarks-cells (s .q) (s .q) (rotatedV marks c s .a) (startSeen marks c s)
+              (allMarks-first (s .q) (s .q) (rotatedV marks c s .v) (allMarks marks (s .q) (s .q) (rotatedV marks c s .a) (startSeen marks c s)) (h .0));
+          vectors = allMarks-cells (s .q) (s .q) (rotatedV marks c s .v) (allMarks marks (s .q) (s .q) (rotatedV marks c s .a) (startSeen marks c s)) (h .0);
           seen = h .1;
         }
 
-    state-moves : StateMoves 128 w (s .q) (rotatedV c s) (rotatedV c other)
+    state-moves : StateMoves 128 w (s .q) (rotatedV marks c s) (rotatedV marks c other)
     unfolding rotatedV
     state-moves =
-        jacobi-moves (c .rotation) 6 6 (s .q) (z .q) (z .q) fine w four-small (vRows c s) (vRows c other)
+        jacobi-moves (c .rotation) 6 6 (s .q) (z .q) (z .q) fine w four-small (vRows marks c s) (vRows marks c other)
         (λ i j h l. v-moves .cell i j (omega arith) l) state-bears
 
-    variances-move : (i : ℕ) → i < s .q → Moves 128 w (entryAt (variances c s) i) (entryAt (variances c other) i)
+    variances-move : (i : ℕ) → i < s .q → Moves 128 w (entryAt marks (variances marks c s) i) (entryAt marks (variances marks c other) i)
     unfolding variances
-    variances-move = variancesOf-moves w (s .q) (z .q) (z .some) (rotatedV c s .a) (rotatedV c other .a) (state-moves .matrix) (state-bears .matrix)
+    variances-move = variancesOf-moves w (s .q) (z .q) (z .some) (rotatedV marks c s .a) (rotatedV marks c other .a) (state-moves .matrix) (state-bears .matrix)
 
-    variances-bear : (i : ℕ) → i < s .q → Bears 128 (entryAt (variances c s) i)
+    variances-bear : (i : ℕ) → i < s .q → Bears 128 (entryAt marks (variances marks c s) i)
     unfolding variances
-    variances-bear = variancesOf-bear w (s .q) (z .q) (z .some) (rotatedV c s .a) (rotatedV c other .a) (state-moves .matrix) (state-bears .matrix)
+    variances-bear = variancesOf-bear w (s .q) (z .q) (z .some) (rotatedV marks c s .a) (rotatedV marks c other .a) (state-moves .matrix) (state-bears .matrix)
 
-    directions-move : MovesCells 128 (pos 0) (s .q) (s .q) (directions c s) (directions c other)
+    directions-move : MovesCells 128 (pos 0) (s .q) (s .q) (directions marks c s) (directions marks c other)
     unfolding directions
     directions-move =
-        directionsOf-moves w (s .q) (z .q) (z .some) (rotatedV c s .a) (rotatedV c other .a) (state-moves .matrix) (state-bears .matrix) (rotatedV c s .v) (rotatedV c other .v) (state-moves .vectors)
+        directionsOf-moves w (s .q) (z .q) (z .some) (rotatedV marks c s .a) (rotatedV marks c other .a) (state-moves .matrix) (state-bears .matrix) (rotatedV marks c s .v) (rotatedV marks c other .v) (state-moves .vectors)
 
-    jx-moves : MovesStack 128 w (s .n) (s .q) (s .q) (jxStack c s) (jxStack c other)
+    jx-moves : MovesStack 128 w (s .n) (s .q) (s .q) (jxStack marks c s) (jxStack marks c other)
     unfolding jxStack
-    jx-moves = turnedAll-moves (s .q) (z .q) (directions c s) (directions c other) directions-move w two-small (s .n) (z .n) (jStack c s) (jStack c other) js-moves
+    jx-moves = turnedAll-moves (s .q) (z .q) (directions marks c s) (directions marks c other) directions-move w two-small (s .n) (z .n) (jStack marks c s) (jStack marks c other) js-moves
 
-    fSeveral-agrees : fSeveral c other .value ≡ fSeveral c s .value
+    fSeveral-agrees : fSeveral marks c other .value ≡ fSeveral marks c s .value
     unfolding fSeveral
     fSeveral-agrees =
-        still-value (fSeveral c s) (fSeveral c other)
-        (squaresOver-moves k two-small (s .q) (projected (s .q) (directions c s) (ldRows c s)) (projected (s .q) (directions c other) (ldRows c other)) (variances c s) (variances c other)
-        (projected-moves (s .q) (z .q) (directions c s) (directions c other) directions-move k one-small (ldRows c s) (ldRows c other) ld-moves) variances-move) (several-bears .1)
+        still-value (fSeveral marks c s) (fSeveral marks c other)
+        (squaresOver-moves k two-small (s .q) (projected marks (s .q) (directions marks c s) (ldRows marks c s)) (projected marks (s .q) (directions marks c other) (ldRows marks c other)) (variances marks c s) (variances marks c other)
+        (projected-moves (s .q) (z .q) (directions marks c s) (directions marks c other) directions-move k one-small (ldRows marks c s) (ldRows marks c other) ld-moves) variances-move) (several-bears .1)
 
-    dfSeveral-agrees : dfSeveral c other ≡ dfSeveral c s
+    dfSeveral-agrees : dfSeveral marks c other ≡ dfSeveral marks c s
     unfolding dfSeveral seenSeveral
     dfSeveral-agrees =
         ap (severalDf (s .q))
-        (componentDfs-agree (s .n) (s .q) few (variances c s) (directions c s) (jxStack c s) (also rotationsSeen (fSeveral c s)) b w c (s .a) (r .a)
-        (variances c other) (directions c other) (jxStack c other) (e .a) variances-move variances-bear
-        (λ i h. gradientAt-moves (s .q) (z .q) (directions c s) (directions c other) directions-move w two-small (s .n) (z .n) (jxStack c s) (jxStack c other) jx-moves i h))
+        (componentDfs-agree (s .n) (s .q) few (variances marks c s) (directions marks c s) (jxStack marks c s) (also rotationsSeen (fSeveral marks c s)) b w c (s .a) (r .a)
+        (variances marks c other) (directions marks c other) (jxStack marks c other) (e .a) variances-move variances-bear
+        (λ i h. gradientAt-moves (s .q) (z .q) (directions marks c s) (directions marks c other) directions-move w two-small (s .n) (z .n) (jxStack marks c s) (jxStack marks c other) jx-moves i h))
 
-    several-survives : SameOutcome (severalRows c s) (severalRows c other)
+    several-survives : SameOutcome (severalRows marks c s) (severalRows marks c other)
     unfolding severalRows
     several-survives = record {
-      refused = notPositive-agrees w (s .q) (z .q) (z .some) (rotatedV c s .a) (rotatedV c other .a) (state-moves .matrix) (state-bears .matrix);
+      refused = notPositive-agrees w (s .q) (z .q) (z .some) (rotatedV marks c s .a) (rotatedV marks c other .a) (state-moves .matrix) (state-bears .matrix);
       f = ap numberOf fSeveral-agrees;
       df = dfSeveral-agrees;
       rank = refl;
     }
 
   -- ---- whole
-  one-inside : T (oneRow c s .entry .inside) → SameOutcome (oneRow c s) (oneRow c other)
+  one-inside : T (oneRow marks c s .entry .inside) → SameOutcome (oneRow marks c s) (oneRow marks c other)
   unfolding oneRow
-  one-inside t = one-survives (inside-bears (seenOne c s) (omega arith) t)
+  one-inside t = one-survives (inside-bears (seenOne marks c s) (omega arith) t)
 
-  several-inside : T (severalRows c s .entry .inside) → SameOutcome (severalRows c s) (severalRows c other)
+  several-inside : T (severalRows marks c s .entry .inside) → SameOutcome (severalRows marks c s) (severalRows marks c other)
   unfolding severalRows
-  several-inside t = several-survives (inside-bears (seenSeveral c s) (omega arith) t)
+  several-inside t = several-survives (inside-bears (seenSeveral marks c s) (omega arith) t)
 
-  numbers-survive : T (satterthwaite c s .entry .inside) → SameOutcome (satterthwaite c s) (satterthwaite c other)
+  numbers-survive : T (satterthwaite marks c s .entry .inside) → SameOutcome (satterthwaite marks c s) (satterthwaite marks c other)
   unfolding satterthwaite
   numbers-survive = go (eqb (s .q) 1)
     where
-      go : (x : Bool) → T (cond x (oneRow c s) (severalRows c s) .entry .inside)
-          → SameOutcome (cond x (oneRow c s) (severalRows c s)) (cond x (oneRow c other) (severalRows c other))
+      go : (x : Bool) → T (cond x (oneRow marks c s) (severalRows marks c s) .entry .inside)
+          → SameOutcome (cond x (oneRow marks c s) (severalRows marks c s)) (cond x (oneRow marks c other) (severalRows marks c other))
       go true t = one-inside t
       go false t = several-inside t
 
 -- ---- DEMAND 3 for the Satterthwaite test
 pub satterthwaite-survives : (c : Cutoffs) → T (fits binary64 (c .rotation)) → (k : ℤ) → natAbs k ≤ 32 → (s s' : Inputs) → InputSizes s → ConvertedInputs k s s'
-    → T (satterthwaite c s .entry .inside) → SameOutcome (satterthwaite c s) (satterthwaite c s')
+    → T (satterthwaite marks c s .entry .inside) → SameOutcome (satterthwaite marks c s) (satterthwaite marks c s')
 satterthwaite-survives c fine k small s s' z e t = rw same at (numbers-survive c fine k small s s' z (rw same e) t)
   where
     sized : ℕ → ℕ → ℕ → Inputs

@@ -8,13 +8,11 @@ use lib.Dec.{eqb}
 use lib.ListN.{getD, set}
 use lib.IntN.{negsuc}
 use lib.Ieee.{Float, nan, fin, binary64, mul, div, lt}
-use Rattle.arithmetic.specs.declared.Marked.{Marked}
 use Rattle.arithmetic.specs.Numbers.{plusZero, magnitude, isZero, ofCount}
 use Rattle.arithmetic.specs.SquareRoot.{squareRoot}
-use Rattle.arithmetic.specs.Marks.{given, markedDiv}
 use Rattle.algebra.specs.Fold.{fold}
 use Rattle.algebra.specs.Table.{row, table}
-use Rattle.algebra.specs.Kind.{floats}
+use Rattle.algebra.specs.Kind.{Arith, zeroOf, floats}
 use Rattle.algebra.specs.Product.{at, sum}
 use Rattle.algebra.specs.Jacobi.{ratio, tangent, cosine, sine, turnedFirst, turnedSecond}
 use Rattle.algebra.specs.Small.{Rows, values, allMarks}
@@ -24,15 +22,15 @@ use Rattle.tests.specs.Order.{indexAt}
 unfoldable pub largest : ℕ → List Float → Float
 largest p xs = fold 0 p (λ j s. let v : Float = magnitude (getD xs j nan) in cond (lt s v) v s) plusZero
 
--- "each nonzero row divided by its largest magnitude": cell (i, j); a zero row stays
-unfoldable pub dividedCell : ℕ → Rows → ℕ → ℕ → Marked
-dividedCell p l i j =
+-- "each nonzero row divided by its largest magnitude": cell (i, j); a zero row stays. These divisions are the marked steps, the rest is on their values.
+unfoldable pub dividedCell : {A : Type 0} → Arith A → ℕ → Rows → ℕ → ℕ → A
+dividedCell {A} N p l i j =
     let scale : Float = largest p (getD l i []) in
-    let x : Marked = given (at floats l i j) in
-    cond (lt plusZero scale) (markedDiv x (given scale)) x
+    let x : A = N .of (at floats l i j) in
+    cond (lt plusZero scale) (N .over x (N .of scale)) x
 
-unfoldable pub divided : ℕ → ℕ → Rows → List (List Marked)
-divided rows p l = table (given plusZero) 6 6 rows p (dividedCell p l)
+unfoldable pub divided : {A : Type 0} → Arith A → ℕ → ℕ → Rows → List (List A)
+divided N rows p l = table (zeroOf N) 6 6 rows p (dividedCell N p l)
 
 -- "x·y", of rows i and j
 unfoldable pub rowDot : ℕ → Rows → ℕ → ℕ → Float
@@ -82,17 +80,17 @@ unfoldable pub basisRows : ℕ → ℕ → ℕ → Rows → List Float → Rows
 basisRows rows p rank m ns = table plusZero 6 6 rank p (λ k j. div binary64 (at floats m (indexAt rows ns k) j) (singular rows ns k))
 
 -- the basis: its rows, its rank, and a number whose mark counts every division of the contrast's rows
-pub record Basis : Type 0 where
+pub record Basis (A : Type 0) : Type 0 where
   pub rows : Rows
   pub rank : ℕ
-  pub seen : Marked
+  pub seen : A
 
 -- "One row: done. Otherwise 30 sweeps over row pairs (x,y)"
-unfoldable pub contrastBasis : ℕ → ℕ → Rows → Basis
-contrastBasis rows p l =
-    let d : List (List Marked) = divided rows p l in
-    let seen : Marked = allMarks rows p d (given plusZero) in
-    let m : Rows = sweepsTo 30 rows p (values 6 6 rows p d) in
+unfoldable pub contrastBasis : {A : Type 0} → Arith A → ℕ → ℕ → Rows → Basis A
+contrastBasis {A} N rows p l =
+    let d : List (List A) = divided N rows p l in
+    let seen : A = allMarks N rows p d (zeroOf N) in
+    let m : Rows = sweepsTo 30 rows p (values N 6 6 rows p d) in
     let ns : List Float = norms rows p m in
     let rank : ℕ = rankOf rows p ns in
-    cond (eqb rows 1) (record { rows = values 6 6 rows p d; rank = 1; seen = seen }) (record { rows = basisRows rows p rank m ns; rank = rank; seen = seen })
+    cond (eqb rows 1) (record { rows = values N 6 6 rows p d; rank = 1; seen = seen }) (record { rows = basisRows rows p rank m ns; rank = rank; seen = seen })

@@ -8,6 +8,7 @@ use arithmetic::plain::is_finite;
 use arithmetic_steps::div;
 use arithmetic_steps::mul;
 use arithmetic_steps::square_root;
+ghost use Rattle.algebra.specs.Kind.{marks};
 
 // Finite and above zero: what one row's variance, a2, r and an eigenvalue have to be.
 pub fn is_positive(x: f64) -> bool
@@ -18,7 +19,7 @@ pub fn is_positive(x: f64) -> bool
 
 // The square of one row, whatever its variance is.
 pub fn square_one(ld: Marked, v: Marked) -> Marked
-    ensures { λ r. ⌜ r ≡ squareOne ld v ⌝ }
+    ensures { λ r. ⌜ r ≡ squareOne marks ld v ⌝ }
 {
     let t = div(ld, square_root(v));
     mul(t, t)
@@ -27,7 +28,7 @@ pub fn square_one(ld: Marked, v: Marked) -> Marked
 // `seen`, with the marks of n matrices counted.
 pub fn stack_seen(ms: [[[Marked; 6]; 6]; 4], n: usize, q: usize, seen: Marked) -> Marked
     requires { ⌜ (n ≤ 4) × (q ≤ 6) ⌝ }
-    ensures { λ r. ⌜ r ≡ stackSeen n q ms seen ⌝ }
+    ensures { λ r. ⌜ r ≡ stackSeen marks n q ms seen ⌝ }
 {
     let mut all = seen;
     for i in 0..n {

@@ -12,7 +12,7 @@ use Rattle.arithmetic.specs.Numbers.{plusZero, isZero, ofCount}
 use Rattle.arithmetic.specs.Marks.{marked, given, isInside, markedDiv}
 use Rattle.algebra.specs.Fold.{fold}
 use Rattle.algebra.specs.Table.{row}
-use Rattle.algebra.specs.Kind.{floats}
+use Rattle.algebra.specs.Kind.{floats, marks}
 use Rattle.algebra.specs.Product.{at}
 use Rattle.algebra.specs.Jacobi.{ratio, tangent, cosine, sine, turnedFirst, turnedSecond}
 use Rattle.algebra.specs.Small.{Rows, values, allMarks}
@@ -21,13 +21,13 @@ use Rattle.tests.specs.Basis.{Basis, largest, dividedCell, divided, rowDot, tur
 
 -- a cell of a row that is not zero, and of one that is
 module _ (p i j : ℕ) (l : Rows) (scale : Float) (x : Marked) (es : scale ≡ largest p (getD l i [])) (ex : x ≡ given (at floats l i j)) where
-  pub divided-over : (y r : Marked) → lt plusZero scale ≡ true → y ≡ given scale → r ≡ markedDiv x y → r ≡ dividedCell p l i j
+  pub divided-over : (y r : Marked) → lt plusZero scale ≡ true → y ≡ given scale → r ≡ markedDiv x y → r ≡ dividedCell marks p l i j
   unfolding dividedCell
   divided-over y r t ey er =
       let f : lt plusZero (largest p (getD l i [])) ≡ true = rw es at t in
       rw (er, ey, ex, es, f)
 
-  pub divided-stays : lt plusZero scale ≡ false → x ≡ dividedCell p l i j
+  pub divided-stays : lt plusZero scale ≡ false → x ≡ dividedCell marks p l i j
   unfolding dividedCell
   divided-stays t =
       let f : lt plusZero (largest p (getD l i [])) ≡ false = rw es at t in
@@ -75,17 +75,17 @@ marked-is : (x : Float) (m : Marked) → m .value ≡ x → marked x (m .inside)
 marked-is x m e = rw (← e)
 
 -- the basis of one row, and of several
-module _ (rows p : ℕ) (l : Rows) (d : List (List Marked)) (zero all : Marked) (inside : Bool) (m : Rows) (ed : d ≡ divided rows p l) (ez : zero ≡ given plusZero)
-    (ea : all ≡ allMarks rows p d zero) (ei : inside ≡ isInside all) (em : m ≡ values 6 6 rows p d) where
-  seen-is : marked plusZero inside ≡ allMarks rows p (divided rows p l) (given plusZero)
-  seen-is = rw (ei, ea, ez, ed) (marked-is plusZero (allMarks rows p (divided rows p l) (given plusZero)) (allMarks-value rows p (divided rows p l) (given plusZero)))
+module _ (rows p : ℕ) (l : Rows) (d : List (List Marked)) (zero all : Marked) (inside : Bool) (m : Rows) (ed : d ≡ divided marks rows p l) (ez : zero ≡ given plusZero)
+    (ea : all ≡ allMarks marks rows p d zero) (ei : inside ≡ isInside all) (em : m ≡ values marks 6 6 rows p d) where
+  seen-is : marked plusZero inside ≡ allMarks marks rows p (divided marks rows p l) (given plusZero)
+  seen-is = rw (ei, ea, ez, ed) (marked-is plusZero (allMarks marks rows p (divided marks rows p l) (given plusZero)) (allMarks-value rows p (divided marks rows p l) (given plusZero)))
 
-  pub basis-of-one : rows ≡ 1 → _≡_ {A = Basis} (record { rows = m; rank = 1; seen = marked plusZero inside }) (contrastBasis rows p l)
+  pub basis-of-one : rows ≡ 1 → _≡_ {A = Basis Marked} (record { rows = m; rank = 1; seen = marked plusZero inside }) (contrastBasis marks rows p l)
   unfolding contrastBasis
   basis-of-one h = rw (eq-eqb rows 1 h, seen-is, em, ed)
 
   pub basis-of-several : (t r : Rows) (rank : ℕ) → (rows ≡ 1 → ⊥) → t ≡ sweepsTo 30 rows p m → rank ≡ rankOf rows p (norms rows p t)
       → r ≡ basisRows rows p rank t (norms rows p t)
-      → _≡_ {A = Basis} (record { rows = r; rank = rank; seen = marked plusZero inside }) (contrastBasis rows p l)
+      → _≡_ {A = Basis Marked} (record { rows = r; rank = rank; seen = marked plusZero inside }) (contrastBasis marks rows p l)
   unfolding contrastBasis
   basis-of-several t r rank h et en er = rw (ne-eqb rows 1 h, seen-is, er, en, et, em, ed)

@@ -13,8 +13,10 @@ use lib.ListN.{getD}
 use lib.Ieee.{Float, nan, inf, fin, binary64, up, down, mul, lt}
 use lib.Ieee.Exact.{HasValue}
 use borrow.Author.Tests.{lt-ltb}
+use Rattle.arithmetic.specs.declared.Marked.{Marked}
 use Rattle.arithmetic.specs.Numbers.{ofCount}
 use Rattle.arithmetic.proofs.PlainLaws.{count-exact}
+use Rattle.algebra.specs.Kind.{marks}
 use Rattle.algebra.proofs.FoldLaws.{fold-steps}
 use Rattle.algebra.specs.Small.{Rows, values}
 use Rattle.tests.specs.Order.{indexAt}
@@ -45,14 +47,14 @@ picked P true x y p q = p
 picked P false x y p q = q
 
 -- the rank is at most the number of rows and of columns
-pub rank-most : (rows p : ℕ) (l : Rows) → 1 ≤ rows → 1 ≤ p → contrastBasis rows p l .rank ≤ min rows p
+pub rank-most : (rows p : ℕ) (l : Rows) → 1 ≤ rows → 1 ≤ p → contrastBasis marks rows p l .rank ≤ min rows p
 unfolding contrastBasis
 rank-most rows p l h k =
-    let m : Rows = sweepsTo 30 rows p (values 6 6 rows p (divided rows p l)) in
-    picked (λ (x : Basis). x .rank ≤ min rows p) (eqb rows 1) _ _ (le-min h k) (counted-most rows p (norms rows p m))
+    let m : Rows = sweepsTo 30 rows p (values marks 6 6 rows p (divided marks rows p l)) in
+    picked (λ (x : Basis Marked). x .rank ≤ min rows p) (eqb rows 1) _ _ (le-min h k) (counted-most rows p (norms rows p m))
 
 -- one row: the rank is 1
-pub rank-one : (p : ℕ) (l : Rows) → contrastBasis 1 p l .rank ≡ 1
+pub rank-one : (p : ℕ) (l : Rows) → contrastBasis marks 1 p l .rank ≡ 1
 unfolding contrastBasis
 rank-one p l = refl
 
@@ -171,8 +173,8 @@ module _ (rows p : ℕ) (m : Rows) (B : 1 ≤ rows) (R : rows ≤ 6) (P : p ≤ 
       step k s e (no z) = more (lt (tolerance rows p ns) (singular rows ns k)) s (e (omega arith))
 
 -- the rank of a contrast of finite cells that are not all zero is at least 1
-pub rank-least : (rows p : ℕ) (l : Rows) → 1 ≤ rows → rows ≤ 6 → 1 ≤ p → p ≤ 6 → Contrast rows p l → 1 ≤ contrastBasis rows p l .rank
+pub rank-least : (rows p : ℕ) (l : Rows) → 1 ≤ rows → rows ≤ 6 → 1 ≤ p → p ≤ 6 → Contrast rows p l → 1 ≤ contrastBasis marks rows p l .rank
 unfolding contrastBasis
 rank-least rows p l B R C P c =
-    let m : Rows = sweepsTo 30 rows p (values 6 6 rows p (divided rows p l)) in
-    picked (λ (x : Basis). 1 ≤ x .rank) (eqb rows 1) _ _ (le-refl 1) (counted-least rows p m B R P (good-sweeps R P (values 6 6 rows p (divided rows p l)) (good-start R P c)) C)
+    let m : Rows = sweepsTo 30 rows p (values marks 6 6 rows p (divided marks rows p l)) in
+    picked (λ (x : Basis Marked). 1 ≤ x .rank) (eqb rows 1) _ _ (le-refl 1) (counted-least rows p m B R P (good-sweeps R P (values marks 6 6 rows p (divided marks rows p l)) (good-start R P c)) C)

@@ -80,21 +80,21 @@ largest-is p xs u =
             (record { size = r .size; is = r .is; most = most (r .size) (le-refl (r .size)) (omega arith); met = r .met })
 
 -- ---- a divided cell
-over-cell : (p : ℕ) (l : Rows) (i j : ℕ) → lt plusZero (largest p (getD l i [])) ≡ true → dividedCell p l i j .value ≡ div binary64 (at floats l i j) (largest p (getD l i []))
+over-cell : (p : ℕ) (l : Rows) (i j : ℕ) → lt plusZero (largest p (getD l i [])) ≡ true → dividedCell marks p l i j .value ≡ div binary64 (at floats l i j) (largest p (getD l i []))
 unfolding dividedCell
 over-cell p l i j e = rw e (div-value (given (at floats l i j)) (given (largest p (getD l i []))))
 
-as-cell : (p : ℕ) (l : Rows) (i j : ℕ) → lt plusZero (largest p (getD l i [])) ≡ false → dividedCell p l i j .value ≡ at floats l i j
+as-cell : (p : ℕ) (l : Rows) (i j : ℕ) → lt plusZero (largest p (getD l i [])) ≡ false → dividedCell marks p l i j .value ≡ at floats l i j
 unfolding dividedCell
 as-cell p l i j e = rw e
 
-value-at : (rows p : ℕ) (l : Rows) (i j : ℕ) → rows ≤ 6 → p ≤ 6 → i < rows → j < p → at floats (values 6 6 rows p (divided rows p l)) i j ≡ dividedCell p l i j .value
+value-at : (rows p : ℕ) (l : Rows) (i j : ℕ) → rows ≤ 6 → p ≤ 6 → i < rows → j < p → at floats (values marks 6 6 rows p (divided marks rows p l)) i j ≡ dividedCell marks p l i j .value
 unfolding values divided
 value-at rows p l i j R C h k =
     table-at plusZero 6 6 rows p _ i j nan h k R C
-    ∙ ap (λ (x : Marked). x .value) (table-at (given plusZero) 6 6 rows p (dividedCell p l) i j (marked nan false) h k R C)
+    ∙ ap (λ (x : Marked). x .value) (table-at (given plusZero) 6 6 rows p (dividedCell marks p l) i j (marked nan false) h k R C)
 
-values-six : (rows p : ℕ) (d : List (List Marked)) → length (values 6 6 rows p d) ≡ 6
+values-six : (rows p : ℕ) (d : List (List Marked)) → length (values marks 6 6 rows p d) ≡ 6
 unfolding values
 values-six rows p d = length-table plusZero 6 6 rows p (λ i j. at marks d i j .value)
 
@@ -114,7 +114,7 @@ module _ {rows p : ℕ} {l : Rows} (R : rows ≤ 6) (P : p ≤ 6) (c : Contrast 
   scale-is : (i : ℕ) → i < rows → Largest (getD l i []) p p (largest p (getD l i []))
   scale-is i h = largest-is p (getD l i []) (λ b k. cell-units i b h k)
 
-  start-most : (i j : ℕ) → i < rows → j < p → Most (dividedCell p l i j .value) (unit * 2 ^ 0)
+  start-most : (i j : ℕ) → i < rows → j < p → Most (dividedCell marks p l i j .value) (unit * 2 ^ 0)
   start-most i j h k = go (decLt 0 n)
     where
       s : Largest (getD l i []) p p (largest p (getD l i []))
@@ -135,7 +135,7 @@ module _ {rows p : ℕ} {l : Rows} (R : rows ≤ 6) (P : p ≤ 6) (c : Contrast 
       none : (n U : ℕ) → (0 < n → ⊥) → n ≤ U * 2 ^ 0
       none n U g = omega arith
 
-      go : Dec (0 < n) → Most (dividedCell p l i j .value) (unit * 2 ^ 0)
+      go : Dec (0 < n) → Most (dividedCell marks p l i j .value) (unit * 2 ^ 0)
       go (yes g) =
           let r = rounds-most 0 (div-rounds (u .2) (s .is) g) g (lit< tt) (quotient-most (u .1) n unit below) in
           subst (λ (x : Float). Most x (unit * 2 ^ 0)) (sym (over-cell p l i j (test ∙ lt-ltb 0 n g)))
@@ -145,7 +145,7 @@ module _ {rows p : ℕ} {l : Rows} (R : rows ≤ 6) (P : p ≤ 6) (c : Contrast 
           (record { sign = u .0; size = u .1; is = u .2; most = le-trans below (none n unit g) })
 
   -- the cell with the largest magnitude of the row of a cell that is not zero
-  start-least : (b : ℕ) × (b < p) × Least (dividedCell p l (c .i) b .value) 0
+  start-least : (b : ℕ) × (b < p) × Least (dividedCell marks p l (c .i) b .value) 0
   start-least = go (s .met)
     where
       s : Largest (getD l (c .i) []) p p (largest p (getD l (c .i) []))
@@ -166,7 +166,7 @@ module _ {rows p : ℕ} {l : Rows} (R : rows ≤ 6) (P : p ≤ 6) (c : Contrast 
       test : lt plusZero (largest p (getD l (c .i) [])) ≡ true
       test = lt-units nil-units (s .is) ∙ lt-ltb 0 n above
 
-      go : (n ≡ 0) ⊎ ((b : ℕ) × (b < p) × (t : Bool) × Is (at floats l (c .i) b) t n) → (b : ℕ) × (b < p) × Least (dividedCell p l (c .i) b .value) 0
+      go : (n ≡ 0) ⊎ ((b : ℕ) × (b < p) × (t : Bool) × Is (at floats l (c .i) b) t n) → (b : ℕ) × (b < p) × Least (dividedCell marks p l (c .i) b .value) 0
       go (inl e) = absurd (lt-irrefl 0 (subst (λ (z : ℕ). 0 < z) e above))
       go (inr (b, h, t, i)) =
           let r = rounds-most 0 (div-rounds i (s .is) above) above (lit< tt) (quotient-most n n unit (le-refl n)) in (
@@ -176,11 +176,11 @@ module _ {rows p : ℕ} {l : Rows} (R : rows ≤ 6) (P : p ≤ 6) (c : Contrast 
                 (record { sign = unlike t false; size = fl (n * unit) n; is = r .0; least = fl-least (n * unit) n 0 above (lit≤ tt) (quotient-least n unit) }),
           )
 
-  pub good-start : Good rows p 0 (values 6 6 rows p (divided rows p l))
+  pub good-start : Good rows p 0 (values marks 6 6 rows p (divided marks rows p l))
   good-start =
       let w = start-least in
       record {
-        six = values-six rows p (divided rows p l);
+        six = values-six rows p (divided marks rows p l);
         cells = λ i j h k. subst (λ (x : Float). Most x (unit * 2 ^ 0)) (sym (value-at rows p l i j R P h k)) (start-most i j h k);
         i = c .i;
         j = w .0;

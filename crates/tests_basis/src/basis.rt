@@ -8,7 +8,7 @@ ghost use Rattle.arithmetic.specs.Numbers.{plusZero};
 ghost use Rattle.arithmetic.specs.Marks.{marked};
 ghost use Rattle.algebra.specs.Fold.{fold};
 ghost use Rattle.algebra.specs.Table.{row};
-ghost use Rattle.algebra.specs.Kind.{floats};
+ghost use Rattle.algebra.specs.Kind.{floats, marks};
 ghost use Rattle.algebra.specs.Product.{at, sum};
 ghost use Rattle.algebra.specs.Jacobi.{ratio, tangent, turnedFirst, turnedSecond};
 ghost use Rattle.tests.specs.Order.{indexAt};
@@ -51,7 +51,7 @@ pub fn largest(p: usize, row: [f64; 6]) -> f64
 // A cell of the contrast over its row's largest magnitude. A zero row stays.
 pub fn divided_cell(p: usize, l: [[f64; 6]; 6], i: usize, j: usize) -> Marked
     requires { ⌜ (p ≤ 6) × (i < 6) × (j < 6) ⌝ }
-    ensures { λ r. ⌜ r ≡ dividedCell p l i j ⌝ }
+    ensures { λ r. ⌜ r ≡ dividedCell marks p l i j ⌝ }
 {
     let scale = largest(p, l[i]);
     let x = given(l[i][j]);
@@ -63,7 +63,7 @@ pub fn divided_cell(p: usize, l: [[f64; 6]; 6], i: usize, j: usize) -> Marked
 
 pub fn divided(rows: usize, p: usize, l: [[f64; 6]; 6]) -> [[Marked; 6]; 6]
     requires { ⌜ (rows ≤ 6) × (p ≤ 6) ⌝ }
-    ensures { λ r. ⌜ r ≡ divided rows p l ⌝ }
+    ensures { λ r. ⌜ r ≡ divided marks rows p l ⌝ }
 {
     let mut out = algebra_products_marked::cells::zeros();
     for i in 0..rows {
@@ -297,7 +297,7 @@ pub fn contrast_basis(
     seen: &mut bool,
 ) -> [[f64; 6]; 6]
     requires { ⌜ (rows ≤ 6) × (p ≤ 6) ⌝ }
-    ensures { λ r. ⌜ (record { rows = r; rank = now (rank .exit); seen = marked plusZero (now (seen .exit)) } ≡ contrastBasis rows p l) × (now (rank .exit) ≤ 6) ⌝ }
+    ensures { λ r. ⌜ (record { rows = r; rank = now (rank .exit); seen = marked plusZero (now (seen .exit)) } ≡ contrastBasis marks rows p l) × (now (rank .exit) ≤ 6) ⌝ }
 {
     let d = divided(rows, p, l);
     let all = algebra_products_marked::cells::all_marks(d, rows, p, given(0.0));

@@ -39,7 +39,7 @@ use tests_falling_order::index_at;
 // The diagonal that Jacobi ends with.
 pub fn eigenvalues(d: [[Marked; 6]; 6], q: usize) -> [f64; 6]
     requires { ⌜ q ≤ 6 ⌝ }
-    ensures { λ r. ⌜ r ≡ eigenvalues q d ⌝ }
+    ensures { λ r. ⌜ r ≡ eigenvalues marks q d ⌝ }
 {
     let mut out = [0.0; 6];
     for i in 0..q {
@@ -73,7 +73,7 @@ pub fn variance_at(d: [[Marked; 6]; 6], es: [f64; 6], q: usize, k: usize) -> Mar
 // The eigenvalues in falling order.
 pub fn variances_of(d: [[Marked; 6]; 6], es: [f64; 6], q: usize) -> [Marked; 6]
     requires { ⌜ q ≤ 6 ⌝ }
-    ensures { λ r. ⌜ r ≡ variancesOf q es d ⌝ }
+    ensures { λ r. ⌜ r ≡ variancesOf marks q es d ⌝ }
 {
     let mut out = no_marks();
     for k in 0..q {
@@ -94,7 +94,7 @@ pub fn direction_cell(v: [[Marked; 6]; 6], es: [f64; 6], q: usize, r: usize, k: 
 // The eigenvectors as columns, in the order of their eigenvalues.
 pub fn directions_of(v: [[Marked; 6]; 6], es: [f64; 6], q: usize) -> [[Marked; 6]; 6]
     requires { ⌜ q ≤ 6 ⌝ }
-    ensures { λ x. ⌜ x ≡ directionsOf q es v ⌝ }
+    ensures { λ x. ⌜ x ≡ directionsOf marks q es v ⌝ }
 {
     let mut out = zeros();
     for r in 0..q {
@@ -108,7 +108,7 @@ pub fn directions_of(v: [[Marked; 6]; 6], es: [f64; 6], q: usize) -> [[Marked; 6
 // x·LβD for each eigenvector x.
 pub fn projected(x: [[Marked; 6]; 6], ld: [[Marked; 6]; 6], q: usize) -> [[Marked; 6]; 6]
     requires { ⌜ q ≤ 6 ⌝ }
-    ensures { λ r. ⌜ r ≡ projected q x ld ⌝ }
+    ensures { λ r. ⌜ r ≡ projected marks q x ld ⌝ }
 {
     let turned = transpose(x, q, q);
     product(turned, ld, q, q, 1)
@@ -117,7 +117,7 @@ pub fn projected(x: [[Marked; 6]; 6], ld: [[Marked; 6]; 6], q: usize) -> [[Marke
 // What component k adds to F.
 pub fn square_over(y: [[Marked; 6]; 6], es: [Marked; 6], k: usize) -> Marked
     requires { ⌜ k < 6 ⌝ }
-    ensures { λ r. ⌜ r ≡ markedDiv (markedMul (at marks y k 0) (at marks y k 0)) (entryAt es k) ⌝ }
+    ensures { λ r. ⌜ r ≡ markedDiv (markedMul (at marks y k 0) (at marks y k 0)) (entryAt marks es k) ⌝ }
 {
     div(mul(y[k][0], y[k][0]), es[k])
 }
@@ -125,7 +125,7 @@ pub fn square_over(y: [[Marked; 6]; 6], es: [Marked; 6], k: usize) -> Marked
 // The sum of what the components add to F.
 pub fn squares_sum(y: [[Marked; 6]; 6], es: [Marked; 6], q: usize) -> Marked
     requires { ⌜ q ≤ 6 ⌝ }
-    ensures { λ r. ⌜ r ≡ sum marks q (λ k. markedDiv (markedMul (at marks y k 0) (at marks y k 0)) (entryAt es k)) ⌝ }
+    ensures { λ r. ⌜ r ≡ sum marks q (λ k. markedDiv (markedMul (at marks y k 0) (at marks y k 0)) (entryAt marks es k)) ⌝ }
 {
     let mut sum = zero_of();
     for k in 0..q {
@@ -137,7 +137,7 @@ pub fn squares_sum(y: [[Marked; 6]; 6], es: [Marked; 6], q: usize) -> Marked
 // F of several rows.
 pub fn squares_over(y: [[Marked; 6]; 6], es: [Marked; 6], q: usize) -> Marked
     requires { ⌜ q ≤ 6 ⌝ }
-    ensures { λ r. ⌜ r ≡ squaresOver q y es ⌝ }
+    ensures { λ r. ⌜ r ≡ squaresOver marks q y es ⌝ }
 {
     div(squares_sum(y, es, q), given(of_count(q)))
 }
@@ -150,7 +150,7 @@ pub fn jx_all(
     q: usize,
 ) -> [[[Marked; 6]; 6]; 4]
     requires { ⌜ (n ≤ 4) × (q ≤ 6) ⌝ }
-    ensures { λ r. ⌜ r ≡ jxAll n q js x ⌝ }
+    ensures { λ r. ⌜ r ≡ jxAll marks n q js x ⌝ }
 {
     let blank = zeros();
     let mut out = [blank; 4];
@@ -204,7 +204,7 @@ pub fn gradient_at(
     k: usize,
 ) -> [Marked; 6]
     requires { ⌜ (n ≤ 4) × (q ≤ 6) × (k < 6) ⌝ }
-    ensures { λ r. ⌜ r ≡ gradientAt n q x jx k ⌝ }
+    ensures { λ r. ⌜ r ≡ gradientAt marks n q x jx k ⌝ }
 {
     let turned = transpose(x, q, q);
     gradient_of(turned, jx, n, q, k)
@@ -252,7 +252,7 @@ pub fn component_df(
     k: usize,
 ) -> Number
     requires { ⌜ (n ≤ 4) × (q ≤ 6) × (k < 6) ⌝ }
-    ensures { λ r. ⌜ r ≡ componentDf c n q a es x jx k ⌝ }
+    ensures { λ r. ⌜ r ≡ componentDf marks c n q a es x jx k ⌝ }
 {
     let gradient = gradient_at(x, jx, n, q, k);
     let df = variance_df(es[k], gradient, a, n);
@@ -270,7 +270,7 @@ pub fn component_dfs(
     q: usize,
 ) -> [f64; 6]
     requires { ⌜ (n ≤ 4) × (q ≤ 6) ⌝ }
-    ensures { λ r. ⌜ r ≡ componentDfs c n q a es x jx ⌝ }
+    ensures { λ r. ⌜ r ≡ componentDfs marks c n q a es x jx ⌝ }
 {
     let mut out = [0.0; 6];
     for k in 0..q {
@@ -313,7 +313,7 @@ pub fn component_seen(
     seen: Marked,
 ) -> Marked
     requires { ⌜ (n ≤ 4) × (q ≤ 6) × (k < 6) ⌝ }
-    ensures { λ r. ⌜ r ≡ gradientSeen n (entryAt es k) (gradientAt n q x jx k) seen ⌝ }
+    ensures { λ r. ⌜ r ≡ gradientSeen marks n (entryAt marks es k) (gradientAt marks n q x jx k) seen ⌝ }
 {
     let gradient = gradient_at(x, jx, n, q, k);
     gradient_seen(es[k], gradient, n, seen)
@@ -329,7 +329,7 @@ pub fn components_seen(
     seen: Marked,
 ) -> Marked
     requires { ⌜ (n ≤ 4) × (q ≤ 6) ⌝ }
-    ensures { λ r. ⌜ r ≡ componentsSeen n q es x jx seen ⌝ }
+    ensures { λ r. ⌜ r ≡ componentsSeen marks n q es x jx seen ⌝ }
 {
     let mut all = seen;
     for k in 0..q {

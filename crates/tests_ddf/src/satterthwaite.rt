@@ -37,7 +37,7 @@ use tests::number_of;
 // The gradient of one row's variance.
 pub fn gradient_one(js: [[[Marked; 6]; 6]; 4], n: usize) -> [Marked; 6]
     requires { ⌜ n ≤ 4 ⌝ }
-    ensures { λ r. ⌜ r ≡ gradientOne n js ⌝ }
+    ensures { λ r. ⌜ r ≡ gradientOne marks n js ⌝ }
 {
     let mut out = no_marks();
     for i in 0..n {
@@ -179,8 +179,8 @@ pub fn satterthwaite_contrast_f_test(
     refused: &mut bool,
 ) -> Entry
     requires { ⌜ (p ≤ 6) × (q ≤ 6) × (n ≤ 4) ⌝ }
-    ensures { λ r. ⌜ r ≡ satterthwaite c (inputsOf p q n «l_mat» beta «beta_h» «v_beta» «jac_vcov» «a_mat») .entry ⌝ }
-    ensures { λ r. ⌜ now (refused .exit) ≡ satterthwaite c (inputsOf p q n «l_mat» beta «beta_h» «v_beta» «jac_vcov» «a_mat») .refused ⌝ }
+    ensures { λ r. ⌜ r ≡ satterthwaite marks c (inputsOf p q n «l_mat» beta «beta_h» «v_beta» «jac_vcov» «a_mat») .entry ⌝ }
+    ensures { λ r. ⌜ now (refused .exit) ≡ satterthwaite marks c (inputsOf p q n «l_mat» beta «beta_h» «v_beta» «jac_vcov» «a_mat») .refused ⌝ }
 {
     let l = given_cells(l_mat, q, p);
     let ld = contrast_of(l, beta, beta_h, p, q);

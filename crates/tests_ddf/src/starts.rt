@@ -18,7 +18,7 @@ use tests::both::stack_seen;
 // b as a column.
 pub fn column(b: [f64; 6], p: usize) -> [[Marked; 6]; 6]
     requires { ⌜ p ≤ 6 ⌝ }
-    ensures { λ r. ⌜ r ≡ column p b ⌝ }
+    ensures { λ r. ⌜ r ≡ column marks p b ⌝ }
 {
     let mut out = zeros();
     for i in 0..p {
@@ -30,7 +30,7 @@ pub fn column(b: [f64; 6], p: usize) -> [[Marked; 6]; 6]
 // Lb.
 pub fn applied(l: [[Marked; 6]; 6], b: [f64; 6], p: usize, q: usize) -> [[Marked; 6]; 6]
     requires { ⌜ (p ≤ 6) × (q ≤ 6) ⌝ }
-    ensures { λ r. ⌜ r ≡ product marks 6 6 q p 1 l (column p b) ⌝ }
+    ensures { λ r. ⌜ r ≡ product marks 6 6 q p 1 l (column marks p b) ⌝ }
 {
     let b = column(b, p);
     product(l, b, q, p, 1)
@@ -45,7 +45,7 @@ pub fn contrast_of(
     q: usize,
 ) -> [[Marked; 6]; 6]
     requires { ⌜ (p ≤ 6) × (q ≤ 6) ⌝ }
-    ensures { λ r. ⌜ r ≡ contrastOf p q l beta «beta_h» ⌝ }
+    ensures { λ r. ⌜ r ≡ contrastOf marks p q l beta «beta_h» ⌝ }
 {
     let first = applied(l, beta, p, q);
     let second = applied(l, beta_h, p, q);
@@ -55,7 +55,7 @@ pub fn contrast_of(
 // L m Lᵀ.
 pub fn transformed(l: [[Marked; 6]; 6], m: [[f64; 6]; 6], p: usize, q: usize) -> [[Marked; 6]; 6]
     requires { ⌜ (p ≤ 6) × (q ≤ 6) ⌝ }
-    ensures { λ r. ⌜ r ≡ transformed p q l m ⌝ }
+    ensures { λ r. ⌜ r ≡ transformed marks p q l m ⌝ }
 {
     let inner = given_cells(m, p, p);
     sandwich(l, inner, q, p)
@@ -70,7 +70,7 @@ pub fn transform_contrast(
     q: usize,
 ) -> [[[Marked; 6]; 6]; 4]
     requires { ⌜ (n ≤ 4) × (p ≤ 6) × (q ≤ 6) ⌝ }
-    ensures { λ r. ⌜ r ≡ transformedAll n p q l js ⌝ }
+    ensures { λ r. ⌜ r ≡ transformedAll marks n p q l js ⌝ }
 {
     let blank = zeros();
     let mut out = [blank; 4];

@@ -41,7 +41,7 @@ use tests_moments::scaling_of;
 // Each of the n matrices P in response units.
 pub fn scaled_ps(ps: [[[f64; 6]; 6]; 4], sigma2: f64, n: usize, p: usize) -> [[[Marked; 6]; 6]; 4]
     requires { ⌜ (n ≤ 4) × (p ≤ 6) ⌝ }
-    ensures { λ r. ⌜ r ≡ scaledPs p n ps sigma2 ⌝ }
+    ensures { λ r. ⌜ r ≡ scaledPs marks p n ps sigma2 ⌝ }
 {
     let blank = zeros();
     let mut out = [blank; 4];
@@ -56,7 +56,7 @@ pub fn scaled_ps(ps: [[[f64; 6]; 6]; 4], sigma2: f64, n: usize, p: usize) -> [[[
 // D = β − β_H, as a column.
 pub fn difference(beta: [f64; 6], beta_h: [f64; 6], p: usize) -> [[Marked; 6]; 6]
     requires { ⌜ p ≤ 6 ⌝ }
-    ensures { λ r. ⌜ r ≡ difference p beta «beta_h» ⌝ }
+    ensures { λ r. ⌜ r ≡ difference marks p beta «beta_h» ⌝ }
 {
     let mut out = zeros();
     for i in 0..p {
@@ -68,7 +68,7 @@ pub fn difference(beta: [f64; 6], beta_h: [f64; 6], p: usize) -> [[Marked; 6]; 6
 // Θ, from L and A⁻¹L.
 pub fn theta_of(l: [[Marked; 6]; 6], x: [[Marked; 6]; 6], p: usize, q: usize) -> [[Marked; 6]; 6]
     requires { ⌜ (p ≤ 6) × (q ≤ 6) ⌝ }
-    ensures { λ r. ⌜ r ≡ thetaOf p q l x ⌝ }
+    ensures { λ r. ⌜ r ≡ thetaOf marks p q l x ⌝ }
 {
     let turned = transpose(l, q, p);
     product(turned, x, p, q, p)
@@ -83,7 +83,7 @@ pub fn theta_phi(
     q: usize,
 ) -> [[Marked; 6]; 6]
     requires { ⌜ (p ≤ 6) × (q ≤ 6) ⌝ }
-    ensures { λ r. ⌜ r ≡ product marks 6 6 p p p (thetaOf p q l x) phi ⌝ }
+    ensures { λ r. ⌜ r ≡ product marks 6 6 p p p (thetaOf marks p q l x) phi ⌝ }
 {
     let theta = theta_of(l, x, p, q);
     product(theta, phi, p, p, p)
@@ -97,7 +97,7 @@ pub fn u_of(
     p: usize,
 ) -> [[Marked; 6]; 6]
     requires { ⌜ p ≤ 6 ⌝ }
-    ensures { λ r. ⌜ r ≡ uOf p tp pi phi ⌝ }
+    ensures { λ r. ⌜ r ≡ uOf marks p tp pi phi ⌝ }
 {
     let left = product(tp, pi, p, p, p);
     product(left, phi, p, p, p)
@@ -114,8 +114,8 @@ pub fn u_split(
     plain: &mut [[[f64; 6]; 6]; 4],
 ) -> Marked
     requires { ⌜ (n ≤ 4) × (p ≤ 6) ⌝ }
-    ensures { λ r. ⌜ r ≡ stackSeen n p (uStack n p tp ps phi) seen ⌝ }
-    ensures { λ r. ⌜ now (plain .exit) ≡ uValues n p (uStack n p tp ps phi) ⌝ }
+    ensures { λ r. ⌜ r ≡ stackSeen marks n p (uStack marks n p tp ps phi) seen ⌝ }
+    ensures { λ r. ⌜ now (plain .exit) ≡ uValues marks n p (uStack marks n p tp ps phi) ⌝ }
 {
     let blank = algebra_products::zeros();
     let mut out = [blank; 4];
@@ -150,7 +150,7 @@ pub fn scaling_seen(
 // Wald of several rows: LD · Y.
 pub fn wald_many(ld: [[Marked; 6]; 6], y: [[Marked; 6]; 6], q: usize) -> Marked
     requires { ⌜ q ≤ 6 ⌝ }
-    ensures { λ r. ⌜ r ≡ waldMany q ld y ⌝ }
+    ensures { λ r. ⌜ r ≡ waldMany marks q ld y ⌝ }
 {
     let mut sum = zero_of();
     for i in 0..q {
@@ -327,8 +327,8 @@ pub fn kr_modcomp_full_rank(
     zero_pivot: &mut bool,
 ) -> Entry
     requires { ⌜ (n ≤ 4) × (p ≤ 6) × (q ≤ 6) ⌝ }
-    ensures { λ r. ⌜ r ≡ tested c (scaledOf p n phi «phi_a» ps w) beta «beta_h» (basisOf rows q seen) .entry ⌝ }
-    ensures { λ r. ⌜ now («zero_pivot» .exit) ≡ tested c (scaledOf p n phi «phi_a» ps w) beta «beta_h» (basisOf rows q seen) .refused ⌝ }
+    ensures { λ r. ⌜ r ≡ tested marks c (scaledOf p n phi «phi_a» ps w) beta «beta_h» (basisOf rows q seen) .entry ⌝ }
+    ensures { λ r. ⌜ now («zero_pivot» .exit) ≡ tested marks c (scaledOf p n phi «phi_a» ps w) beta «beta_h» (basisOf rows q seen) .refused ⌝ }
 {
     let l = given_cells(rows, q, p);
     let d = difference(beta, beta_h, p);

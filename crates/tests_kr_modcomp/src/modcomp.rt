@@ -10,6 +10,7 @@ use arithmetic_cutoffs::Cutoffs;
 use arithmetic_steps::seen_of;
 use tests::Entry;
 use tests_basis::basis::contrast_basis;
+ghost use Rattle.algebra.specs.Kind.{marks};
 
 // The test of a contrast of some rows. Its entry holds the rank too, so that it is the Rust's kenward_roger_contrast_f_test as well.
 pub fn kr_modcomp_test(
@@ -27,8 +28,8 @@ pub fn kr_modcomp_test(
     zero_pivot: &mut bool,
 ) -> Entry
     requires { ⌜ (n ≤ 4) × (p ≤ 6) × (rows ≤ 6) ⌝ }
-    ensures { λ r. ⌜ r ≡ contrastTest c (scaledOf p n phi «phi_a» ps w) beta «beta_h» rows l .entry ⌝ }
-    ensures { λ r. ⌜ now («zero_pivot» .exit) ≡ contrastTest c (scaledOf p n phi «phi_a» ps w) beta «beta_h» rows l .refused ⌝ }
+    ensures { λ r. ⌜ r ≡ contrastTest marks c (scaledOf p n phi «phi_a» ps w) beta «beta_h» rows l .entry ⌝ }
+    ensures { λ r. ⌜ now («zero_pivot» .exit) ≡ contrastTest marks c (scaledOf p n phi «phi_a» ps w) beta «beta_h» rows l .refused ⌝ }
 {
     let mut rank: usize = 0;
     let mut inside = false;
@@ -65,8 +66,8 @@ pub fn coefficient_test(
     zero_pivot: &mut bool,
 ) -> Entry
     requires { ⌜ (n ≤ 4) × (p ≤ 6) ⌝ }
-    ensures { λ r. ⌜ r ≡ coefficientTest c (scaledOf p n phi «phi_a» ps w) beta i .entry ⌝ }
-    ensures { λ r. ⌜ now («zero_pivot» .exit) ≡ coefficientTest c (scaledOf p n phi «phi_a» ps w) beta i .refused ⌝ }
+    ensures { λ r. ⌜ r ≡ coefficientTest marks c (scaledOf p n phi «phi_a» ps w) beta i .entry ⌝ }
+    ensures { λ r. ⌜ now («zero_pivot» .exit) ≡ coefficientTest marks c (scaledOf p n phi «phi_a» ps w) beta i .refused ⌝ }
 {
     let l = unit_row(p, i);
     let none = [0.0; 6];

@@ -12,6 +12,7 @@ use tests_entries::no_entry;
 use tests_kr_modcomp::full_rank::scaled_ps;
 use tests_kr_modcomp::modcomp::coefficient_test;
 use tests_kr_modcomp::modcomp::kr_modcomp_test;
+ghost use Rattle.algebra.specs.Kind.{marks};
 
 // The tests of the coefficients, each alone. A zero pivot in any of them refuses the run.
 pub fn coefficients(
@@ -26,8 +27,8 @@ pub fn coefficients(
     refused: &mut bool,
 ) -> [Entry; 7]
     requires { ⌜ (n ≤ 4) × (p ≤ 6) ⌝ }
-    ensures { λ r. ⌜ r ≡ coefficientsTo p c (scaledOf p n phi «phi_a» ps w) beta .entries ⌝ }
-    ensures { λ r. ⌜ now (refused .exit) ≡ coefficientsTo p c (scaledOf p n phi «phi_a» ps w) beta .refused ⌝ }
+    ensures { λ r. ⌜ r ≡ coefficientsTo marks p c (scaledOf p n phi «phi_a» ps w) beta .entries ⌝ }
+    ensures { λ r. ⌜ now (refused .exit) ≡ coefficientsTo marks p c (scaledOf p n phi «phi_a» ps w) beta .refused ⌝ }
 {
     let mut es = [no_entry(); 7];
     let mut any = false;
@@ -57,8 +58,8 @@ pub fn run_scaled(
     refused: &mut bool,
 ) -> [Entry; 7]
     requires { ⌜ (n ≤ 4) × (p ≤ 6) × (rows ≤ 6) ⌝ }
-    ensures { λ r. ⌜ r ≡ runOf c (scaledOf p n phi «phi_a» ps w) beta «beta_h» rows l .entries ⌝ }
-    ensures { λ r. ⌜ now (refused .exit) ≡ runOf c (scaledOf p n phi «phi_a» ps w) beta «beta_h» rows l .refused ⌝ }
+    ensures { λ r. ⌜ r ≡ runOf marks c (scaledOf p n phi «phi_a» ps w) beta «beta_h» rows l .entries ⌝ }
+    ensures { λ r. ⌜ now (refused .exit) ≡ runOf marks c (scaledOf p n phi «phi_a» ps w) beta «beta_h» rows l .refused ⌝ }
 {
     let mut any = false;
     let mut es = coefficients(c, phi, phi_a, ps, w, n, p, beta, &mut any);
@@ -90,8 +91,8 @@ pub fn compute_kenward_roger(
     refused: &mut bool,
 ) -> [Entry; 7]
     requires { ⌜ (n ≤ 4) × (p ≤ 6) × (rows ≤ 6) ⌝ }
-    ensures { λ r. ⌜ r ≡ runOf c (responseUnits p n phi «phi_a» ps w sigma2) beta «beta_h» rows l .entries ⌝ }
-    ensures { λ r. ⌜ now (refused .exit) ≡ runOf c (responseUnits p n phi «phi_a» ps w sigma2) beta «beta_h» rows l .refused ⌝ }
+    ensures { λ r. ⌜ r ≡ runOf marks c (responseUnits p n phi «phi_a» ps w sigma2) beta «beta_h» rows l .entries ⌝ }
+    ensures { λ r. ⌜ now (refused .exit) ≡ runOf marks c (responseUnits p n phi «phi_a» ps w sigma2) beta «beta_h» rows l .refused ⌝ }
 {
     let unadjusted = scaled_up(p, phi, sigma2);
     let adjusted = scaled_up(p, phi_a, sigma2);

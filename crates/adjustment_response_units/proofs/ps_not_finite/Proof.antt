@@ -1,6 +1,7 @@
 -- `adjustment_response_units::ps_not_finite` meets its contract.
 use Prim.Native.Nat.{_≤_, _-_}
 use mathlib.Core.Path.{_≡_}
+use Rattle.algebra.specs.Kind.{marks}
 use Rattle.algebra.proofs.FoldLaws.{fold-start, fold-next, fold-end}
 use mathlib.Core.Bool.{false, _||_}
 use Rattle.algebra.specs.Fold.{fold}
@@ -11,7 +12,7 @@ use Rattle.adjustment_response_units.proofs.ps_not_finite.Statement.{st
 use Rattle.adjustment_response_units.proofs.ps_not_finite.Tie as tie
 
 abbrev Inv-loop : tie.InvT-loop
-Inv-loop p n sigma2 ps found₀ r₀ found r = (r ≤ n) × (found ≡ fold 0 r (λ r z. z || notAllFinite p p (matrixAt ps r) || notAllFiniteMarked p p (scaledDown p (matrixAt ps r) sigma2)) false)
+Inv-loop p n sigma2 ps found₀ r₀ found r = (r ≤ n) × (found ≡ fold 0 r (λ r z. z || notAllFinite p p (matrixAt ps r) || notAllFiniteMarked p p (scaledDown marks p (matrixAt ps r) sigma2)) false)
 
 abbrev μ-loop : tie.MeasureT-loop
 μ-loop p n sigma2 ps found₀ r₀ found r = n - r

@@ -9,7 +9,7 @@ use lib.IntN.{ℤ, _+ℤ_}
 use lib.ListN.{getD}
 use lib.Ieee.{Float, nan, binary64, fits, mul}
 use Rattle.arithmetic.specs.Scale.{scale, powerOfTwo}
-use Rattle.algebra.specs.Kind.{floats}
+use Rattle.algebra.specs.Kind.{floats, marks}
 use Rattle.algebra.specs.Product.{at}
 use Rattle.arithmetic_cutoffs.specs.declared.Cutoffs.{Cutoffs}
 use Rattle.adjustment.specs.Covariance.{Design, matrices}
@@ -27,7 +27,7 @@ pub record Input : Type 0 where
 
 -- the run on it: Φ and the adjustment, both in residual units, do not see sigma2
 abbrev pub runOn : Cutoffs → ℕ → ℕ → ℕ → Rows → Adjustment → Input → Run
-runOn c p N rows phi a x = runOf c (scaledBy p N phi (x .sigma2) a) (x .beta) (x .betaH) rows (x .contrast)
+runOn c p N rows phi a x = runOf marks c (scaledBy marks p N phi (x .sigma2) a) (x .beta) (x .betaH) rows (x .contrast)
 
 -- the same input, scaled exactly; β_H is used where there is a contrast
 pub record ConvertedInput (k : ℤ) (m : ℕ → ℤ) (p rows : ℕ) (x x' : Input) : Type 0 where

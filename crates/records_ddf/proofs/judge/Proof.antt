@@ -17,6 +17,7 @@ use Rattle.records_ddf.proofs.Judged.{slot-count, AcceptedSizes, accept
 use borrow.Author.Needs.{needs}
 use Rattle.records_ddf.proofs.judge.Statement.{statement}
 use Rattle.records_ddf.proofs.judge.Tie as tie
+use Rattle.algebra.specs.Kind.{marks}
 
 -- src/lib.rt:81:28
 slice-aggregate-refusal : tie.Need-slice-aggregate-refusal
@@ -75,7 +76,7 @@ test-requires c κs =
     (t .few, (c .before .before .before .first-slots .ensures, omega arith))
 
 -- what was tested is what the file sends
-outcome-at-hand : (c : tie.After-test) → test (c .before .before .before .before .before .before .before .before .before .before .before .before .before .args .c) (inputsFrom (c .before .before .before .before .before .before .before .before .before .refusal .last .1 .1 .0) (c .before .before .before .before .before .parameter-sizes .result)) ≡ fileOutcome (c .before .before .before .before .before .before .before .before .before .before .before .before .before .args .c) (now (c .before .before .before .before .before .before .before .before .before .before .before .before .before .args .s))
+outcome-at-hand : (c : tie.After-test) → test marks (c .before .before .before .before .before .before .before .before .before .before .before .before .before .args .c) (inputsFrom (c .before .before .before .before .before .before .before .before .before .refusal .last .1 .1 .0) (c .before .before .before .before .before .parameter-sizes .result)) ≡ fileOutcome (c .before .before .before .before .before .before .before .before .before .before .before .before .before .args .c) (now (c .before .before .before .before .before .before .before .before .before .before .before .before .before .args .s))
 outcome-at-hand c =
     let s = now (c .before .before .before .before .before .before .before .before .before .before .before .before .before .args .s) in
     let t = accepted-sizes s _ (accepted (c .before .before .before .before .before .before)) refl in

@@ -22,19 +22,19 @@ use Rattle.tests.specs.Moments.{a1Of, a2Of, dfOf, scalingOf, fOf}
 use Rattle.tests.specs.KenwardRoger.{Scaled, thetaOf, uStack, uValues, waldMany}
 
 -- what a test starts from, and a basis, from their parts
-abbrev pub scaledOf : ℕ → ℕ → MarkedRows → MarkedRows → List MarkedRows → Rows → Scaled
+abbrev pub scaledOf : ℕ → ℕ → MarkedRows → MarkedRows → List MarkedRows → Rows → Scaled Marked
 scaledOf p N phi phiA ps w = record { p = p; matrices = N; phi = phi; phiA = phiA; ps = ps; w = w }
 
-abbrev pub basisOf : Rows → ℕ → Marked → Basis
+abbrev pub basisOf : Rows → ℕ → Marked → Basis Marked
 basisOf rows q seen = record { rows = rows; rank = q; seen = seen }
 
 -- the marks of Φ, Φ_A and the Ps, after what was seen before
 unfoldable pub scalingSeenOf : ℕ → ℕ → MarkedRows → MarkedRows → List MarkedRows → Marked → Marked
-scalingSeenOf p N phi phiA ps seen = stackSeen N p ps (allMarks p p phiA (allMarks p p phi seen))
+scalingSeenOf p N phi phiA ps seen = stackSeen marks N p ps (allMarks marks p p phiA (allMarks marks p p phi seen))
 
 -- Wald with its mark, from LD, v = LΦ_ALᵀ and Y; +0 where it is none
 unfoldable pub waldOf : ℕ → MarkedRows → MarkedRows → MarkedRows → Marked
-waldOf q ld v y = cond (eqb q 1) (cond (isPositive (at marks v 0 0 .value)) (squareOne (at marks ld 0 0) (at marks v 0 0)) (given plusZero)) (waldMany q ld y)
+waldOf q ld v y = cond (eqb q 1) (cond (isPositive (at marks v 0 0 .value)) (squareOne marks (at marks ld 0 0) (at marks v 0 0)) (given plusZero)) (waldMany marks q ld y)
 
 -- Wald as a number or none, from v and its marked number
 unfoldable pub waldNumberOf : ℕ → MarkedRows → Marked → Number
@@ -42,11 +42,11 @@ waldNumberOf q v wald = cond (eqb q 1 && not (isPositive (at marks v 0 0 .value)
 
 -- the marks of D, A, A⁻¹L and ΘΦ, after what was seen before
 unfoldable pub thetaSeenOf : ℕ → ℕ → MarkedRows → MarkedRows → MarkedRows → MarkedRows → Marked → Marked
-thetaSeenOf p q d a x tp seen = allMarks p p tp (allMarks q p x (allMarks q q a (allMarks p 1 d seen)))
+thetaSeenOf p q d a x tp seen = allMarks marks p p tp (allMarks marks q p x (allMarks marks q q a (allMarks marks p 1 d seen)))
 
 -- then those of LD, v, Y where it is used, and Wald
 unfoldable pub waldSeenOf : ℕ → MarkedRows → MarkedRows → MarkedRows → Marked → Marked → Marked
-waldSeenOf q ld v y wald seen = let s4 : Marked = allMarks q q v (allMarks q 1 ld seen) in also (cond (eqb q 1) s4 (allMarks q 1 y s4)) wald
+waldSeenOf q ld v y wald seen = let s4 : Marked = allMarks marks q q v (allMarks marks q 1 ld seen) in also (cond (eqb q 1) s4 (allMarks marks q 1 y s4)) wald
 
 -- the entry, from the values of the u_i, Wald and what was seen
 unfoldable pub entryOf : Cutoffs → ℕ → ℕ → ℕ → Rows → List Rows → Number → Marked → Entry
@@ -69,6 +69,6 @@ unfoldable pub thetaEntryOf : Cutoffs → ℕ → ℕ → ℕ → Rows → Marke
 thetaEntryOf c N p q w phi ps l d ld v y seen =
     let a : MarkedRows = sandwich marks 6 6 q p l phi in
     let x : MarkedRows = solution marks 6 12 6 q p a l in
-    let tp : MarkedRows = product marks 6 6 p p p (thetaOf p q l x) phi in
-    let us : List MarkedRows = uStack N p tp ps phi in
-    waldEntryOf c N p q w (uValues N p us) ld v y (stackSeen N p us (thetaSeenOf p q d a x tp seen))
+    let tp : MarkedRows = product marks 6 6 p p p (thetaOf marks p q l x) phi in
+    let us : List MarkedRows = uStack marks N p tp ps phi in
+    waldEntryOf c N p q w (uValues marks N p us) ld v y (stackSeen marks N p us (thetaSeenOf p q d a x tp seen))

@@ -8,9 +8,10 @@ use native.Mathlib.Omega.{arith}
 use borrow.Author.Needs.{needs}
 use Rattle.tests_run.proofs.coefficients.Statement.{statement}
 use Rattle.tests_run.proofs.coefficients.Tie as tie
+use Rattle.algebra.specs.Kind.{marks}
 
 abbrev Inv-loop : tie.InvT-loop
-Inv-loop c phi phi-a ps w n p beta refused es₀ any₀ i₀ es any i = (i ≤ p) × (runFrom any es ≡ coefficientsTo i c (scaledOf p n phi phi-a ps w) beta)
+Inv-loop c phi phi-a ps w n p beta refused es₀ any₀ i₀ es any i = (i ≤ p) × (runFrom any es ≡ coefficientsTo marks i c (scaledOf p n phi phi-a ps w) beta)
 
 abbrev μ-loop : tie.MeasureT-loop
 μ-loop c phi phi-a ps w n p beta refused es₀ any₀ i₀ es any i = p - i

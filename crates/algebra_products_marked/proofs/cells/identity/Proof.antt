@@ -19,7 +19,7 @@ given-cell : (b : Bool) → given (cond b one plusZero) ≡ cond b (given one) (
 given-cell true = refl
 given-cell false = refl
 
-given-identity : (R C n : ℕ) → n ≤ R → n ≤ C → givenCells R C n n (identity floats R C n) ≡ identity marks R C n
+given-identity : (R C n : ℕ) → n ≤ R → n ≤ C → givenCells marks R C n n (identity floats R C n) ≡ identity marks R C n
 unfolding givenCells identity
 given-identity R C n hr hc =
     table-ext _ _ _ _ _ _ _ (λ i j hi hj. ap given (table-at plusZero R C n n (λ i j. cond (eqb i j) one plusZero) i j nan hi hj hr hc) ∙ given-cell (eqb i j))

@@ -1,6 +1,7 @@
 -- `tests::both::stack_seen` meets its contract.
 use Prim.Native.Nat.{_≤_, _-_}
 use mathlib.Core.Path.{_≡_}
+use Rattle.algebra.specs.Kind.{marks}
 use Rattle.algebra.proofs.FoldLaws.{fold-start, fold-next, fold-end}
 use Rattle.tests.specs.Both.{stackSeen}
 use native.Mathlib.Omega.{arith}
@@ -8,7 +9,7 @@ use Rattle.tests.proofs.both.stack_seen.Statement.{statement}
 use Rattle.tests.proofs.both.stack_seen.Tie as tie
 
 abbrev Inv-loop : tie.InvT-loop
-Inv-loop n q ms all₀ i₀ all i = (i ≤ n) × (all ≡ stackSeen i q ms all₀)
+Inv-loop n q ms all₀ i₀ all i = (i ≤ n) × (all ≡ stackSeen marks i q ms all₀)
 
 abbrev μ-loop : tie.MeasureT-loop
 μ-loop n q ms all₀ i₀ all i = n - i

@@ -1,6 +1,7 @@
 -- `tests_basis::basis::divided` meets its contract.
 use Prim.Native.Nat.{_≤_, _<_, _-_}
 use mathlib.Core.Path.{_≡_}
+use Rattle.algebra.specs.Kind.{marks}
 use Rattle.algebra.specs.Table.{table}
 use Rattle.arithmetic.specs.Numbers.{plusZero}
 use Rattle.arithmetic.specs.Marks.{given}
@@ -13,13 +14,13 @@ use Rattle.tests_basis.proofs.basis.divided.Statement.{statement}
 use Rattle.tests_basis.proofs.basis.divided.Tie as tie
 
 abbrev Inv-loop2 : tie.InvT-loop2
-Inv-loop2 rows p l out₀ i j₀ out j = (i < rows) × (j ≤ p) × Filling (given plusZero) 6 6 (dividedCell p l) p i j out₀ out
+Inv-loop2 rows p l out₀ i j₀ out j = (i < rows) × (j ≤ p) × Filling (given plusZero) 6 6 (dividedCell marks p l) p i j out₀ out
 
 abbrev μ-loop2 : tie.MeasureT-loop2
 μ-loop2 rows p l out₀ i j₀ out j = p - j
 
 abbrev Inv-loop : tie.InvT-loop
-Inv-loop rows p l out₀ i₀ out i = (i ≤ rows) × (out ≡ table (given plusZero) 6 6 i p (dividedCell p l))
+Inv-loop rows p l out₀ i₀ out i = (i ≤ rows) × (out ≡ table (given plusZero) 6 6 i p (dividedCell marks p l))
 
 abbrev μ-loop : tie.MeasureT-loop
 μ-loop rows p l out₀ i₀ out i = rows - i

@@ -3,6 +3,7 @@ use Prim.Native.Nat.{_≤_, _-_}
 use mathlib.Core.Path.{_≡_}
 use lib.Ieee.{ofBits}
 use Rattle.arithmetic.specs.Numbers.{plusZero}
+use Rattle.algebra.specs.Kind.{marks}
 use Rattle.algebra.specs.Table.{row}
 use Rattle.algebra.proofs.FoldLaws.{fold-start, fold-next, fold-end}
 use Rattle.tests.specs.Answer.{floatOf}
@@ -13,7 +14,7 @@ use Rattle.tests_ddf.proofs.components.component_dfs.Statement.{stateme
 use Rattle.tests_ddf.proofs.components.component_dfs.Tie as tie
 
 abbrev Inv-loop : tie.InvT-loop
-Inv-loop c a es x jx n q out₀ k₀ out k = (k ≤ q) × (out ≡ row plusZero 6 k (λ k. floatOf (componentDf c n q a es x jx k)))
+Inv-loop c a es x jx n q out₀ k₀ out k = (k ≤ q) × (out ≡ row plusZero 6 k (λ k. floatOf (componentDf marks c n q a es x jx k)))
 
 abbrev μ-loop : tie.MeasureT-loop
 μ-loop c a es x jx n q out₀ k₀ out k = q - k

@@ -2,6 +2,7 @@
 use Prim.Native.Nat.{_≤_, _-_}
 use mathlib.Core.Path.{_≡_}
 use lib.Ieee.{ofBits}
+use Rattle.algebra.specs.Kind.{marks}
 use Rattle.algebra.specs.Fold.{fold}
 use Rattle.algebra.proofs.FoldLaws.{fold-start, fold-next, fold-end}
 use Rattle.tests.specs.VarianceDf.{entryAt, gradientSeen}
@@ -11,7 +12,7 @@ use Rattle.tests_ddf.proofs.components.components_seen.Statement.{state
 use Rattle.tests_ddf.proofs.components.components_seen.Tie as tie
 
 abbrev Inv-loop : tie.InvT-loop
-Inv-loop es x jx n q all₀ k₀ all k = (k ≤ q) × (all ≡ fold 0 k (λ k s. gradientSeen n (entryAt es k) (gradientAt n q x jx k) s) all₀)
+Inv-loop es x jx n q all₀ k₀ all k = (k ≤ q) × (all ≡ fold 0 k (λ k s. gradientSeen marks n (entryAt marks es k) (gradientAt marks n q x jx k) s) all₀)
 
 abbrev μ-loop : tie.MeasureT-loop
 μ-loop es x jx n q all₀ k₀ all k = q - k

@@ -2,6 +2,7 @@
 use Prim.Native.Nat.{_≤_, _-_}
 use mathlib.Core.Path.{_≡_, refl}
 use lib.Ieee.{ofBits}
+use Rattle.algebra.specs.Kind.{marks}
 use Rattle.algebra.specs.Table.{row}
 use Rattle.algebra.proofs.FoldLaws.{fold-start, fold-next, fold-end}
 use Rattle.tests.specs.Satterthwaite.{eigenvalues}
@@ -10,7 +11,7 @@ use Rattle.tests_ddf.proofs.components.eigenvalues.Statement.{statement
 use Rattle.tests_ddf.proofs.components.eigenvalues.Tie as tie
 
 abbrev Inv-loop : tie.InvT-loop
-Inv-loop q d out₀ i₀ out i = (i ≤ q) × (out ≡ eigenvalues i d)
+Inv-loop q d out₀ i₀ out i = (i ≤ q) × (out ≡ eigenvalues marks i d)
 
 abbrev μ-loop : tie.MeasureT-loop
 μ-loop q d out₀ i₀ out i = q - i

@@ -2,6 +2,7 @@
 use Prim.Native.Nat.{_≤_, _-_}
 use mathlib.Core.Path.{_≡_}
 use lib.Ieee.{ofBits}
+use Rattle.algebra.specs.Kind.{marks}
 use Rattle.algebra.proofs.FoldLaws.{fold-start, fold-next, fold-end}
 use Rattle.tests.specs.Satterthwaite.{jxAll}
 use borrow.Author.Needs.{needs}
@@ -10,7 +11,7 @@ use Rattle.tests_ddf.proofs.components.jx_all.Statement.{statement}
 use Rattle.tests_ddf.proofs.components.jx_all.Tie as tie
 
 abbrev Inv-loop : tie.InvT-loop
-Inv-loop x n q js out₀ i₀ out i = (i ≤ n) × (out ≡ jxAll i q js x)
+Inv-loop x n q js out₀ i₀ out i = (i ≤ n) × (out ≡ jxAll marks i q js x)
 
 abbrev μ-loop : tie.MeasureT-loop
 μ-loop x n q js out₀ i₀ out i = n - i

@@ -15,7 +15,7 @@ use Rattle.tests_ddf.proofs.components.squares_sum.Tie as tie
 
 -- what component k adds
 abbrev term : List (List Marked) → List Marked → ℕ → Marked
-term y es k = markedDiv (markedMul (at marks y k 0) (at marks y k 0)) (entryAt es k)
+term y es k = markedDiv (markedMul (at marks y k 0) (at marks y k 0)) (entryAt marks es k)
 
 abbrev total : ℕ → (ℕ → Marked) → Marked
 total k f = sum marks k f

@@ -2,6 +2,7 @@
 use Prim.Native.Nat.{_≤_, _-_}
 use mathlib.Core.Path.{_≡_, refl}
 use lib.Ieee.{ofBits}
+use Rattle.algebra.specs.Kind.{marks}
 use Rattle.algebra.specs.Table.{row}
 use Rattle.algebra.proofs.FoldLaws.{fold-start, fold-next, fold-end}
 use Rattle.tests.specs.Satterthwaite.{gradientOne}
@@ -11,7 +12,7 @@ use Rattle.tests_ddf.proofs.satterthwaite.gradient_one.Statement.{state
 use Rattle.tests_ddf.proofs.satterthwaite.gradient_one.Tie as tie
 
 abbrev Inv-loop : tie.InvT-loop
-Inv-loop n js out₀ i₀ out i = (i ≤ n) × (out ≡ gradientOne i js)
+Inv-loop n js out₀ i₀ out i = (i ≤ n) × (out ≡ gradientOne marks i js)
 
 abbrev μ-loop : tie.MeasureT-loop
 μ-loop n js out₀ i₀ out i = n - i

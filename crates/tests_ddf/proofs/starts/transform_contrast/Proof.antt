@@ -2,6 +2,7 @@
 use Prim.Native.Nat.{_≤_, _-_}
 use mathlib.Core.Path.{_≡_}
 use lib.Ieee.{ofBits}
+use Rattle.algebra.specs.Kind.{marks}
 use Rattle.algebra.proofs.FoldLaws.{fold-start, fold-next, fold-end}
 use Rattle.tests.specs.Satterthwaite.{transformedAll}
 use borrow.Author.Needs.{needs}
@@ -10,7 +11,7 @@ use Rattle.tests_ddf.proofs.starts.transform_contrast.Statement.{statem
 use Rattle.tests_ddf.proofs.starts.transform_contrast.Tie as tie
 
 abbrev Inv-loop : tie.InvT-loop
-Inv-loop l n p q js out₀ i₀ out i = (i ≤ n) × (out ≡ transformedAll i p q l js)
+Inv-loop l n p q js out₀ i₀ out i = (i ≤ n) × (out ≡ transformedAll marks i p q l js)
 
 abbrev μ-loop : tie.MeasureT-loop
 μ-loop l n p q js out₀ i₀ out i = n - i

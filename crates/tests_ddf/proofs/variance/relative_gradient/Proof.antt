@@ -2,6 +2,7 @@
 use Prim.Native.Nat.{_≤_, _-_}
 use mathlib.Core.Path.{_≡_}
 use lib.Ieee.{ofBits}
+use Rattle.algebra.specs.Kind.{marks}
 use Rattle.algebra.specs.Table.{row}
 use Rattle.algebra.proofs.FoldLaws.{fold-start, fold-next, fold-end}
 use Rattle.tests.specs.VarianceDf.{relativeGradient}
@@ -11,7 +12,7 @@ use Rattle.tests_ddf.proofs.variance.relative_gradient.Statement.{state
 use Rattle.tests_ddf.proofs.variance.relative_gradient.Tie as tie
 
 abbrev Inv-loop : tie.InvT-loop
-Inv-loop variance n gradient out₀ i₀ out i = (i ≤ n) × (out ≡ relativeGradient i variance gradient)
+Inv-loop variance n gradient out₀ i₀ out i = (i ≤ n) × (out ≡ relativeGradient marks i variance gradient)
 
 abbrev μ-loop : tie.MeasureT-loop
 μ-loop variance n gradient out₀ i₀ out i = n - i

@@ -2,6 +2,7 @@
 use Prim.Native.Nat.{_≤_, _-_}
 use mathlib.Core.Path.{_≡_}
 use Rattle.arithmetic.specs.Marks.{also}
+use Rattle.algebra.specs.Kind.{marks}
 use Rattle.algebra.specs.Fold.{fold}
 use Rattle.algebra.proofs.FoldLaws.{fold-start, fold-next, fold-end}
 use Rattle.tests.specs.VarianceDf.{entryAt}
@@ -11,7 +12,7 @@ use Rattle.tests_ddf.proofs.variance.row_seen.Statement.{statement}
 use Rattle.tests_ddf.proofs.variance.row_seen.Tie as tie
 
 abbrev Inv-loop : tie.InvT-loop
-Inv-loop n g all₀ i₀ all i = (i ≤ n) × (all ≡ fold 0 i (λ i s. also s (entryAt g i)) all₀)
+Inv-loop n g all₀ i₀ all i = (i ≤ n) × (all ≡ fold 0 i (λ i s. also s (entryAt marks g i)) all₀)
 
 abbrev μ-loop : tie.MeasureT-loop
 μ-loop n g all₀ i₀ all i = n - i

@@ -1,6 +1,7 @@
 -- `tests_kr_modcomp::full_rank::scaled_ps` meets its contract.
 use Prim.Native.Nat.{_≤_, _-_}
 use mathlib.Core.Path.{_≡_}
+use Rattle.algebra.specs.Kind.{marks}
 use Rattle.algebra.proofs.FoldLaws.{fold-start, fold-next, fold-end}
 use Rattle.tests.specs.KenwardRoger.{scaledPs}
 use native.Mathlib.Omega.{arith}
@@ -9,7 +10,7 @@ use Rattle.tests_kr_modcomp.proofs.full_rank.scaled_ps.Statement.{state
 use Rattle.tests_kr_modcomp.proofs.full_rank.scaled_ps.Tie as tie
 
 abbrev Inv-loop : tie.InvT-loop
-Inv-loop sigma2 n p ps out₀ r₀ out r = (r ≤ n) × (out ≡ scaledPs p r ps sigma2)
+Inv-loop sigma2 n p ps out₀ r₀ out r = (r ≤ n) × (out ≡ scaledPs marks p r ps sigma2)
 
 abbrev μ-loop : tie.MeasureT-loop
 μ-loop sigma2 n p ps out₀ r₀ out r = n - r

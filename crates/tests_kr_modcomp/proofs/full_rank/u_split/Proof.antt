@@ -1,6 +1,7 @@
 -- `tests_kr_modcomp::full_rank::u_split` meets its contract.
 use Prim.Native.Nat.{_≤_, _-_}
 use mathlib.Core.Path.{_≡_}
+use Rattle.algebra.specs.Kind.{marks}
 use Rattle.algebra.proofs.FoldLaws.{fold-start, fold-next, fold-end}
 use Rattle.tests.specs.KenwardRoger.{uStack, uValues}
 use Rattle.tests.specs.Both.{stackSeen}
@@ -11,7 +12,7 @@ use Rattle.tests_kr_modcomp.proofs.full_rank.u_split.Statement.{stateme
 use Rattle.tests_kr_modcomp.proofs.full_rank.u_split.Tie as tie
 
 abbrev Inv-loop : tie.InvT-loop
-Inv-loop tp phi n p plain ps out₀ all₀ i₀ out all i = (i ≤ n) × (out ≡ uValues i p (uStack n p tp ps phi)) × (all ≡ stackSeen i p (uStack n p tp ps phi) all₀)
+Inv-loop tp phi n p plain ps out₀ all₀ i₀ out all i = (i ≤ n) × (out ≡ uValues marks i p (uStack marks n p tp ps phi)) × (all ≡ stackSeen marks i p (uStack marks n p tp ps phi) all₀)
 
 abbrev μ-loop : tie.MeasureT-loop
 μ-loop tp phi n p plain ps out₀ all₀ i₀ out all i = n - i

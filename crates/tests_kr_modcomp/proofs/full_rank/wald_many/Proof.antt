@@ -10,7 +10,7 @@ use Rattle.tests_kr_modcomp.proofs.full_rank.wald_many.Statement.{state
 use Rattle.tests_kr_modcomp.proofs.full_rank.wald_many.Tie as tie
 
 abbrev Inv-loop : tie.InvT-loop
-Inv-loop q ld y sum₀ i₀ sum i = (i ≤ q) × (sum ≡ waldMany i ld y)
+Inv-loop q ld y sum₀ i₀ sum i = (i ≤ q) × (sum ≡ waldMany marks i ld y)
 
 abbrev μ-loop : tie.MeasureT-loop
 μ-loop q ld y sum₀ i₀ sum i = q - i
