@@ -1,3 +1,2 @@
 -- The laws of the marked products' own steps.
-pub mod InPlace
-pub mod SettledLaws
+pub mod CellMarkLaws

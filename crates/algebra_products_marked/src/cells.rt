@@ -8,15 +8,13 @@ ghost use Rattle.algebra.specs.Small.{givenCells, values, allMarks};
 use arithmetic::Marked;
 use arithmetic_steps::also;
 use arithmetic_steps::given;
+use arithmetic_steps::zero_of;
 
 // Zeros alone.
 pub fn zeros() -> [[Marked; 6]; 6]
     ensures { λ r. ⌜ r ≡ blank (zeroOf marks) 6 6 ⌝ }
 {
-    let zero = Marked {
-        value: 0.0,
-        inside: true,
-    };
+    let zero = zero_of();
     let row = [zero; 6];
     [row; 6]
 }

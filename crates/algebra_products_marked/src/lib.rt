@@ -1,22 +1,26 @@
 // Small matrices of marked numbers, by value: the cells up to the sizes given are in use, and zeros stand past them.
 ghost use mathlib.Core.Path.{_≡_};
 ghost use Prim.Native.Nat.{_≤_, _<_};
-ghost use Rattle.arithmetic.specs.Marks.{markedAdd, markedMul};
 ghost use Rattle.algebra.specs.Kind.{marks};
 ghost use Rattle.algebra.specs.Product.{cell, product, transpose, likeCells, trace, plusCells, minusCells, timesNumber, overNumber};
 ghost use Rattle.algebra.specs.Small.{sandwich};
-ghost use Rattle.algebra_products_marked.specs.joints.Settled.{Settled, SettledCells, Whole, settled, settledCells, addsNothing};
-use crate::cells::all_marks;
+ghost use Rattle.algebra_products_marked.specs.joints.CellMarks.{Finite, columnMarks, addsNothing};
 use crate::cells::zeros;
 use arithmetic::Marked;
+use arithmetic::plain::is_finite;
 use arithmetic::plain::is_zero;
+use arithmetic_steps::Mark;
 use arithmetic_steps::add;
+use arithmetic_steps::also_mark;
 use arithmetic_steps::div;
-use arithmetic_steps::given;
-use arithmetic_steps::in_range;
-use arithmetic_steps::lost_product;
+use arithmetic_steps::join_marks;
 use arithmetic_steps::mul;
+use arithmetic_steps::no_mark;
+use arithmetic_steps::reported;
 use arithmetic_steps::sub;
+use arithmetic_steps::value_of;
+use arithmetic_steps::with_product;
+use arithmetic_steps::zero_of;
 
 pub mod cells;
 
@@ -25,84 +29,81 @@ pub fn cell(a: [[Marked; 6]; 6], b: [[Marked; 6]; 6], inner: usize, i: usize, j:
     requires { ⌜ (inner ≤ 6) × (i < 6) × (j < 6) ⌝ }
     ensures { λ r. ⌜ r ≡ cell marks inner a b i j ⌝ }
 {
-    let mut sum = Marked {
-        value: 0.0,
-        inside: true,
-    };
+    let mut sum = zero_of();
     for k in 0..inner {
         sum = add(sum, mul(a[i][k], b[k][j]));
     }
     sum
 }
 
-// x, whose mark counts its range.
-fn settled(x: Marked) -> Marked
-    ensures { λ r. ⌜ r ≡ settled x ⌝ }
-{
-    Marked {
-        value: x.value,
-        inside: x.inside & in_range(x.value),
-    }
+// What a product needs of its right factor, made once for all rows: the marks of each column, joined, and whether every number is finite.
+struct Columns {
+    marks: [Mark; 6],
+    finite: bool,
 }
 
-// Each cell with a mark that counts its range, so that a product tests a cell once and not once for each row.
-fn settled_cells(m: [[Marked; 6]; 6], rows: usize, cols: usize) -> [[Marked; 6]; 6]
-    requires { ⌜ (rows ≤ 6) × (cols ≤ 6) ⌝ }
-    ensures { λ r. ⌜ r ≡ settledCells 6 6 rows cols m ⌝ }
+// The columns of b, of inner rows. A sum is finite only where each of its terms is: one total tells it of all numbers. Where the total overflows, no turn is passed over.
+fn column_marks(b: [[Marked; 6]; 6], inner: usize, cols: usize) -> Columns
+    requires { ⌜ (inner ≤ 6) × (cols ≤ 6) ⌝ }
+    ensures { λ r. ⌜ (r .marks ≡ columnMarks 6 cols inner b) × Finite (r .finite) inner cols b ⌝ }
 {
-    let mut out = zeros();
-    for i in 0..rows {
-        for j in 0..cols {
-            out[i][j] = settled(m[i][j]);
+    let none = no_mark();
+    let mut marks = [none; 6];
+    let mut total = 0.0;
+    for j in 0..cols {
+        let mut mark = no_mark();
+        for k in 0..inner {
+            let y = b[k][j];
+            mark = join_marks(mark, reported(y));
+            total = total + value_of(y);
         }
+        marks[j] = mark;
     }
-    out
-}
-
-// sum + x * y, with no test of the three: a number that is inside is in range.
-fn with_term(sum: Marked, x: Marked, y: Marked) -> Marked
-    requires { ⌜ Settled sum × Settled x × Settled y ⌝ }
-    ensures { λ r. ⌜ r ≡ markedAdd sum (markedMul x y) ⌝ }
-{
-    let p = x.value * y.value;
-    let s = sum.value + p;
-    let inside = sum.inside & x.inside & y.inside;
-    Marked {
-        value: s,
-        inside: inside & in_range(p) & !lost_product(x.value, y.value, p) & in_range(s),
+    Columns {
+        marks: marks,
+        finite: is_finite(total),
     }
 }
 
-// Whether a turn with x on the left adds nothing: x is a zero, and so, where every number on the right is inside, is each product.
-fn adds_nothing(x: Marked, whole: bool) -> bool
-    ensures { λ r. ⌜ r ≡ addsNothing x whole ⌝ }
+// Whether a turn with x on the left adds nothing: x is a zero, and so, where every number on the right is finite, is each product.
+// No mark is looked at: the marks of the row and of the columns are counted apart, whether a turn is passed over or not.
+fn adds_nothing(x: f64, finite: bool) -> bool
+    ensures { λ r. ⌜ r ≡ addsNothing x finite ⌝ }
 {
-    whole & x.inside & is_zero(x.value)
+    finite & is_zero(x)
 }
 
-// a, of rows by inner, times b, of inner by cols and settled; `whole` says that every cell of b is inside.
-// A row at a time: a cell's sum still runs by rising index, and no matrix is copied.
-fn settled_product(
+// a, of rows by inner, times b, of inner by cols; `columns` and `finite` are what column_marks says of b.
+// A row at a time: a cell's sum still runs by rising index. A sum's mark counts the results of its steps alone; the row's and the column's are joined to it at the end.
+fn product_rows(
     a: [[Marked; 6]; 6],
     b: [[Marked; 6]; 6],
+    columns: [Mark; 6],
+    finite: bool,
     rows: usize,
     inner: usize,
     cols: usize,
-    whole: bool,
 ) -> [[Marked; 6]; 6]
-    requires { ⌜ (rows ≤ 6) × (inner ≤ 6) × (cols ≤ 6) × SettledCells inner cols b × Whole whole inner cols b ⌝ }
+    requires { ⌜ (rows ≤ 6) × (inner ≤ 6) × (cols ≤ 6) × (columns ≡ columnMarks 6 cols inner b) × Finite finite inner cols b ⌝ }
     ensures { λ r. ⌜ r ≡ product marks 6 6 rows inner cols a b ⌝ }
 {
     let mut out = zeros();
     for i in 0..rows {
+        let zero = zero_of();
+        let mut sums = [zero; 6];
+        let mut row = no_mark();
         for k in 0..inner {
             let x = a[i][k];
-            if !adds_nothing(x, whole) {
-                let y = settled(x);
+            let v = value_of(x);
+            row = join_marks(row, reported(x));
+            if !adds_nothing(v, finite) {
                 for j in 0..cols {
-                    out[i][j] = with_term(out[i][j], y, b[k][j]);
+                    sums[j] = with_product(sums[j], v, value_of(b[k][j]));
                 }
             }
+        }
+        for j in 0..cols {
+            out[i][j] = also_mark(sums[j], join_marks(row, columns[j]));
         }
     }
     out
@@ -119,9 +120,9 @@ pub fn product(
     requires { ⌜ (rows ≤ 6) × (inner ≤ 6) × (cols ≤ 6) ⌝ }
     ensures { λ r. ⌜ r ≡ product marks 6 6 rows inner cols a b ⌝ }
 {
-    let ready = settled_cells(b, inner, cols);
-    let all = all_marks(ready, inner, cols, given(0.0));
-    settled_product(a, ready, rows, inner, cols, all.inside)
+    let right = column_marks(b, inner, cols);
+    let columns = right.marks;
+    product_rows(a, b, columns, right.finite, rows, inner, cols)
 }
 
 // The rows of a as columns.
@@ -143,10 +144,7 @@ pub fn like_cells(a: [[Marked; 6]; 6], b: [[Marked; 6]; 6], rows: usize, cols: u
     requires { ⌜ (rows ≤ 6) × (cols ≤ 6) ⌝ }
     ensures { λ r. ⌜ r ≡ likeCells marks rows cols a b ⌝ }
 {
-    let mut sum = Marked {
-        value: 0.0,
-        inside: true,
-    };
+    let mut sum = zero_of();
     for i in 0..rows {
         for j in 0..cols {
             sum = add(sum, mul(a[i][j], b[i][j]));
@@ -160,10 +158,7 @@ pub fn trace(a: [[Marked; 6]; 6], n: usize) -> Marked
     requires { ⌜ n ≤ 6 ⌝ }
     ensures { λ r. ⌜ r ≡ trace marks n a ⌝ }
 {
-    let mut sum = Marked {
-        value: 0.0,
-        inside: true,
-    };
+    let mut sum = zero_of();
     for i in 0..n {
         sum = add(sum, a[i][i]);
     }

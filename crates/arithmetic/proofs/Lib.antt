@@ -1,4 +1,4 @@
--- The laws of the arithmetic. Higher crates cite MarkLaws, and of the others only what has no mark in it.
+-- The laws of the arithmetic. Higher crates cite MarkLaws and JoinLaws, and of the others only what has no mark in it.
 pub mod ScaleLaws
 pub mod Rounding
 pub mod Operations
@@ -15,4 +15,5 @@ pub mod RootGuess
 pub mod RootPatterns
 pub mod RootCases
 pub mod RootNearest
+pub mod JoinLaws
 pub mod MarkLaws

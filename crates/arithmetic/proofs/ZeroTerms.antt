@@ -1,4 +1,5 @@
--- A term that is a zero changes no running sum: x + ±0 is x, for an x that is no -0; and a sum from +0 never is one.
+-- A term that is a zero changes no running sum: x + ±0 is x, for an x that is no -0; and a sum from +0 never is one. A zero times a finite number is a zero, and
+-- every term of a finite sum is finite.
 use Prim.Native.Nat.{ℕ, zero, suc, _+_, _-_, _*_, _%_, _^_, _<_, _≤_}
 use native.Mathlib.Omega.{arith}
 use native.Mathlib.Nat.{le-trans, le-of-eq, mul-one, mul-pos, mul-lt-mul-of-pos-right, zero-mul, zero-lt-suc, lt-irrefl}
@@ -7,11 +8,12 @@ use mathlib.Core.Bool.{Bool, true, false, _&&_, Bool·beq, cond}
 use lib.IntN.{ℤ, pos, negsuc}
 use lib.Dec.{T, ltb, leb, eqb, ltb→lt, lt→ltb, leb→le}
 use lib.Pow.{pow-add, pow-pos}
-use lib.Ieee.{Float, nan, inf, fin, Format, prec, emax, low, up, down, round, units, odd, fits, sum, add}
+use lib.Ieee.{Float, nan, inf, fin, Format, prec, emax, low, up, down, unlike, round, units, odd, fits, sum, add, mul}
 use lib.Ieee.Exact.{HasValue, round-exact, odd-sign}
 use lib.Ieee.Fits.{up-pos, down-pos, and-l, and-r, round-is, round-fits}
 use lib.Ieee.Order.{drop, kept}
 use lib.Ieee.Scale.{round-same}
+use Rattle.arithmetic.specs.Numbers.{isFinite}
 use Rattle.arithmetic.proofs.Rounding.{fits-written, pow-le-back, unique}
 use Rattle.arithmetic.proofs.Operations.{Zero, round-zero, grain, zero-val, grid-pos, sub-cross}
 
@@ -223,3 +225,35 @@ add-plain f x y p q = record { held = lib.Ieee.Fits.add-fits f x y; signed = go 
         let h = grain f t n d q in
         sum-signed f s t (m * up e * down d) (n * up d * down e) (down e * down d) (m * up e * g .0) (n * up d * h .0) (mul-pos (down-pos e) (down-pos d))
         (one (m * up e) (down e) (down d) (g .0) (2 ^ low f) (g .1)) (other (n * up d) (down e) (down d) (h .0) (2 ^ low f) (h .1)) (sign s m e d (p .signed)) z
+
+-- ---- a zero times a finite number
+pub zero-times : (f : Format) (x y : Float) → Zero x → T (isFinite y) → Zero (mul f x y)
+unfolding mul isFinite
+zero-times f nan y z h = absurd z
+zero-times f (inf s) y z h = absurd z
+zero-times f (fin s m e) nan z h = absurd h
+zero-times f (fin s m e) (inf t) z h = absurd h
+zero-times f (fin s m e) (fin t n d) z h =
+    subst Zero
+    (sym (ap (λ (k : ℕ). round f (unlike s t) k (down e * down d)) (none m (up e) (n * up d) z)
+    ∙ round-zero f (unlike s t) (down e * down d) (mul-pos (down-pos e) (down-pos d)))) refl
+  where
+    none : (m u x : ℕ) → m ≡ 0 → m * u * x ≡ 0
+    none m u x h = rw h (omega arith)
+
+-- ---- the terms of a finite sum
+pub add-finite : (f : Format) (x y : Float) → T (isFinite (add f x y)) → T (isFinite x) × T (isFinite y)
+unfolding add isFinite
+add-finite f nan y h = absurd h
+add-finite f (inf s) nan h = absurd h
+add-finite f (inf s) (inf t) h = absurd (none s t h)
+  where
+    none : (s t : Bool) → T (isFinite (cond (Bool·beq s t) (inf s) nan)) → ⊥
+    none true true h = h
+    none true false h = h
+    none false true h = h
+    none false false h = h
+add-finite f (inf s) (fin t n d) h = absurd h
+add-finite f (fin s m e) nan h = absurd h
+add-finite f (fin s m e) (inf t) h = absurd h
+add-finite f (fin s m e) (fin t n d) h = (tt, tt)

@@ -21,6 +21,21 @@ inRange x = isZero x || (le least (magnitude x) && lt (magnitude x) limit)
 abbrev pub marked : Float → Bool → Marked
 marked x b = record { value = x; inside = b }
 
+-- A mark by itself, and names for what it is made of.
+abbrev pub Mark : Type 0
+Mark = Bool
+
+-- the mark that counts nothing, and the one that counts what either does
+abbrev pub noMark : Mark
+noMark = true
+
+abbrev pub joinMarks : Mark → Mark → Mark
+joinMarks m n = m && n
+
+-- what a number counts by itself, as an operand or a result
+abbrev pub ownMark : Float → Mark
+ownMark x = inRange x
+
 -- an input or a constant: no step led to it
 abbrev pub given : Float → Marked
 given x = marked x true
@@ -39,6 +54,21 @@ lostProduct x y r = isZero r && (not (isZero x) && not (isZero y))
 
 unfoldable pub lostQuotient : Float → Float → Bool
 lostQuotient x r = isZero r && not (isZero x)
+
+-- what a counts as an operand: its mark, and its number's own
+abbrev pub reported : Marked → Mark
+reported a = joinMarks (a .inside) (ownMark (a .value))
+
+-- what the result p of x times y counts, with nothing of x and y
+abbrev pub productMark : Float → Float → Float → Mark
+productMark x y p = joinMarks (ownMark p) (not (lostProduct x y p))
+
+-- a + x y, whose mark counts a's and the two results, and nothing of x and y
+abbrev pub withProduct : Marked → Float → Float → Marked
+withProduct a x y =
+    let p = mul binary64 x y in
+    let r = add binary64 (a .value) p in
+    marked r (joinMarks (joinMarks (a .inside) (productMark x y p)) (ownMark r))
 
 unfoldable pub markedAdd : Marked → Marked → Marked
 markedAdd a b = let r = add binary64 (a .value) (b .value) in marked r (stepMark a b r)
@@ -63,3 +93,7 @@ markedMagnitude a = marked (magnitude (a .value)) (a .inside)
 -- the number a, whose mark counts b's too: what is compared or dropped is still counted
 unfoldable pub also : Marked → Marked → Marked
 also a b = marked (a .value) (a .inside && b .inside)
+
+-- the number a, whose mark counts m too
+abbrev pub alsoMark : Marked → Mark → Marked
+alsoMark a m = marked (a .value) (joinMarks (a .inside) m)

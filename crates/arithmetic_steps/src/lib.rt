@@ -1,11 +1,14 @@
 // The marked steps: + - * / and the square root on numbers that carry their mark.
 ghost use mathlib.Core.Path.{_≡_};
 ghost use Rattle.arithmetic.specs.Numbers.{plusZero};
-ghost use Rattle.arithmetic.specs.Marks.{inRange, stepMark, lostProduct, lostQuotient, marked, given, isInside, markedAdd, markedSub, markedMul, markedDiv, markedRoot, markedMagnitude, also};
+ghost use Rattle.arithmetic.specs.Marks.{noMark, joinMarks, inRange, stepMark, lostProduct, lostQuotient, reported, withProduct, marked, given, isInside, markedAdd, markedSub, markedMul, markedDiv, markedRoot, markedMagnitude, also, alsoMark};
 use arithmetic::Marked;
 use arithmetic::plain::is_zero;
 use arithmetic::plain::magnitude;
 use arithmetic::root::sqrt;
+
+// A mark by itself. Above this file a mark is made and looked at by these functions alone.
+pub type Mark = bool;
 
 // 2^-800 and 2^801.
 const LEAST: f64 = 1.499696813895631e-241;
@@ -38,6 +41,46 @@ pub fn lost_quotient(x: f64, r: f64) -> bool
     ensures { λ q. ⌜ q ≡ lostQuotient x r ⌝ }
 {
     is_zero(r) & !is_zero(x)
+}
+
+// The mark that counts nothing.
+pub fn no_mark() -> Mark
+    ensures { λ r. ⌜ r ≡ noMark ⌝ }
+{
+    true
+}
+
+// What either mark counts.
+pub fn join_marks(m: Mark, n: Mark) -> Mark
+    ensures { λ r. ⌜ r ≡ joinMarks m n ⌝ }
+{
+    m & n
+}
+
+// What a counts as an operand: its mark, and its number's own.
+pub fn reported(a: Marked) -> Mark
+    ensures { λ r. ⌜ r ≡ reported a ⌝ }
+{
+    a.inside & in_range(a.value)
+}
+
+// The number without its mark.
+pub fn value_of(a: Marked) -> f64
+    ensures { λ r. ⌜ r ≡ a .value ⌝ }
+{
+    a.value
+}
+
+// a + x * y, whose mark counts a's and the two results, and nothing of x and y: theirs are counted apart.
+pub fn with_product(a: Marked, x: f64, y: f64) -> Marked
+    ensures { λ r. ⌜ r ≡ withProduct a x y ⌝ }
+{
+    let p = x * y;
+    let r = a.value + p;
+    Marked {
+        value: r,
+        inside: a.inside & (in_range(p) & !lost_product(x, y, p)) & in_range(r),
+    }
 }
 
 // An input or a constant: no step led to it.
@@ -141,5 +184,15 @@ pub fn also(a: Marked, b: Marked) -> Marked
     Marked {
         value: a.value,
         inside: a.inside & b.inside,
+    }
+}
+
+// The number a, whose mark counts m too.
+pub fn also_mark(a: Marked, m: Mark) -> Marked
+    ensures { λ r. ⌜ r ≡ alsoMark a m ⌝ }
+{
+    Marked {
+        value: a.value,
+        inside: a.inside & m,
     }
 }

@@ -1,5 +1,5 @@
 -- `algebra_products_marked::adds_nothing` meets its contract.
-use Rattle.algebra_products_marked.specs.joints.Settled.{addsNothing}
+use Rattle.algebra_products_marked.specs.joints.CellMarks.{addsNothing}
 use borrow.Author.Needs.{needs}
 use Rattle.algebra_products_marked.proofs.adds_nothing.Statement.{statement}
 use Rattle.algebra_products_marked.proofs.adds_nothing.Tie as tie

@@ -1,6 +1,6 @@
 -- `algebra_products_marked::cell` meets its contract.
 use Prim.Native.Nat.{_≤_, _-_}
-use mathlib.Core.Path.{_≡_}
+use mathlib.Core.Path.{_≡_, _∙_}
 use lib.Ieee.{ofBits}
 use Rattle.algebra.specs.Kind.{marks}
 use Rattle.algebra.specs.Product.{cell}
@@ -16,9 +16,12 @@ Inv-loop inner i j a b sum₀ k₀ sum k = (k ≤ inner) × (sum ≡ cell marks 
 abbrev μ-loop : tie.MeasureT-loop
 μ-loop inner i j a b sum₀ k₀ sum k = inner - k
 
+zero-of-requires : tie.Need-zero-of-requires Inv-loop μ-loop
+zero-of-requires c κs = search needs
+
 loop-holds : tie.Need-loop-holds Inv-loop μ-loop
 unfolding cell ofBits
-loop-holds c = (omega arith, sum-none marks _)
+loop-holds c = (omega arith, c .zero-of .ensures ∙ sum-none marks _)
 
 mul-mul : tie.Need-mul-mul Inv-loop μ-loop
 mul-mul c = omega arith
@@ -70,6 +73,7 @@ cell-spec =
     (tie.spec
     Inv-loop
     μ-loop
+    zero-of-requires
     loop-holds
     mul-mul
     mul-mul-2

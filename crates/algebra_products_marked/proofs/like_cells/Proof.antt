@@ -1,6 +1,6 @@
 -- `algebra_products_marked::like_cells` meets its contract.
 use Prim.Native.Nat.{_≤_, _<_, _-_}
-use mathlib.Core.Path.{_≡_}
+use mathlib.Core.Path.{_≡_, _∙_}
 use lib.Ieee.{ofBits}
 use Rattle.algebra.specs.Kind.{marks, zeroOf}
 use Rattle.algebra.specs.Product.{sumCells, likeCells}
@@ -24,9 +24,12 @@ Inv-loop rows cols a b sum₀ i₀ sum i = (i ≤ rows) × (sum ≡ rowsTo (like
 abbrev μ-loop : tie.MeasureT-loop
 μ-loop rows cols a b sum₀ i₀ sum i = rows - i
 
+zero-of-requires : tie.Need-zero-of-requires Inv-loop2 μ-loop2 Inv-loop μ-loop
+zero-of-requires c κs = search needs
+
 loop-holds : tie.Need-loop-holds Inv-loop2 μ-loop2 Inv-loop μ-loop
 unfolding ofBits
-loop-holds c = (omega arith, rows-none _ _ _)
+loop-holds c = (omega arith, c .zero-of .ensures ∙ rows-none _ _ _)
 
 loop2-holds : tie.Need-loop2-holds Inv-loop2 μ-loop2 Inv-loop μ-loop
 loop2-holds c = (omega arith, omega arith, fold-start _ _ _)
@@ -91,6 +94,7 @@ like-cells-spec =
     μ-loop2
     Inv-loop
     μ-loop
+    zero-of-requires
     loop-holds
     loop2-holds
     mul-mul

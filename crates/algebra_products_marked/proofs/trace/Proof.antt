@@ -1,6 +1,6 @@
 -- `algebra_products_marked::trace` meets its contract.
 use Prim.Native.Nat.{_≤_, _-_}
-use mathlib.Core.Path.{_≡_}
+use mathlib.Core.Path.{_≡_, _∙_}
 use lib.Ieee.{ofBits}
 use Rattle.algebra.specs.Kind.{marks}
 use Rattle.algebra.specs.Product.{trace}
@@ -16,9 +16,12 @@ Inv-loop n a sum₀ i₀ sum i = (i ≤ n) × (sum ≡ trace marks i a)
 abbrev μ-loop : tie.MeasureT-loop
 μ-loop n a sum₀ i₀ sum i = n - i
 
+zero-of-requires : tie.Need-zero-of-requires Inv-loop μ-loop
+zero-of-requires c κs = search needs
+
 loop-holds : tie.Need-loop-holds Inv-loop μ-loop
 unfolding trace ofBits
-loop-holds c = (omega arith, sum-none marks _)
+loop-holds c = (omega arith, c .zero-of .ensures ∙ sum-none marks _)
 
 mul-add : tie.Need-mul-add Inv-loop μ-loop
 mul-add c = omega arith
@@ -55,6 +58,7 @@ trace-spec =
     (tie.spec
     Inv-loop
     μ-loop
+    zero-of-requires
     loop-holds
     mul-add
     mul-add-2
