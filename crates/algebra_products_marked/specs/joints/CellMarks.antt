@@ -38,6 +38,7 @@ results = record {
   root = marks .root;
   unsigned = marks .unsigned;
   also = marks .also;
+  inside = marks .inside;
 }
 
 -- the three together
