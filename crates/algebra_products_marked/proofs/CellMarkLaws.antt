@@ -1,5 +1,5 @@
--- The mark of a product's cell is that of its row, of its column and of its inner results, joined (`cell-in-parts`, `cell-mark`); and a turn whose left number is a zero adds
--- nothing to the inner results (`term-idle`). Of marks only what JoinLaws says is used.
+-- The mark of a product's cell is the join of its row's, its column's and the inner results' (`cell-in-parts`); a turn whose left number is a zero adds nothing to the inner
+-- results (`term-idle`); how the loops of a product keep to this. Of marks only what JoinLaws says is used.
 use Prim.Native.Nat.{ℕ, _+_, _<_, _≤_}
 use native.Mathlib.Omega.{arith}
 use native.Mathlib.Nat.{le-antisymm}
@@ -17,11 +17,9 @@ use Rattle.arithmetic.specs.Numbers.{plusZero, isZero, isFinite}
 use Rattle.arithmetic.specs.Marks.{Mark, marked, noMark, joinMarks, ownMark, reported, lostProduct, markedAdd, markedMul, alsoMark}
 use Rattle.arithmetic.proofs.Operations.{Zero}
 use Rattle.arithmetic.proofs.RangeTest.{zero-of-test}
-use Rattle.arithmetic.proofs.MarkLaws.{add-value, mul-value}
 use Rattle.arithmetic.proofs.JoinLaws.{join-none, join-again, join-term, marks-join, add-mark, mul-mark, zero-own, zero-product}
 use Rattle.arithmetic.proofs.ZeroTerms.{Plain, add-zero, add-plain, zero-times, add-finite}
-use Rattle.algebra.specs.Fold.{fold}
-use Rattle.algebra.specs.Table.{row, table}
+use Rattle.algebra.specs.Table.{row}
 use Rattle.algebra.specs.Kind.{marks, zeroOf}
 use Rattle.algebra.specs.Product.{at, sum, cell}
 use Rattle.algebra.proofs.FoldLaws.{fold-more, fold-none, fold-start, fold-next, fold-keeps, fold-steps}
@@ -67,12 +65,15 @@ record ThreeParts (a b : List (List Marked)) (i j n : ℕ) (s : Marked) : Type 0
   mark : s .inside ≡ joinMarks (joinMarks (rowMark n a i) (columnMark n b j)) (cell results n a b i j .inside)
   own : reported s ≡ s .inside
 
+zero-reported : reported (zeroOf marks) ≡ noMark
+zero-reported = ap (joinMarks noMark) (zero-own plusZero refl) ∙ marks-join .unit noMark
+
 parts-none : (a b : List (List Marked)) (i j : ℕ) → ThreeParts a b i j 0 (zeroOf marks)
 parts-none a b i j =
     record {
       value = sym (ap (λ (s : Marked). s .value) (cell-none a b i j));
-      mark = rw (cell-none a b i j, ← row-none a i, ← column-none b j) refl;
-      own = ap (joinMarks noMark) (zero-own plusZero refl);
+      mark = rw (cell-none a b i j, ← row-none a i, ← column-none b j) (sym (ap (λ (m : Mark). joinMarks m noMark) (marks-join .unit noMark) ∙ marks-join .unit noMark));
+      own = zero-reported;
     }
 
 parts-more : (a b : List (List Marked)) (i j n : ℕ) (s : Marked) → ThreeParts a b i j n s → ThreeParts a b i j (n + 1) (markedAdd s (markedMul (at marks a i n) (at marks b n j)))
@@ -105,7 +106,7 @@ whole n a b i j =
     fold-steps (λ k s. ThreeParts a b i j k s) 0 n (λ k s. markedAdd s (markedMul (at marks a i k) (at marks b k j))) (zeroOf marks) (omega arith) (parts-none a b i j)
     (λ k lo hk s h. parts-more a b i j k s h)
 
--- The law: a cell's mark is the inner results', joined to the row's and the column's.
+-- The law: a cell's mark is the inner results', joined to the row's and the column's; each counts every number once.
 pub cell-in-parts : (n : ℕ) (a b : List (List Marked)) (i j : ℕ) → cell marks n a b i j ≡ inParts n a b i j
 cell-in-parts n a b i j =
     let h = whole n a b i j in
@@ -118,7 +119,7 @@ cell-own : (n : ℕ) (a b : List (List Marked)) (i j : ℕ) → reported (cell r
 unfolding cell sum
 cell-own n a b i j =
     fold-keeps (λ s. reported s ≡ s .inside) 0 n (λ k s. results .plus s (results .times (at marks a i k) (at marks b k j))) (zeroOf results)
-    (ap (joinMarks noMark) (zero-own plusZero refl))
+    zero-reported
     (λ k lo hk s h.
     let t = results .times (at marks a i k) (at marks b k j) in
     join-again marks-join (joinMarks (s .inside) (t .inside)) (ownMark (add binary64 (s .value) (t .value))))

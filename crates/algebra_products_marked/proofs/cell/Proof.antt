@@ -1,7 +1,6 @@
 -- `algebra_products_marked::cell` meets its contract.
 use Prim.Native.Nat.{_≤_, _-_}
 use mathlib.Core.Path.{_≡_, _∙_}
-use lib.Ieee.{ofBits}
 use Rattle.algebra.specs.Kind.{marks}
 use Rattle.algebra.specs.Product.{cell}
 use Rattle.algebra_products.proofs.LoopLaws.{sum-none, sum-more, sum-end}
@@ -20,7 +19,7 @@ zero-of-requires : tie.Need-zero-of-requires Inv-loop μ-loop
 zero-of-requires c κs = search needs
 
 loop-holds : tie.Need-loop-holds Inv-loop μ-loop
-unfolding cell ofBits
+unfolding cell
 loop-holds c = (omega arith, c .zero-of .ensures ∙ sum-none marks _)
 
 mul-mul : tie.Need-mul-mul Inv-loop μ-loop

@@ -1,7 +1,6 @@
 -- `algebra_products_marked::like_cells` meets its contract.
 use Prim.Native.Nat.{_≤_, _<_, _-_}
 use mathlib.Core.Path.{_≡_, _∙_}
-use lib.Ieee.{ofBits}
 use Rattle.algebra.specs.Kind.{marks, zeroOf}
 use Rattle.algebra.specs.Product.{sumCells, likeCells}
 use Rattle.algebra.specs.Fold.{fold}
@@ -28,7 +27,6 @@ zero-of-requires : tie.Need-zero-of-requires Inv-loop2 μ-loop2 Inv-loop μ-loop
 zero-of-requires c κs = search needs
 
 loop-holds : tie.Need-loop-holds Inv-loop2 μ-loop2 Inv-loop μ-loop
-unfolding ofBits
 loop-holds c = (omega arith, c .zero-of .ensures ∙ rows-none _ _ _)
 
 loop2-holds : tie.Need-loop2-holds Inv-loop2 μ-loop2 Inv-loop μ-loop
