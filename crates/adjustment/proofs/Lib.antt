@@ -2,3 +2,4 @@
 pub mod PackedLaws
 pub mod InformationLaws
 pub mod AdjustedLaws
+pub mod AlikeScaling

@@ -1,11 +1,11 @@
 -- Two runs of one algorithm, on two kinds of number that are related, give related results. Each algorithm's law is stated once, over the relation.
 -- With `marks-floats` it says that the values of a marked run are those of the plain run.
-use Prim.Native.Nat.{ℕ, _+_, _-_, _<_, _≤_}
+use Prim.Native.Nat.{ℕ, suc, _+_, _-_, _<_, _≤_}
 use native.Mathlib.Omega.{arith}
 use native.Mathlib.Decide.{decLt}
-use mathlib.Core.Path.{_≡_, refl, sym, ap, _∙_}
+use mathlib.Core.Path.{_≡_, refl, sym, ap, ap₂, _∙_}
 use mathlib.Core.Bool.{Bool, true, false, cond}
-use mathlib.Core.List.{List, []}
+use mathlib.Core.List.{List, [], _∷_, map}
 use lib.Dec.{eqb, ltb}
 use lib.ListN.{getD, set, length, length-set, replicate, getD-replicate, length-replicate, List·getD-eq-default}
 use lib.Seq.{getD-set-same, getD-set-other, set-out}
@@ -15,11 +15,13 @@ use Rattle.arithmetic.proofs.MarkLaws.{add-value, sub-value, mul-value, div-val
 use Rattle.algebra.specs.Fold.{span}
 use Rattle.algebra.specs.Table.{row, blank, table}
 use Rattle.algebra.specs.Kind.{Arith, floats, marks, zeroOf}
-use Rattle.algebra.specs.Product.{sum, cell, product, transpose, sumCells, likeCells, trace, plusCells, minusCells, timesNumber, overNumber, identity}
+use Rattle.algebra.specs.Product.{at, sum, cell, product, transpose, sumCells, likeCells, trace, plusCells, minusCells, timesNumber, overNumber, identity}
 use Rattle.algebra.specs.Elimination.{Stopping, larger, pivotRow, swapRows, factor, lessBy, lessRow, cleared, eliminateColumn, eliminateTo, zeroPivot, columnOrStop, stopping, backSum, backCell, backTo, joined, refused, solution, inverse, inverseRefused}
 use Rattle.algebra.specs.Cholesky.{put, lessDot, belowDiagonal, choleskyColumn, choleskyTo, notPositive, choleskyRefused, lower}
 use Rattle.algebra.specs.Jacobi.{State, two, ratio, tangent, cosine, sine, turnedFirst, turnedSecond, turnRow, turnColumns, rotatedCell, rotated, squared, bound, rotateTested, rotate, rowTo, sweepTo, sweepsTo, mirrored, jacobi}
+use Rattle.algebra.specs.Small.{sandwich, givenCells, values, allMarks}
 use Rattle.algebra.proofs.FoldLaws.{fold-both, fold-ext}
+use Rattle.algebra.proofs.TableLaws.{table-ext}
 
 -- two choices, by tests that agree
 pub cond-both : {A B : Type 0} (P : A → B → Type 0) (b c : Bool) (x x′ : A) (y y′ : B) → b ≡ c → P x y → P x′ y′ → P (cond b x x′) (cond c y y′)
@@ -64,6 +66,17 @@ module _ {A B : Type 0} {R : A → B → Type 0} {d : A} {e : B} where
       → ((k : ℕ) → lo ≤ k → k < hi → R (f k) (g k)) → Each R d e (span lo hi f xs) (span lo hi g ys)
   each-span lo hi f g {xs} {ys} r s =
       fold-both (λ x y. Each R d e x y) lo hi (λ k x. set x k (f k)) (λ k y. set y k (g k)) xs ys r (λ k h l x y q. each-set k q (s k h l))
+
+-- what two functions make of related elements alike, they make of the lists
+pub each-map : {A B C : Type 0} {R : A → B → Type 0} {d : A} {e : B} (f : A → C) (g : B → C) → ((x : A) (y : B) → R x y → f x ≡ g y) → {xs : List A} {ys : List B}
+    → Each R d e xs ys → map f xs ≡ map g ys
+each-map {A} {B} {C} {R} {d} {e} f g s {xs} {ys} r = go xs ys (r .long) (r .each)
+  where
+    go : (xs : List A) (ys : List B) → length xs ≡ length ys → ((j : ℕ) → R (getD xs j d) (getD ys j e)) → map f xs ≡ map g ys
+    go [] [] h q = refl
+    go [] (y ∷ ys) h q = absurd (omega arith)
+    go (x ∷ xs) [] h q = absurd (omega arith)
+    go (x ∷ xs) (y ∷ ys) h q = ap₂ _∷_ (s x y (q 0)) (go xs ys (omega arith) (λ j. q (suc j)))
 
 -- matrices with related cells
 abbrev pub Cells : {A B : Type 0} → (A → B → Type 0) → A → B → List (List A) → List (List B) → Type 0
@@ -403,3 +416,21 @@ module _ {A B : Type 0} {R : A → B → Type 0} {N : Arith A} {M : Arith B} (k 
   pub lower-alike : {m : List (List A)} {m′ : List (List B)} (K C n : ℕ) → Like m m′ → Like (lower N K C n m) (lower M K C n m′)
   unfolding lower
   lower-alike K C n p = table-alike K C n n _ _ (λ i j h l. cond-both R (ltb i j) (ltb i j) _ _ _ _ refl (k .of plusZero) (p .each i .each j))
+
+  -- ---- small matrices
+  pub sandwich-alike : {l m : List (List A)} {l′ m′ : List (List B)} (K C q p : ℕ) → Like l l′ → Like m m′ → Like (sandwich N K C q p l m) (sandwich M K C q p l′ m′)
+  unfolding sandwich
+  sandwich-alike K C q p e f = product-alike K C q p q (product-alike K C q p p e f) (transpose-alike K C q p e)
+
+  -- the same plain numbers, given to both
+  pub givenCells-alike : (K C r c : ℕ) (a : List (List Float)) → Like (givenCells N K C r c a) (givenCells M K C r c a)
+  unfolding givenCells
+  givenCells-alike K C r c a = table-alike K C r c _ _ (λ i j h l. k .of (at floats a i j))
+
+  pub values-alike : {a : List (List A)} {a′ : List (List B)} (K C r c : ℕ) → Like a a′ → values N K C r c a ≡ values M K C r c a′
+  unfolding values
+  values-alike K C r c p = table-ext plusZero K C r c _ _ (λ i j h l. k .value (p .each i .each j))
+
+  pub allMarks-alike : {a : List (List A)} {a′ : List (List B)} {x : A} {y : B} (r c : ℕ) → Like a a′ → R x y → R (allMarks N r c a x) (allMarks M r c a′ y)
+  unfolding allMarks
+  allMarks-alike r c p e = fold-both R 0 r _ _ _ _ e (λ i h l x y q. fold-both R 0 c _ _ x y q (λ j v u s t f. k .also f (p .each i .each j)))

@@ -1,4 +1,4 @@
--- The laws of the tests: the Satterthwaite test under a change of converter, and the bench examples, computed.
+-- The laws of the tests: both tests on two kinds of number, the Satterthwaite test under a change of converter, and the bench examples, computed.
 pub mod MovingOrder
 pub mod VarianceLaws
 pub mod MovingVariance
@@ -7,3 +7,6 @@ pub mod SatterthwaiteSurvives
 pub mod DdfBench
 pub mod KenwardRogerBench
 pub mod RotationMark
+pub mod AlikeTests
+pub mod AlikeSatterthwaite
+pub mod PlainTests
