@@ -104,6 +104,11 @@ zero-agrees u x x' p = rw (p .moved) (zero-scale u x)
 pub larger-agrees : (u : ℤ) (x y x' y' : Float) → Tied u x x' → Tied u y y' → isLarger x' y' ≡ isLarger x y
 larger-agrees u x y x' y' p q = rw (p .moved, q .moved) (larger-scale u x y)
 
+-- a shift twice is twice as large
+pub abs-twice : (k : ℤ) → natAbs (k +ℤ k) ≡ natAbs k + natAbs k
+abs-twice (pos a) = refl
+abs-twice (negsuc a) = omega arith
+
 -- half of a shift is no larger
 pub half-small : (w : ℤ) {t : ℕ} → natAbs (w +ℤ w) ≤ t → natAbs w ≤ t
 half-small (pos a) h = omega arith

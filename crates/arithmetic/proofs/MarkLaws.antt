@@ -14,13 +14,13 @@ use Rattle.arithmetic.specs.declared.Marked.{Marked}
 use Rattle.arithmetic.specs.Numbers.{magnitude, isZero}
 use Rattle.arithmetic.specs.Scale.{scale, powerOfTwo}
 use Rattle.arithmetic.specs.SquareRoot.{squareRoot}
-use Rattle.arithmetic.specs.Marks.{inRange, marked, given, stepMark, lostProduct, lostQuotient, markedAdd, markedSub, markedMul, markedDiv, markedRoot, markedMagnitude, also}
+use Rattle.arithmetic.specs.Marks.{inRange, marked, Mark, mostBorne, MarkBears, isInside, given, stepMark, lostProduct, lostQuotient, markedAdd, markedSub, markedMul, markedDiv, markedRoot, markedMagnitude, also}
 use Rattle.arithmetic.proofs.Operations.{Zero, Safe}
 use Rattle.arithmetic.proofs.Rounding.{Within}
 use Rattle.arithmetic.proofs.Ranges.{within-mono, safe-within, zero-safe}
 use Rattle.arithmetic.proofs.RangeTest.{or-cases, zero-of-test, test-of-zero, range-cases}
 use Rattle.arithmetic.proofs.PowerOfTwo.{normal-is-mul}
-use Rattle.arithmetic.proofs.PlainLaws.{magnitude-scale, magnitude-fits}
+use Rattle.arithmetic.proofs.PlainLaws.{of-eq, magnitude-scale, magnitude-fits}
 use Rattle.arithmetic.proofs.Tied.{Tied, add-tied, sub-tied, mul-tied, div-tied}
 use Rattle.arithmetic.proofs.RootWhole.{root-scale}
 use Rattle.arithmetic.proofs.RootCases.{root-fits}
@@ -62,11 +62,15 @@ also-mark x i a = refl
 -- ---- what a mark bears
 pub record Bears (t : ℕ) (a : Marked) : Type 0 where
   mark : T (a .inside)
-  small : t ≤ 221
+  small : t ≤ mostBorne
 
--- an inside number bears every shift up to 2 ^ 221: its exponents lie within 800 of 0, and those of a normal f64 reach from -1021 to 1022
-pub inside-bears : {t : ℕ} (a : Marked) → t ≤ 221 → T (a .inside) → Bears t a
-inside-bears a h i = record { mark = i; small = h }
+-- a number bears what its mark bears
+pub mark-bears : {t : ℕ} (a : Marked) → MarkBears t (isInside a) → Bears t a
+mark-bears a h = record { mark = of-eq (h .inside); small = h .covered }
+
+-- an inside mark bears all that any bears
+pub inside-bears : {t : ℕ} {m : Mark} → t ≤ mostBorne → m ≡ true → MarkBears t m
+inside-bears h i = record { inside = i; covered = h }
 
 -- another number with a mark, under the same bound
 at : {t : ℕ} {a b : Marked} → Bears t a → T (b .inside) → Bears t b
@@ -152,13 +156,13 @@ Moves t u a a' = Bears t a → Tied u (a .value) (a' .value)
 pub given-moves : {t : ℕ} (u : ℤ) (x x' : Float) → Tied u x x' → Moves t u (given x) (given x')
 given-moves u x x' h b = h
 
--- what is in range can be scaled by each power up to 2 ^ 221
-range-safe : (u : ℤ) (t : ℕ) (x : Float) → natAbs u ≤ t → t ≤ 221 → T (inRange x) → Safe binary64 u x
+-- what is in range can be scaled by each power that a mark bears
+range-safe : (u : ℤ) (t : ℕ) (x : Float) → natAbs u ≤ t → t ≤ mostBorne → T (inRange x) → Safe binary64 u x
 range-safe u t x n k i = go (range-cases x i)
   where
     go : Zero x ⊎ Within binary64 274 1875 x → Safe binary64 u x
     go (inl z) = zero-safe binary64 u x z
-    go (inr w) = safe-within binary64 u 274 1875 221 x (le-trans n k) (lit≤ tt) (lit≤ tt) w
+    go (inr w) = safe-within binary64 u 274 1875 mostBorne x (le-trans n k) (lit≤ tt) (lit≤ tt) w
 
 -- ---- the operands of a step: they can be scaled too, and are f64 numbers again
 safe-fits : (u : ℤ) (x : Float) → Safe binary64 u x → T (fits binary64 x) → T (fits binary64 (scale u x))

@@ -1,4 +1,6 @@
 -- Marked numbers (document 01: "A marked number is a value together with its mark") and the marked steps, those that bear an M.
+use Prim.Native.Nat.{ℕ, _≤_}
+use mathlib.Core.Path.{_≡_}
 use mathlib.Core.Bool.{Bool, true, false, not, _&&_, _||_}
 use lib.IntN.{pos, negsuc}
 use lib.Ieee.{Float, fin, binary64, add, sub, mul, div, lt, le}
@@ -35,6 +37,15 @@ joinMarks m n = m && n
 -- what a number counts by itself, as an operand or a result
 abbrev pub ownMark : Float → Mark
 ownMark x = inRange x
+
+-- HOW FAR A MARK BEARS. Exponents from -800 to 800, moved by up to 221 either way, stay from -1021 to 1022: the numbers are normal f64 numbers again, and the same steps round alike.
+abbrev pub mostBorne : ℕ
+mostBorne = 221
+
+-- m bears every shift up to 2 ^ t, either way, of the numbers that it counts
+pub record MarkBears (t : ℕ) (m : Mark) : Type 0 where
+  pub inside : m ≡ true
+  pub covered : t ≤ mostBorne
 
 -- an input or a constant: no step led to it
 abbrev pub given : Float → Marked

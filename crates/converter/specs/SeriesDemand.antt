@@ -1,12 +1,13 @@
 -- Document 01, demand 3, the verdict survives a change of converter: what it says of the Kenward–Roger call on the bytes of a record file, over the definitions that the C function
 -- promises (the number that it returns, the seven entries, the bytes that it writes). Under another converter sigma2 is 4 ^ k times what it was, β and β_H 2 ^ k times, and row r of the contrast
 -- 2 ^ (m r) times, each value as f64 multiplication gives it. w is the limit of specimens, 24 at the panel.
-use Prim.Native.Nat.{ℕ, _<_, _≤_}
+use Prim.Native.Nat.{ℕ, _*_, _<_, _≤_}
 use mathlib.Core.Path.{_≡_}
 use mathlib.Core.Bool.{true}
 use mathlib.Core.List.{List, map}
 use lib.IntN.{ℤ, natAbs}
 use lib.ListN.{getD}
+use Rattle.arithmetic.specs.Marks.{MarkBears}
 use Rattle.arithmetic_cutoffs.specs.declared.Cutoffs.{Cutoffs}
 use Rattle.tests.specs.Answer.{noEntry}
 use Rattle.records.specs.Series.{coefficients, contrastRows}
@@ -20,14 +21,25 @@ pub record AllInside (w : ℕ) (c : Cutoffs) (s : List ℕ) : Type 0 where
   pub coefficient : (i : ℕ) → i < coefficients s → getD (entries w c s) i noEntry .inside ≡ true
   pub contrast : 0 < contrastRows s → getD (entries w c s) 6 noEntry .inside ≡ true
 
+-- the same entries bear shifts up to 2 ^ t; all bear what an inside mark bears where the run is inside
+pub record AllBear (t w : ℕ) (c : Cutoffs) (s : List ℕ) : Type 0 where
+  pub coefficient : (i : ℕ) → i < coefficients s → MarkBears t (getD (entries w c s) i noEntry .inside)
+  pub contrast : 0 < contrastRows s → MarkBears t (getD (entries w c s) 6 noEntry .inside)
+
 -- "F, df and rank are its verdict, and a run's verdict is the verdicts of all its entries": s' is accepted, and each of its entries has the rank, F and df of the entry of s, none
 -- where that has none; the marks may differ
 pub record SameVerdicts (w : ℕ) (c : Cutoffs) (s s' : List ℕ) : Type 0 where
   pub accepted : number w c s' ≡ 0
   pub verdicts : map verdict (entries w c s') ≡ map verdict (entries w c s)
 
--- P of a file and of what another converter makes of it: every file that is accepted with all entries inside, whatever the cutoffs, k from -32 to 32 and for each contrast row an m of its
--- own from -32 to 32
+-- P of a file and of what another converter makes of it: every file that is accepted with entries that bear t, whatever the cutoffs, and every k and m that t covers, 2|k| ≤ t and |m r| ≤ t for each
+-- contrast row r: sigma2 moves by 2k, row r by m r, and no number of a marked step by more than the larger of the two
+abbrev pub SeriesBorne : (ℕ → Cutoffs → List ℕ → List ℕ → Type 0) → ℕ → Type 0
+SeriesBorne P w =
+    (t : ℕ) (c : Cutoffs) (s : List ℕ) (k : ℤ) (m : ℕ → ℤ) → 2 * natAbs k ≤ t → ((r : ℕ) → r < contrastRows s → natAbs (m r) ≤ t) → number w c s ≡ 0 → AllBear t w c s
+    → P w c s (converted (kenwardRogerChange k m) s)
+
+-- the same for every file that is accepted with all entries inside, k from -32 to 32 and for each contrast row an m of its own from -32 to 32
 abbrev pub SeriesAt : (ℕ → Cutoffs → List ℕ → List ℕ → Type 0) → ℕ → Type 0
 SeriesAt P w =
     (c : Cutoffs) (s : List ℕ) (k : ℤ) (m : ℕ → ℤ) → natAbs k ≤ 32 → ((r : ℕ) → r < contrastRows s → natAbs (m r) ≤ 32) → number w c s ≡ 0 → AllInside w c s
@@ -40,6 +52,10 @@ EverySeries P = (w : ℕ) → SeriesAt P w
 -- the same answer bytes, 168 of them, but for the marks
 abbrev pub SameAnswers : ℕ → Cutoffs → List ℕ → List ℕ → Type 0
 SameAnswers w c s s' = SameAnswer 168 (written w c s) (returned w c s') (written w c s')
+
+-- FROM ONE PREMISE: what the marks bear
+abbrev pub KenwardRogerBorne : Type 0
+KenwardRogerBorne = (w : ℕ) → SeriesBorne SameVerdicts w
 
 -- THE THIRD DEMAND, for the Kenward–Roger call: in entries, and in its answer bytes
 abbrev pub KenwardRogerDemand : Type 0

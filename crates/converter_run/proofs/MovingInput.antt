@@ -1,5 +1,5 @@
--- The input of a run that is marked inside: each of its numbers, times its power of two, is an f64 number again. So multiplication in f64 converts it exactly.
-use Prim.Native.Nat.{ℕ, _≤_, _<_}
+-- The input of a run whose entries bear t: each of its numbers, times its power of two, is an f64 number again. So multiplication in f64 converts it exactly.
+use Prim.Native.Nat.{ℕ, _*_, _≤_, _<_}
 use native.Mathlib.Nat.{le-trans}
 use native.Mathlib.Omega.{arith}
 use mathlib.Core.Path.{_∙_}
@@ -18,18 +18,18 @@ use Rattle.arithmetic.proofs.MarkLaws.{Bears, sub-operands, mul-operands}
 use Rattle.algebra.specs.Kind.{floats, marks}
 use Rattle.algebra.specs.Product.{at, timesNumber}
 use Rattle.algebra.proofs.TableLaws.{table-at}
-use Rattle.algebra.proofs.MovingCells.{BearsCells, table-bears, half-small}
+use Rattle.algebra.proofs.MovingCells.{BearsCells, table-bears, abs-twice}
 use Rattle.algebra.specs.Small.{Rows, givenCells}
 use Rattle.arithmetic_cutoffs.specs.declared.Cutoffs.{Cutoffs}
 use Rattle.adjustment.specs.Adjusted.{Adjustment, scaledUp}
 use Rattle.tests.specs.Basis.{Basis, dividedCell, divided, contrastBasis}
 use Rattle.tests.specs.KenwardRoger.{Scaled, scaledBy, difference, unitRow, coefficientTest, contrastTest}
-use Rattle.tests.specs.Verdict.{Inside}
+use Rattle.tests.specs.Verdict.{RunBears}
 use Rattle.converter_run.specs.joints.ConvertedInput.{Input, runOn, ConvertedInput, Multiplied, RunSizes, WrittenCells, Written}
 use Rattle.algebra_products.proofs.MovingSmall.{allMarks-cells}
 use Rattle.converter_run.proofs.MovingBasis.{basis-seen, divided-fits}
 use Rattle.converter_run.proofs.MovingTest.{TestBears, test-bears}
-use Rattle.converter_run.proofs.MovingRun.{inside-seen, coefficient-inside, contrast-inside, double-small}
+use Rattle.converter_run.proofs.MovingRun.{entry-seen, coefficient-bears, contrast-bears}
 
 zero-fits : T (fits binary64 plusZero)
 unfolding fits
@@ -60,33 +60,33 @@ contrast-fits {t} rows p hr hp l w b u n i j h o =
     let c : BearsCells t rows p (divided marks rows p l) = allMarks-cells rows p (divided marks rows p l) (given plusZero) (rw (basis-seen rows p l) at b) in
     divided-fits p i u n l (λ j q. w i j h q) j o (table-bears 6 6 rows p (dividedCell marks p l) hr hp i j h o (c .cell i j h o))
 
--- ---- the input of a run that is inside, k and every m from -32 to 32
-module _ (c : Cutoffs) (p N rows : ℕ) (k : ℤ) (m : ℕ → ℤ) (phi : Rows) (a : Adjustment) (x : Input) (sizes : RunSizes p N rows) (near : natAbs k ≤ 32)
-    (nears : (i : ℕ) → i < rows → natAbs (m i) ≤ 32) (w : WrittenCells p p phi) (written : Written p rows x) (inside : Inside p rows (runOn c p N rows phi a x)) where
+-- ---- the input of a run that bears t, with 2|k| and the power of each contrast row at most t
+module _ {t : ℕ} (c : Cutoffs) (p N rows : ℕ) (k : ℤ) (m : ℕ → ℤ) (phi : Rows) (a : Adjustment) (x : Input) (sizes : RunSizes p N rows) (near : 2 * natAbs k ≤ t)
+    (nears : (i : ℕ) → i < rows → natAbs (m i) ≤ t) (w : WrittenCells p p phi) (written : Written p rows x) (bears : RunBears t p rows (runOn c p N rows phi a x)) where
   abbrev s : Scaled Marked
   s = scaledBy marks p N phi (x .sigma2) a
 
   abbrev unit : Basis Marked
   unit = contrastBasis marks 1 p (unitRow p 0)
 
-  first-test : TestBears 64 c s (x .beta) (replicate 6 plusZero) unit
+  first-test : TestBears t c s (x .beta) (replicate 6 plusZero) unit
   unfolding coefficientTest scaledBy
   first-test =
       test-bears c s (x .beta) (replicate 6 plusZero) unit
-      (inside-seen c s (x .beta) (replicate 6 plusZero) unit (lit≤ tt) (coefficient-inside c p N rows phi a x (sizes .coefficients) inside 0 (sizes .some)))
+      (entry-seen c s (x .beta) (replicate 6 plusZero) unit (coefficient-bears c p N rows phi a x (sizes .coefficients) bears 0 (sizes .some)))
 
-  contrast-test : 0 < rows → TestBears 64 c s (x .beta) (x .betaH) (contrastBasis marks rows p (x .contrast))
+  contrast-test : 0 < rows → TestBears t c s (x .beta) (x .betaH) (contrastBasis marks rows p (x .contrast))
   unfolding contrastTest scaledBy
   contrast-test r =
       test-bears c s (x .beta) (x .betaH) (contrastBasis marks rows p (x .contrast))
-      (inside-seen c s (x .beta) (x .betaH) (contrastBasis marks rows p (x .contrast)) (lit≤ tt)
-      (contrast-inside c p N rows phi a x (sizes .coefficients) inside (ne-eqb rows 0 (λ e. omega arith))))
+      (entry-seen c s (x .beta) (x .betaH) (contrastBasis marks rows p (x .contrast))
+      (contrast-bears c p N rows phi a x (sizes .coefficients) bears (ne-eqb rows 0 (λ e. omega arith))))
 
-  near2 : natAbs (k +ℤ k) ≤ 64
-  near2 = double-small k near
+  near2 : natAbs (k +ℤ k) ≤ t
+  near2 = omega (arith, abs-twice k)
 
-  near1 : natAbs k ≤ 64
-  near1 = half-small k near2
+  near1 : natAbs k ≤ t
+  near1 = omega arith
 
   sigma2-again : T (fits binary64 (scale (k +ℤ k) (x .sigma2)))
   unfolding scaledBy
@@ -104,7 +104,7 @@ module _ (c : Cutoffs) (p N rows : ℕ) (k : ℤ) (m : ℕ → ℤ) (phi : Rows)
 
   contrast-again : (i j : ℕ) → i < rows → j < p → T (fits binary64 (scale (m i) (at floats (x .contrast) i j)))
   contrast-again i j h o =
-      contrast-fits rows p (sizes .contrast) (sizes .coefficients) (x .contrast) (written .contrast) (contrast-test (omega arith) .scaling .before) (m i) (le-trans (nears i h) (lit≤ tt)) i j h o
+      contrast-fits rows p (sizes .contrast) (sizes .coefficients) (x .contrast) (written .contrast) (contrast-test (omega arith) .scaling .before) (m i) (nears i h) i j h o
 
   -- multiplication in f64 by the powers of two is the exact scaling that the third demand speaks of
   pub multiplied-is-converted : (x' : Input) → Multiplied k m p rows x x' → ConvertedInput k m p rows x x'

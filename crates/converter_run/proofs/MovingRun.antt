@@ -1,29 +1,28 @@
--- The Kenward–Roger run: where all its entries are marked inside, a change of converter leaves its refusal, its verdicts and the late refusal of its adjustment as they were.
-use Prim.Native.Nat.{ℕ, zero, suc, _+_, _≤_, _<_}
+-- The Kenward–Roger run: where the marks of all its entries bear t, a change of converter that t covers leaves its refusal, its verdicts and the late refusal of its adjustment as they were.
+use Prim.Native.Nat.{ℕ, zero, suc, _+_, _*_, _≤_, _<_}
 use native.Mathlib.Nat.{le-trans, min-le-left}
 use native.Mathlib.Omega.{arith}
 use native.Mathlib.Decide.{decLt}
 use mathlib.Core.Path.{_≡_, refl, sym, ap, _∙_, subst}
 use mathlib.Core.Bool.{Bool, true, false, cond}
 use mathlib.Core.List.{List, [], _∷_, map}
-use lib.Dec.{T, eqb, lit≤}
-use lib.IntN.{ℤ, pos, negsuc, negℤ, natAbs, _+ℤ_}
+use lib.Dec.{T, eqb}
+use lib.IntN.{ℤ, pos, negℤ, natAbs, _+ℤ_}
 use lib.ListN.{getD, set, length, replicate, length-set, length-replicate, getD-replicate}
 use lib.Seq.{getD-set-same, getD-set-other}
 use lib.Ieee.{Float, nan, binary64, fits}
 use borrow.Author.Tests.{eqb-false}
 use Rattle.arithmetic.specs.declared.Marked.{Marked}
 use Rattle.arithmetic.specs.Numbers.{plusZero, one}
-use Rattle.arithmetic.specs.Marks.{given}
+use Rattle.arithmetic.specs.Marks.{MarkBears, given}
 use Rattle.arithmetic.proofs.Tied.{Tied}
-use Rattle.arithmetic.proofs.PlainLaws.{of-eq}
-use Rattle.arithmetic.proofs.MarkLaws.{Bears, inside-bears}
+use Rattle.arithmetic.proofs.MarkLaws.{Bears, mark-bears}
 use Rattle.algebra.specs.Table.{blank}
 use Rattle.algebra.specs.Kind.{floats, marks}
 use Rattle.algebra.specs.Product.{at}
 use Rattle.algebra.proofs.FoldLaws.{fold-both, fold-steps, span-at}
 use Rattle.algebra.proofs.TableLaws.{table-at}
-use Rattle.algebra.proofs.MovingCells.{MovesCells, cond-both}
+use Rattle.algebra.proofs.MovingCells.{MovesCells, abs-twice, cond-both}
 use Rattle.arithmetic_cutoffs.specs.declared.Cutoffs.{Cutoffs}
 use Rattle.adjustment.specs.Adjusted.{Adjustment, matrixAt, scaledUp, scaledDown, outputNotFinite}
 use Rattle.tests.specs.declared.Entry.{Entry}
@@ -31,7 +30,7 @@ use Rattle.tests.specs.Basis.{Basis, contrastBasis}
 use Rattle.tests_basis.proofs.Rank.{rank-most}
 use Rattle.tests.specs.Answer.{noEntry}
 use Rattle.tests.specs.KenwardRoger.{Scaled, Tested, Run, scaledPs, scaledBy, testSeen, tested, unitRow, coefficientTest, contrastTest, withTest, coefficientsTo, runOf}
-use Rattle.tests.specs.Verdict.{Verdict, verdict, verdicts, Inside, RunSurvives}
+use Rattle.tests.specs.Verdict.{Verdict, verdict, verdicts, RunBears, RunSurvives}
 use Rattle.converter_run.specs.joints.ConvertedInput.{Input, runOn, ConvertedInput, RunSizes, WrittenCells, Written, WrittenUnits}
 use Rattle.algebra_products.proofs.MovingSmall.{tied-still, tied-nil}
 use Rattle.algebra.specs.Small.{Rows}
@@ -47,9 +46,9 @@ ps-at p N ps x hN r h =
     (omega (arith, length-replicate 4 (blank (given plusZero) 6 6), hN))
 
 -- ---- a test's mark
-pub inside-seen : {t : ℕ} (c : Cutoffs) (s : Scaled Marked) (beta betaH : List Float) (b : Basis Marked) → t ≤ 221 → tested marks c s beta betaH b .entry .inside ≡ true → Bears t (testSeen marks c s beta betaH b)
+pub entry-seen : {t : ℕ} (c : Cutoffs) (s : Scaled Marked) (beta betaH : List Float) (b : Basis Marked) → MarkBears t (tested marks c s beta betaH b .entry .inside) → Bears t (testSeen marks c s beta betaH b)
 unfolding tested
-inside-seen c s beta betaH b h e = inside-bears (testSeen marks c s beta betaH b) h (of-eq e)
+entry-seen c s beta betaH b h = mark-bears (testSeen marks c s beta betaH b) h
 
 -- a basis from its parts; one with the same rows and rank, and its own mark
 abbrev basisFrom : Rows → ℕ → Marked → Basis Marked
@@ -67,7 +66,7 @@ unit-tied p i hp r j h l =
     (cond-both (λ (x : Float). T (fits binary64 x)) (eqb j i) one plusZero tt tt))
 
 -- ---- one contrast, from the input
-module _ {t : ℕ} (c : Cutoffs) (p N : ℕ) (p1 : 1 ≤ p) (hp : p ≤ 6) (hN : N ≤ 4) (k : ℤ) (small : t ≤ 221) (n2 : natAbs (k +ℤ k) ≤ t) (phi : Rows) (a : Adjustment)
+module _ {t : ℕ} (c : Cutoffs) (p N : ℕ) (p1 : 1 ≤ p) (hp : p ≤ 6) (hN : N ≤ 4) (k : ℤ) (n2 : natAbs (k +ℤ k) ≤ t) (phi : Rows) (a : Adjustment)
     (units : WrittenUnits p N phi a) (sigma2 sigma2' : Float) (es : Tied (k +ℤ k) sigma2 sigma2') (beta beta' : List Float)
     (eb : (i : ℕ) → i < p → Tied k (getD beta i nan) (getD beta' i nan)) where
   abbrev s : Scaled Marked
@@ -90,31 +89,31 @@ module _ {t : ℕ} (c : Cutoffs) (p N : ℕ) (p1 : 1 ≤ p) (hp : p ≤ 6) (hN :
         (scaledUp-moves p hp (k +ℤ k) n2 sigma2 sigma2' es phi (units .phi)) (scaledUp-moves p hp (k +ℤ k) n2 sigma2 sigma2' es (a .phiA) (units .phiA)) ps-moves eb eh w h
 
     pub contrast-survives : (rows : ℕ) → 1 ≤ rows → rows ≤ 6 → (m : ℕ → ℤ) (l l' : Rows)
-        → ((i j : ℕ) → i < rows → j < p → Tied (m i) (at floats l i j) (at floats l' i j)) → contrastTest marks c s beta betaH rows l .entry .inside ≡ true
+        → ((i j : ℕ) → i < rows → j < p → Tied (m i) (at floats l i j) (at floats l' i j)) → MarkBears t (contrastTest marks c s beta betaH rows l .entry .inside)
         → SameTested (contrastTest marks c s beta betaH rows l) (contrastTest marks c s' beta' betaH' rows l')
     unfolding contrastTest scaledBy
     contrast-survives rows r1 hr m l l' el e =
         let b : Basis Marked = contrastBasis marks rows p l in
         let b' : Basis Marked = contrastBasis marks rows p l' in
-        let seen : Bears t (testSeen marks c s beta betaH b) = inside-seen c s beta betaH b small e in
+        let seen : Bears t (testSeen marks c s beta betaH b) = entry-seen c s beta betaH b e in
         let same : SameBasis b b' = basis-agrees rows p hr hp m l l' el (test-bears c s beta betaH b seen .scaling .before) in
         let hq : b .rank ≤ 6 = le-trans (rank-most rows p l r1 p1) (le-trans (min-le-left rows p) hr) in
         subst (λ (x : Basis Marked). SameTested (tested marks c s beta betaH b) (tested marks c s' beta' betaH' x)) (basis-is b b' same)
         (basis-test (b .rows) (b .rank) (b .seen) (b' .seen) hq (basis-written rows p hr hp l (λ i j h o. el i j h o .fine) r1 p1) seen)
 
-  pub coefficient-survives : (i : ℕ) → coefficientTest marks c s beta i .entry .inside ≡ true → SameTested (coefficientTest marks c s beta i) (coefficientTest marks c s' beta' i)
+  pub coefficient-survives : (i : ℕ) → MarkBears t (coefficientTest marks c s beta i .entry .inside) → SameTested (coefficientTest marks c s beta i) (coefficientTest marks c s' beta' i)
   unfolding coefficientTest contrastTest scaledBy
   coefficient-survives i e =
       contrast-survives (replicate 6 plusZero) (replicate 6 plusZero) (λ j h. rw (getD-replicate 6 j plusZero nan (omega arith)) (tied-nil k)) 1 (omega arith) (omega arith) (λ r. pos 0)
       (unitRow p i) (unitRow p i) (unit-tied p i hp) e
 
-  -- the late refusal 4, where one coefficient's test is marked inside
-  pub output-survives : (i : ℕ) → coefficientTest marks c s beta i .entry .inside ≡ true → outputNotFinite p N phi sigma2' a ≡ outputNotFinite p N phi sigma2 a
+  -- the late refusal 4, where the mark of one coefficient's test bears t
+  pub output-survives : (i : ℕ) → MarkBears t (coefficientTest marks c s beta i .entry .inside) → outputNotFinite p N phi sigma2' a ≡ outputNotFinite p N phi sigma2 a
   unfolding coefficientTest scaledBy
   output-survives i e =
       let betaH : List Float = replicate 6 plusZero in
       let b : Basis Marked = contrastBasis marks 1 p (unitRow p i) in
-      let seen : ScalingBears t s (b .seen) = test-bears c s beta betaH b (inside-seen c s beta betaH b small e) .scaling in
+      let seen : ScalingBears t s (b .seen) = test-bears c s beta betaH b (entry-seen c s beta betaH b e) .scaling in
       output-agrees p hp (k +ℤ k) n2 sigma2 sigma2' es N phi a (units .phi) (units .phiA) (units .ps) (seen .phi) (seen .phiA) (λ r h. rw (ps-at p N (a .ps) sigma2 hN r h) at (seen .ps r h))
 
 -- ---- the entries of a run
@@ -183,25 +182,25 @@ some n f = go (decLt 0 n)
     go (yes h) = h
     go (no h) = absurd (f (omega arith))
 
-pub double-small : (k : ℤ) → natAbs k ≤ 32 → natAbs (k +ℤ k) ≤ 64
-double-small (pos a) h = omega arith
-double-small (negsuc a) h = omega arith
-
--- a run that is inside: each of its tests is
-module _ (c : Cutoffs) (p N rows : ℕ) (phi : Rows) (a : Adjustment) (x : Input) (hp : p ≤ 6) (inside : Inside p rows (runOn c p N rows phi a x)) where
-  pub coefficient-inside : (i : ℕ) → i < p → coefficientTest marks c (scaledBy marks p N phi (x .sigma2) a) (x .beta) i .entry .inside ≡ true
+-- a run that bears t: each of its tests does
+module _ {t : ℕ} (c : Cutoffs) (p N rows : ℕ) (phi : Rows) (a : Adjustment) (x : Input) (hp : p ≤ 6) (bears : RunBears t p rows (runOn c p N rows phi a x)) where
+  pub coefficient-bears : (i : ℕ) → i < p → MarkBears t (coefficientTest marks c (scaledBy marks p N phi (x .sigma2) a) (x .beta) i .entry .inside)
   unfolding scaledBy
-  coefficient-inside i h =
-      ap (λ (e : Entry). e .inside) (sym (run-coefficient c (scaledBy marks p N phi (x .sigma2) a) (x .beta) (x .betaH) rows (x .contrast) hp i h)) ∙ inside .coefficient i h
+  coefficient-bears i h =
+      subst (λ (e : Entry). MarkBears t (e .inside)) (run-coefficient c (scaledBy marks p N phi (x .sigma2) a) (x .beta) (x .betaH) rows (x .contrast) hp i h) (bears .coefficient i h)
 
-  pub contrast-inside : eqb rows 0 ≡ false → contrastTest marks c (scaledBy marks p N phi (x .sigma2) a) (x .beta) (x .betaH) rows (x .contrast) .entry .inside ≡ true
+  pub contrast-bears : eqb rows 0 ≡ false → MarkBears t (contrastTest marks c (scaledBy marks p N phi (x .sigma2) a) (x .beta) (x .betaH) rows (x .contrast) .entry .inside)
   unfolding scaledBy
-  contrast-inside h =
-      ap (λ (e : Entry). e .inside) (sym (run-contrast c (scaledBy marks p N phi (x .sigma2) a) (x .beta) (x .betaH) rows (x .contrast) hp h))
-      ∙ inside .contrast (some rows (eqb-false rows 0 h))
+  contrast-bears h =
+      subst (λ (e : Entry). MarkBears t (e .inside)) (run-contrast c (scaledBy marks p N phi (x .sigma2) a) (x .beta) (x .betaH) rows (x .contrast) hp h)
+      (bears .contrast (some rows (eqb-false rows 0 h)))
 
-module _ (c : Cutoffs) (p N rows : ℕ) (k : ℤ) (m : ℕ → ℤ) (phi : Rows) (a : Adjustment) (x x' : Input) (sizes : RunSizes p N rows) (near : natAbs k ≤ 32)
-    (units : WrittenUnits p N phi a) (written : Written p rows x) (converted : ConvertedInput k m p rows x x') (inside : Inside p rows (runOn c p N rows phi a x)) where
+-- t covers 2|k|, the shift of sigma2: nothing that is marked moves further
+module _ {t : ℕ} (c : Cutoffs) (p N rows : ℕ) (k : ℤ) (m : ℕ → ℤ) (phi : Rows) (a : Adjustment) (x x' : Input) (sizes : RunSizes p N rows) (near : 2 * natAbs k ≤ t)
+    (units : WrittenUnits p N phi a) (written : Written p rows x) (converted : ConvertedInput k m p rows x x') (bears : RunBears t p rows (runOn c p N rows phi a x)) where
+  near2 : natAbs (k +ℤ k) ≤ t
+  near2 = omega (arith, abs-twice k)
+
   sigma2-tied : Tied (k +ℤ k) (x .sigma2) (x' .sigma2)
   sigma2-tied = record { fine = written .sigma2; moved = converted .sigma2 }
 
@@ -226,20 +225,20 @@ module _ (c : Cutoffs) (p N rows : ℕ) (k : ℤ) (m : ℕ → ℤ) (phi : Rows)
       fold-both (λ r r'. RunSurvives r r') 0 p (λ i r. withTest i (coefficientTest marks c before (x .beta) i) r) (λ i r. withTest i (coefficientTest marks c after (x' .beta) i) r)
       (record { refused = false; entries = replicate 7 noEntry }) (record { refused = false; entries = replicate 7 noEntry }) (record { refusal = refl; same = refl })
       (λ i h l r r' q. with-survives i (coefficientTest marks c before (x .beta) i) (coefficientTest marks c after (x' .beta) i) r r'
-      (coefficient-survives c p N (sizes .some) (sizes .coefficients) (sizes .matrices) k (lit≤ tt) (double-small k near) phi a units (x .sigma2) (x' .sigma2) sigma2-tied
-      (x .beta) (x' .beta) beta-tied i (coefficient-inside c p N rows phi a x (sizes .coefficients) inside i l)) q)
+      (coefficient-survives c p N (sizes .some) (sizes .coefficients) (sizes .matrices) k near2 phi a units (x .sigma2) (x' .sigma2) sigma2-tied
+      (x .beta) (x' .beta) beta-tied i (coefficient-bears c p N rows phi a x (sizes .coefficients) bears i l)) q)
 
-  -- DEMAND 3, over the definitions of the run. A Kenward–Roger run with every entry in use marked inside: with sigma2 times 4^k, k from -32 to 32, β and β_H times 2^k, and each
+  -- DEMAND 3, over the definitions of the run. A Kenward–Roger run of which every entry in use bears t: with sigma2 times 4^k, 2|k| at most t, β and β_H times 2^k, and each
   -- contrast row times a power of two of its own, the second run is refused where the first is, and F, df and rank of every entry are the same bits, or none where they were none.
   pub run-survives : RunSurvives (runOn c p N rows phi a x) (runOn c p N rows phi a x')
   unfolding runOf scaledBy
   run-survives = go (eqb rows 0) refl
     where
-      t : Tested
-      t = contrastTest marks c before (x .beta) (x .betaH) rows (x .contrast)
+      test : Tested
+      test = contrastTest marks c before (x .beta) (x .betaH) rows (x .contrast)
 
-      t' : Tested
-      t' = contrastTest marks c after (x' .beta) (x' .betaH) rows (x' .contrast)
+      test' : Tested
+      test' = contrastTest marks c after (x' .beta) (x' .betaH) rows (x' .contrast)
 
       r : Run
       r = coefficientsTo marks p c before (x .beta)
@@ -247,17 +246,17 @@ module _ (c : Cutoffs) (p N rows : ℕ) (k : ℤ) (m : ℕ → ℤ) (phi : Rows)
       r' : Run
       r' = coefficientsTo marks p c after (x' .beta)
 
-      go : (b : Bool) → eqb rows 0 ≡ b → RunSurvives (cond b r (withTest 6 t r)) (cond b r' (withTest 6 t' r'))
+      go : (b : Bool) → eqb rows 0 ≡ b → RunSurvives (cond b r (withTest 6 test r)) (cond b r' (withTest 6 test' r'))
       go true e = coefficients-survive
       go false e =
           let r1 : 1 ≤ rows = some rows (eqb-false rows 0 e) in
-          with-survives 6 t t' r r'
-          (contrast-survives c p N (sizes .some) (sizes .coefficients) (sizes .matrices) k (lit≤ tt) (double-small k near) phi a units (x .sigma2) (x' .sigma2) sigma2-tied
-          (x .beta) (x' .beta) beta-tied (x .betaH) (x' .betaH) (betaH-tied r1) rows r1 (sizes .contrast) m (x .contrast) (x' .contrast) contrast-tied (contrast-inside c p N rows phi a x (sizes .coefficients) inside e))
+          with-survives 6 test test' r r'
+          (contrast-survives c p N (sizes .some) (sizes .coefficients) (sizes .matrices) k near2 phi a units (x .sigma2) (x' .sigma2) sigma2-tied
+          (x .beta) (x' .beta) beta-tied (x .betaH) (x' .betaH) (betaH-tied r1) rows r1 (sizes .contrast) m (x .contrast) (x' .contrast) contrast-tied (contrast-bears c p N rows phi a x (sizes .coefficients) bears e))
           coefficients-survive
 
   -- and no number of the adjustment's output, scaled or not, becomes or ceases to be finite
   pub finite-survives : outputNotFinite p N phi (x' .sigma2) a ≡ outputNotFinite p N phi (x .sigma2) a
   finite-survives =
-      output-survives c p N (sizes .some) (sizes .coefficients) (sizes .matrices) k (lit≤ tt) (double-small k near) phi a units (x .sigma2) (x' .sigma2) sigma2-tied (x .beta)
-      (x' .beta) beta-tied 0 (coefficient-inside c p N rows phi a x (sizes .coefficients) inside 0 (sizes .some))
+      output-survives c p N (sizes .some) (sizes .coefficients) (sizes .matrices) k near2 phi a units (x .sigma2) (x' .sigma2) sigma2-tied (x .beta)
+      (x' .beta) beta-tied 0 (coefficient-bears c p N rows phi a x (sizes .coefficients) bears 0 (sizes .some))

@@ -1,5 +1,5 @@
 -- A whole series: the adjustment's own number, and the run on what it gives.
-use Prim.Native.Nat.{ℕ, _≤_, _<_}
+use Prim.Native.Nat.{ℕ, _*_, _≤_, _<_}
 use native.Mathlib.Omega.{arith}
 use mathlib.Core.Path.{ap}
 use mathlib.Core.Bool.{Bool}
@@ -20,7 +20,7 @@ use Rattle.adjustment.specs.Information.{oRows, pRows}
 use Rattle.adjustment.specs.Adjusted.{Stack, matrixAt, stack, phiARows, pStack, fromPrecision, precisionOf, informationRefused, adjustment, adjustmentReasons, adjustmentRefusal}
 use Rattle.algebra.specs.Reasons.{first}
 use Rattle.algebra.specs.Small.{Rows}
-use Rattle.tests.specs.Verdict.{Inside}
+use Rattle.tests.specs.Verdict.{RunBears}
 use Rattle.converter_run.specs.joints.ConvertedInput.{Input, runOn, ConvertedInput, RunSizes, WrittenCells, Written, WrittenUnits, SeriesSurvives}
 use Rattle.converter_run.proofs.MovingRun.{run-survives, finite-survives}
 
@@ -53,12 +53,12 @@ adjustment-written c d phi hp hN w = record {
 }
 
 -- ---- the series
--- DEMAND 3, for a series in memory: with all entries of its run marked inside, it survives every change of converter, k from -32 to 32 and each contrast row's own power.
-pub series-survives : (c : Cutoffs) (d : Design) (phi : Rows) (rows : ℕ) (k : ℤ) (m : ℕ → ℤ) (x x' : Input) → RunSizes (d .p) (matrices d) rows → natAbs k ≤ 32
+-- DEMAND 3, for a series in memory: where all entries of its run bear t, it survives every change of converter with 2|k| at most t and each contrast row's own power.
+pub series-survives : {t : ℕ} (c : Cutoffs) (d : Design) (phi : Rows) (rows : ℕ) (k : ℤ) (m : ℕ → ℤ) (x x' : Input) → RunSizes (d .p) (matrices d) rows → 2 * natAbs k ≤ t
     → WrittenCells (d .p) (d .p) phi → Written (d .p) rows x → ConvertedInput k m (d .p) rows x x'
-    → Inside (d .p) rows (runOn c (d .p) (matrices d) rows phi (adjustment c d phi) x) → SeriesSurvives c d phi rows x x'
+    → RunBears t (d .p) rows (runOn c (d .p) (matrices d) rows phi (adjustment c d phi) x) → SeriesSurvives c d phi rows x x'
 unfolding adjustmentRefusal adjustmentReasons
-series-survives c d phi rows k m x x' sizes near w written converted inside =
+series-survives c d phi rows k m x x' sizes near w written converted bears =
     let units : WrittenUnits (d .p) (matrices d) phi (adjustment c d phi) = adjustment-written c d phi (sizes .coefficients) (sizes .matrices) w in
     record {
       number = ap
@@ -68,6 +68,6 @@ series-survives c d phi rows k m x x' sizes near w written converted inside =
           ∷ (10, informationRefused c d phi (precisionOf d))
           ∷ (4, z)
           ∷ []))
-          (finite-survives c (d .p) (matrices d) rows k m phi (adjustment c d phi) x x' sizes near units written converted inside);
-      run = run-survives c (d .p) (matrices d) rows k m phi (adjustment c d phi) x x' sizes near units written converted inside;
+          (finite-survives c (d .p) (matrices d) rows k m phi (adjustment c d phi) x x' sizes near units written converted bears);
+      run = run-survives c (d .p) (matrices d) rows k m phi (adjustment c d phi) x x' sizes near units written converted bears;
     }

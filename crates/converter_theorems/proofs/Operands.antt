@@ -1,4 +1,4 @@
--- The numbers that a Satterthwaite test starts from: where the test is marked inside, β and β_H times 2 ^ u, and v and each Jacobian times 2 ^ u, are f64 numbers again.
+-- The numbers that a Satterthwaite test starts from: where the test's mark bears t and |u| ≤ t, β and β_H times 2 ^ u, and v and each Jacobian times 2 ^ u, are f64 numbers again.
 use Prim.Native.Nat.{ℕ, _<_, _≤_}
 use native.Mathlib.Omega.{arith}
 use mathlib.Core.Path.{_≡_}
@@ -11,8 +11,8 @@ use lib.Ieee.{Float, nan, binary64, fits}
 use Rattle.arithmetic.specs.declared.Marked.{Marked}
 use Rattle.arithmetic.specs.Numbers.{plusZero}
 use Rattle.arithmetic.specs.Scale.{scale}
-use Rattle.arithmetic.specs.Marks.{given, markedMul, also}
-use Rattle.arithmetic.proofs.MarkLaws.{Bears, inside-bears, also-bears, mul-bears, mul-operands}
+use Rattle.arithmetic.specs.Marks.{MarkBears, given, markedMul, also}
+use Rattle.arithmetic.proofs.MarkLaws.{Bears, mark-bears, also-bears, mul-bears, mul-operands}
 use Rattle.algebra.specs.Fold.{fold}
 use Rattle.algebra.specs.Table.{blank}
 use Rattle.algebra.specs.Kind.{floats, marks}
@@ -81,66 +81,66 @@ module _ {t : ℕ} where
         let g : Bears t (markedMul (given (at floats l 0 i)) (given (at floats m i j))) = rw (l-at i h, cell-at m i j h o) at e in
         mul-operands u n (given (at floats l 0 i)) (given (at floats m i j)) g (wl 0 i some h) (w i j h o) .1
 
--- ---- a test that is inside
-module _ (c : Cutoffs) (x : Inputs) (z : InputSizes x) where
-  few : x .n ≤ 6
-  few = omega (arith, z .n)
+few : (x : Inputs) → InputSizes x → x .n ≤ 6
+few x z = omega (arith, z .n)
 
-  one-start : Bears 128 (seenOne marks c x) → Bears 128 (startSeen marks c x)
+-- ---- a test whose mark bears t
+module _ {t : ℕ} (c : Cutoffs) (x : Inputs) (z : InputSizes x) where
+  one-start : Bears t (seenOne marks c x) → Bears t (startSeen marks c x)
   unfolding seenOne
   one-start b =
-      also-bears (startSeen marks c x) (fOne marks c x) (gradient-first (x .n) few (at marks (vRows marks c x) 0 0) (gradientOne marks (x .n) (jStack marks c x)) (also (startSeen marks c x) (fOne marks c x)) b) .0
+      also-bears (startSeen marks c x) (fOne marks c x) (gradient-first (x .n) (few x z) (at marks (vRows marks c x) 0 0) (gradientOne marks (x .n) (jStack marks c x)) (also (startSeen marks c x) (fOne marks c x)) b) .0
 
-  several-start : Bears 128 (seenSeveral marks c x) → Bears 128 (startSeen marks c x)
+  several-start : Bears t (seenSeveral marks c x) → Bears t (startSeen marks c x)
   unfolding seenSeveral
   several-start b =
       let matrixSeen : Marked = allMarks marks (x .q) (x .q) (rotatedV marks c x .a) (startSeen marks c x) in
       let vectorsSeen : Marked = allMarks marks (x .q) (x .q) (rotatedV marks c x .v) matrixSeen in
       let rotationsSeen : Marked = also vectorsSeen (rotatedV marks c x .seen) in
-      let r : Bears 128 rotationsSeen =
-      also-bears rotationsSeen (fSeveral marks c x) (components-first (x .n) (x .q) few (variances marks c x) (directions marks c x) (jxStack marks c x) (also rotationsSeen (fSeveral marks c x)) b) .0 in
+      let r : Bears t rotationsSeen =
+      also-bears rotationsSeen (fSeveral marks c x) (components-first (x .n) (x .q) (few x z) (variances marks c x) (directions marks c x) (jxStack marks c x) (also rotationsSeen (fSeveral marks c x)) b) .0 in
       allMarks-first (x .q) (x .q) (rotatedV marks c x .a) (startSeen marks c x)
       (allMarks-first (x .q) (x .q) (rotatedV marks c x .v) matrixSeen (also-bears vectorsSeen (rotatedV marks c x .seen) r .0))
 
-  pub start-inside : T (satterthwaite marks c x .entry .inside) → Bears 128 (startSeen marks c x)
+  pub start-bears : MarkBears t (satterthwaite marks c x .entry .inside) → Bears t (startSeen marks c x)
   unfolding satterthwaite oneRow severalRows
-  start-inside = go (eqb (x .q) 1)
+  start-bears = go (eqb (x .q) 1)
     where
-      go : (b : Bool) → T (cond b (oneRow marks c x) (severalRows marks c x) .entry .inside) → Bears 128 (startSeen marks c x)
-      go true h = one-start (inside-bears (seenOne marks c x) (lit≤ tt) h)
-      go false h = several-start (inside-bears (seenSeveral marks c x) (lit≤ tt) h)
+      go : (b : Bool) → MarkBears t (cond b (oneRow marks c x) (severalRows marks c x) .entry .inside) → Bears t (startSeen marks c x)
+      go true h = one-start (mark-bears (seenOne marks c x) h)
+      go false h = several-start (mark-bears (seenSeveral marks c x) h)
 
-  module _ (b : Bears 128 (startSeen marks c x)) (w : Written x) (u : ℤ) (n : natAbs u ≤ 128) where
+  module _ (b : Bears t (startSeen marks c x)) (w : Written x) (u : ℤ) (n : natAbs u ≤ t) where
     abbrev lSeen : Marked
     lSeen = allMarks marks (x .q) 1 (ldRows marks c x) (given plusZero)
 
     abbrev vSeen : Marked
     vSeen = allMarks marks (x .q) (x .q) (vRows marks c x) lSeen
 
-    before-js : Bears 128 vSeen
+    before-js : Bears t vSeen
     unfolding startSeen
     before-js = stack-first (x .n) (x .q) (jStack marks c x) vSeen b
 
-    ld-bears : Bears 128 (at marks (ldRows marks c x) 0 0)
+    ld-bears : Bears t (at marks (ldRows marks c x) 0 0)
     ld-bears = allMarks-cells (x .q) 1 (ldRows marks c x) (given plusZero) (allMarks-first (x .q) (x .q) (vRows marks c x) lSeen before-js) .cell 0 0 (z .some) (lit≤ tt)
 
-    v-bears : Bears 128 (at marks (vRows marks c x) 0 0)
+    v-bears : Bears t (at marks (vRows marks c x) 0 0)
     v-bears = allMarks-cells (x .q) (x .q) (vRows marks c x) lSeen before-js .cell 0 0 (z .some) (z .some)
 
-    j-bears : (r : ℕ) → r < x .n → Bears 128 (at marks (transformed marks (x .p) (x .q) (lRows marks c x) (getD (x .js) r [])) 0 0)
+    j-bears : (r : ℕ) → r < x .n → Bears t (at marks (transformed marks (x .p) (x .q) (lRows marks c x) (getD (x .js) r [])) 0 0)
     unfolding startSeen stackSeen jStack transformedAll
     j-bears r h =
         let ms : List MarkedRows = jStack marks c x in
         let step : ℕ → Marked → Marked = λ i s. allMarks marks (x .q) (x .q) (getD ms i []) s in
-        let e : Bears 128 (step r (fold 0 r step vSeen)) =
+        let e : Bears t (step r (fold 0 r step vSeen)) =
         step-bears 0 (x .n) step vSeen (λ i s y. allMarks-first (x .q) (x .q) (getD ms i []) s y) b r (omega arith) h in
-        let f : Bears 128 (at marks (getD ms r []) 0 0) =
+        let f : Bears t (at marks (getD ms r []) 0 0) =
         allMarks-cells (x .q) (x .q) (getD ms r []) (fold 0 r step vSeen) e .cell 0 0 (z .some) (z .some) in
         rw (span-at 0 (x .n) (λ i. transformed marks (x .p) (x .q) (lRows marks c x) (getD (x .js) i [])) (replicate 4 (blank (given plusZero) 6 6)) r [] (omega arith) h
         (omega (arith, z .n, length-replicate 4 (blank (given plusZero) 6 6)))) at f
 
-    estimates-bear : Bears 128 (at marks (product marks 6 6 (x .q) (x .p) 1 (lRows marks c x) (column marks (x .p) (x .beta))) 0 0)
-        × Bears 128 (at marks (product marks 6 6 (x .q) (x .p) 1 (lRows marks c x) (column marks (x .p) (x .betaH))) 0 0)
+    estimates-bear : Bears t (at marks (product marks 6 6 (x .q) (x .p) 1 (lRows marks c x) (column marks (x .p) (x .beta))) 0 0)
+        × Bears t (at marks (product marks 6 6 (x .q) (x .p) 1 (lRows marks c x) (column marks (x .p) (x .betaH))) 0 0)
     unfolding ldRows contrastOf
     estimates-bear =
         minusCells-bears 6 6 (x .q) 1 (z .q) (lit≤ tt) (product marks 6 6 (x .q) (x .p) 1 (lRows marks c x) (column marks (x .p) (x .beta)))

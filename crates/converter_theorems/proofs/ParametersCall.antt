@@ -1,18 +1,19 @@
--- The Satterthwaite call on a file and on the converted file: the marks of a test that is inside say that each multiplied number scales exactly, so that no refusal comes and the verdict stays.
-use Prim.Native.Nat.{ℕ, _<_, _≤_}
+-- The Satterthwaite call on a file and on the converted file: the mark of a test, where it bears t, says that each multiplied number scales exactly, so that no refusal comes and the verdict stays.
+use Prim.Native.Nat.{ℕ, _*_, _<_, _≤_}
 use native.Mathlib.Omega.{arith}
 use mathlib.Core.Path.{_≡_, refl, sym, ap, _∙_, subst}
 use mathlib.Core.Bool.{Bool, true, false, cond}
 use mathlib.Core.List.{List, [], _∷_, _++_}
 use lib.Dec.{T}
-use lib.IntN.{ℤ, pos, negsuc, natAbs, _+ℤ_}
+use lib.IntN.{ℤ, natAbs, _+ℤ_}
 use lib.Ieee.{Float, binary64, fits}
 use Rattle.arithmetic.specs.Scale.{scale}
+use Rattle.arithmetic.specs.Marks.{MarkBears}
 use Rattle.arithmetic.proofs.ScaleLaws.{scale-zero}
-use Rattle.arithmetic.proofs.PlainLaws.{of-eq}
 use Rattle.arithmetic.proofs.MarkLaws.{Bears}
 use Rattle.algebra.specs.Kind.{floats, marks}
 use Rattle.algebra.specs.Product.{at}
+use Rattle.algebra.proofs.MovingCells.{abs-twice}
 use Rattle.arithmetic_cutoffs.specs.declared.Cutoffs.{Cutoffs}
 use Rattle.arithmetic_cutoffs.specs.Cutoffs.{documentCutoffs}
 use Rattle.tests.specs.declared.Number.{Number}
@@ -34,7 +35,7 @@ use Rattle.converter.proofs.Among.{among}
 use Rattle.converter.proofs.ReadAlike.{exact-cells}
 use Rattle.converter.proofs.Satterthwaite.{parameters-numbered, p-same, q-same, n-same, stays, scales, reasons-same}
 use Rattle.converter.specs.ParametersDemand.{SameVerdict}
-use Rattle.converter_theorems.proofs.Operands.{start-inside, beta-again, betaH-again, v-again, js-again}
+use Rattle.converter_theorems.proofs.Operands.{start-bears, beta-again, betaH-again, v-again, js-again}
 use Rattle.converter_theorems.proofs.Parameters.{inputs-sized, l-at, beta-at, betaH-at, v-at, js-at, a-at, inputs-written}
 
 -- ---- the numbers in all cells that the sizes leave the multiplied kinds
@@ -96,15 +97,8 @@ module _ (c : Cutoffs) (s : List ℕ) where
   unfolding refusal
   not-refused e = first-front (reasons s) ((11, test marks c (inputs s) .refused) ∷ []) (sym number-is ∙ e)
 
-once-small : (k : ℤ) → natAbs k ≤ 32 → natAbs k ≤ 128
-once-small k h = omega arith
-
-twice-small : (k : ℤ) → natAbs k ≤ 32 → natAbs (k +ℤ k) ≤ 128
-twice-small (pos a) h = omega arith
-twice-small (negsuc a) h = omega arith
-
--- ---- a file that is accepted with its entry inside, k from -32 to 32
-module _ (c : Cutoffs) (rotation : T (fits binary64 (c .rotation))) (s : List ℕ) (k : ℤ) (near : natAbs k ≤ 32) (e : number c s ≡ 0) (inside : entry c s .inside ≡ true) where
+-- ---- a file that is accepted with an entry that bears t, and a k that t covers
+module _ {t : ℕ} (c : Cutoffs) (rotation : T (fits binary64 (c .rotation))) (s : List ℕ) (k : ℤ) (near : 4 * natAbs k ≤ t) (e : number c s ≡ 0) (bears : MarkBears t (entry c s .inside)) where
   abbrev s' : List ℕ
   s' = converted (satterthwaiteChange k) s
 
@@ -114,19 +108,25 @@ module _ (c : Cutoffs) (rotation : T (fits binary64 (c .rotation))) (s : List �
   z : InputSizes (inputs s)
   z = inputs-sized s taken
 
-  test-inside : T (test marks c (inputs s) .entry .inside)
-  test-inside = of-eq (ap (λ (x : Entry). x .inside) (sym (entry-is c s e)) ∙ inside)
+  test-bears : MarkBears t (test marks c (inputs s) .entry .inside)
+  test-bears = subst (λ (x : Entry). MarkBears t (x .inside)) (entry-is c s e) bears
 
-  start : Bears 128 (startSeen marks c (inputs s))
-  start = start-inside c (inputs s) z test-inside
+  start : Bears t (startSeen marks c (inputs s))
+  start = start-bears c (inputs s) z test-bears
+
+  once : natAbs k ≤ t
+  once = omega arith
+
+  twice : natAbs (k +ℤ k) ≤ t
+  twice = omega (arith, abs-twice k)
 
   numbers-exact : InputExact k s
   unfolding inputs
   numbers-exact = record {
-    estimates = λ i h. subst (Again k) (beta-at s z i h) (beta-again c (inputs s) z start (inputs-written s z) k (once-small k near) i h);
-    hypotheses = λ i h. subst (Again k) (betaH-at s z i h) (betaH-again c (inputs s) z start (inputs-written s z) k (once-small k near) i h);
-    variance = λ i j h o. subst (Again (k +ℤ k)) (v-at s z i j h o) (v-again c (inputs s) z start (inputs-written s z) (k +ℤ k) (twice-small k near) i j h o);
-    jacobian = λ r i j l h o. subst (Again (k +ℤ k)) (js-at s z r i j l h o) (js-again c (inputs s) z start (inputs-written s z) (k +ℤ k) (twice-small k near) r i j l h o);
+    estimates = λ i h. subst (Again k) (beta-at s z i h) (beta-again c (inputs s) z start (inputs-written s z) k once i h);
+    hypotheses = λ i h. subst (Again k) (betaH-at s z i h) (betaH-again c (inputs s) z start (inputs-written s z) k once i h);
+    variance = λ i j h o. subst (Again (k +ℤ k)) (v-at s z i j h o) (v-again c (inputs s) z start (inputs-written s z) (k +ℤ k) twice i j h o);
+    jacobian = λ r i j l h o. subst (Again (k +ℤ k)) (js-at s z r i j l h o) (js-again c (inputs s) z start (inputs-written s z) (k +ℤ k) twice r i j l h o);
   }
 
   exact : Exact (satterthwaiteChange k) s
@@ -183,7 +183,7 @@ module _ (c : Cutoffs) (rotation : T (fits binary64 (c .rotation))) (s : List �
   }
 
   survives : SameOutcome (test marks c (inputs s)) (test marks c (inputs s'))
-  survives = satterthwaite-survives c rotation k near (inputs s) (inputs s') z scaled-input test-inside
+  survives = satterthwaite-survives c rotation k near (inputs s) (inputs s') z scaled-input test-bears
 
   number-after : number c s' ≡ 0
   number-after =

@@ -1,5 +1,5 @@
 -- The third demand at work: document 01's `pulltest` example as a file of bytes is accepted with all entries inside, and with other powers of two its verdicts are the same.
-use Prim.Native.Nat.{ℕ, _<_, _≤_}
+use Prim.Native.Nat.{ℕ, _*_, _<_, _≤_}
 use native.Mathlib.Omega.{arith}
 use mathlib.Core.Path.{_≡_, refl, ap, _∙_, subst}
 use mathlib.Core.Bool.{true, false}
@@ -10,7 +10,7 @@ use lib.ListN.{getD, replicate}
 use lib.Ieee.{Float, fin, round, add, sub, mul, div, neg, lt, eq, le, ofInt, ofBits, toBits}
 use Rattle.arithmetic.specs.Numbers.{plusZero, one, magnitude, isZero, isFinite, sign, isLarger, ofCount}
 use Rattle.arithmetic.specs.SquareRoot.{squareRoot, wholeRoot}
-use Rattle.arithmetic.specs.Marks.{inRange, stepMark, lostProduct, lostQuotient, markedAdd, markedSub, markedMul, markedDiv, markedRoot, also}
+use Rattle.arithmetic.specs.Marks.{mostBorne, inRange, stepMark, lostProduct, lostQuotient, markedAdd, markedSub, markedMul, markedDiv, markedRoot, also}
 use Rattle.algebra.specs.Fold.{fold}
 use Rattle.algebra.specs.Table.{row, blank, table}
 use Rattle.algebra.specs.Product.{sum, cell, product, transpose, sumCells, likeCells, trace, identity, plusCells, minusCells, timesNumber, overNumber}
@@ -41,7 +41,7 @@ use Rattle.tests.specs.Verdict.{Verdict, verdict}
 use Rattle.converter_run.specs.joints.ConvertedInput.{Input}
 use Rattle.converter.specs.Converted.{kenwardRogerShift, kenwardRogerChange, rewritten, newBits, newByte, converted}
 use Rattle.converter.specs.SeriesDemand.{AllInside}
-use Rattle.converter_theorems.proofs.Theorems.{converter-panel}
+use Rattle.converter_theorems.proofs.Theorems.{borne-kenward-roger, inside-bear}
 use Rattle.converter_theorems.proofs.ReadCall.{Reads, Runs, Witness, read-accepted, read-entries, read-inside, witness}
 use Rattle.tests.specs.Both.{stackSeen, squareOne, isPositive}
 use Rattle.algebra.specs.Reasons.{first}
@@ -124,7 +124,7 @@ pub pull-example : Witness pullFile (pos 5) (λ r. negsuc 2) pullShifted pullVer
 pull-example =
     witness pullFile (pos 5) (λ r. negsuc 2) pullShifted pullVerdicts (lit≤ tt) (λ r. lit≤ tt) pull-accepted pull-inside (ap (map verdict) pull-entries) shifted
 
--- with every k and m from -32 to 32 the example has rank 1, F 9 and df 1 in both entries
-pub pull-every : (k m : ℤ) → natAbs k ≤ 32 → natAbs m ≤ 32 → map verdict (entries 24 documentCutoffs (converted (kenwardRogerChange k (λ r. m)) pullFile)) ≡ pullVerdicts
+-- with every k and m that an inside mark covers, k from -110 to 110 and m from -221 to 221, the example has rank 1, F 9 and df 1 in both entries
+pub pull-every : (k m : ℤ) → 2 * natAbs k ≤ mostBorne → natAbs m ≤ mostBorne → map verdict (entries 24 documentCutoffs (converted (kenwardRogerChange k (λ r. m)) pullFile)) ≡ pullVerdicts
 pull-every k m near nearM =
-    converter-panel documentCutoffs pullFile k (λ r. m) near (λ r h. nearM) pull-accepted pull-inside .verdicts ∙ ap (map verdict) pull-entries
+    borne-kenward-roger 24 mostBorne documentCutoffs pullFile k (λ r. m) near (λ r h. nearM) pull-accepted (inside-bear 24 documentCutoffs pullFile (lit≤ tt) pull-inside) .verdicts ∙ ap (map verdict) pull-entries

@@ -1,5 +1,5 @@
--- The Kenward–Roger call on a file and on the converted file, with any limit of specimens w: the marks of a run that is inside say that each multiplied number scales exactly, so that no refusal comes and all verdicts stay.
-use Prim.Native.Nat.{ℕ, _<_, _≤_}
+-- The Kenward–Roger call on a file and on the converted file, with any limit of specimens w: the marks of a run, where they bear t, say that each multiplied number scales exactly, so that no refusal comes and all verdicts stay.
+use Prim.Native.Nat.{ℕ, _*_, _<_, _≤_}
 use mathlib.Core.Path.{_≡_, refl, sym, ap, _∙_, subst}
 use mathlib.Core.Bool.{Bool, not, cond}
 use mathlib.Core.List.{List, [], _∷_, _++_, map}
@@ -9,6 +9,7 @@ use lib.ListN.{getD}
 use lib.Ieee.{Float, nan, binary64, fits}
 use lib.Ieee.Fits.{mul-fits}
 use Rattle.arithmetic.specs.Scale.{powerOfTwo}
+use Rattle.arithmetic.specs.Marks.{MarkBears}
 use Rattle.algebra.specs.Kind.{floats}
 use Rattle.algebra.specs.Product.{at}
 use Rattle.arithmetic_cutoffs.specs.declared.Cutoffs.{Cutoffs}
@@ -22,7 +23,7 @@ use Rattle.algebra.specs.Reasons.{first}
 use Rattle.records.specs.File.{lengthReasons, formReasons}
 use Rattle.records.specs.Series.{coefficients, contrastRows, design, phi, sigma2, beta, betaH, contrast, sizeReasons, valueReasons, reasons, refusal}
 use Rattle.records.specs.KenwardRogerCall.{adjusted, scaled, run, number, entries}
-use Rattle.tests.specs.Verdict.{verdict, verdicts, Inside}
+use Rattle.tests.specs.Verdict.{verdict, verdicts, RunBears}
 use Rattle.converter_run.specs.joints.ConvertedInput.{Input, runOn, ConvertedInput, Multiplied, RunSizes, WrittenCells, Written, SeriesSurvives}
 use Rattle.converter_run.proofs.MovingInput.{multiplied-is-converted}
 use Rattle.converter_run.proofs.MovingSeries.{series-survives}
@@ -33,7 +34,7 @@ use Rattle.algebra.proofs.ReasonLaws.{first-append, first-front}
 use Rattle.converter.proofs.Series.{design-same, phi-same}
 use Rattle.converter.proofs.SameSizes.{sized, matrices-bound, beta-fits, betaH-fits, contrast-fits, phi-fits, sigma2-fits}
 use Rattle.converter.proofs.Input.{InputExact, r-same, sigma2-product, beta-product, betaH-product, contrast-product, reasons-converted}
-use Rattle.converter.specs.SeriesDemand.{AllInside, SameVerdicts}
+use Rattle.converter.specs.SeriesDemand.{AllBear, SameVerdicts}
 
 -- ---- the call's parts, as demand 3's law on series in memory has them
 abbrev pub inputOf : List ℕ → Input
@@ -70,9 +71,9 @@ module _ (c : Cutoffs) (s : List ℕ) where
         let n : ℕ = adjustmentRefusal c (design s) (phi s) (sigma2 s) in
         first-front (reasons w s) ((n, not (eqb n 0)) ∷ (10, run c s .refused) ∷ []) (sym number-is ∙ e)
 
--- ---- a file that is accepted with all entries inside, k and each row's m from -32 to 32
-module _ (w : ℕ) (c : Cutoffs) (s : List ℕ) (k : ℤ) (m : ℕ → ℤ) (near : natAbs k ≤ 32) (nears : (r : ℕ) → r < contrastRows s → natAbs (m r) ≤ 32) (e : number w c s ≡ 0)
-    (inside : AllInside w c s) where
+-- ---- a file that is accepted with entries that bear t, and k and each row's m that t covers
+module _ {t : ℕ} (w : ℕ) (c : Cutoffs) (s : List ℕ) (k : ℤ) (m : ℕ → ℤ) (near : 2 * natAbs k ≤ t) (nears : (r : ℕ) → r < contrastRows s → natAbs (m r) ≤ t) (e : number w c s ≡ 0)
+    (bears : AllBear t w c s) where
   abbrev s' : List ℕ
   s' = converted (kenwardRogerChange k m) s
 
@@ -94,12 +95,12 @@ module _ (w : ℕ) (c : Cutoffs) (s : List ℕ) (k : ℤ) (m : ℕ → ℤ) (nea
   written : Written (coefficients s) (contrastRows s) (inputOf s)
   written = record { sigma2 = sigma2-fits s; beta = beta-fits s hp; betaH = λ r. betaH-fits s hp; contrast = contrast-fits s hp hr }
 
-  run-inside : Inside (coefficients s) (contrastRows s) (whole c (design s) (phi s) (contrastRows s) (inputOf s))
-  run-inside =
-      let same : whole c (design s) (phi s) (contrastRows s) (inputOf s) .entries ≡ entries w c s = sym (entries-are c s w e ∙ ap (λ (r : Run). r .entries) (run-is c s)) in
+  run-bears : RunBears t (coefficients s) (contrastRows s) (whole c (design s) (phi s) (contrastRows s) (inputOf s))
+  run-bears =
+      let same : entries w c s ≡ whole c (design s) (phi s) (contrastRows s) (inputOf s) .entries = entries-are c s w e ∙ ap (λ (r : Run). r .entries) (run-is c s) in
       record {
-        coefficient = λ i h. ap (λ (es : List Entry). getD es i noEntry .inside) same ∙ inside .coefficient i h;
-        contrast = λ h. ap (λ (es : List Entry). getD es 6 noEntry .inside) same ∙ inside .contrast h;
+        coefficient = λ i h. subst (λ (es : List Entry). MarkBears t (getD es i noEntry .inside)) same (bears .coefficient i h);
+        contrast = λ h. subst (λ (es : List Entry). MarkBears t (getD es 6 noEntry .inside)) same (bears .contrast h);
       }
 
   -- the converted file's input is the file's, multiplied, and so scaled exactly
@@ -115,7 +116,7 @@ module _ (w : ℕ) (c : Cutoffs) (s : List ℕ) (k : ℤ) (m : ℕ → ℤ) (nea
   unfolding design
   scaled-input =
       multiplied-is-converted c (coefficients s) (matrices (design s)) (contrastRows s) k m (phi s) (adjustment c (design s) (phi s)) (inputOf s) sizes near nears cells-written written
-      run-inside (inputOf s') multiplied
+      run-bears (inputOf s') multiplied
 
   exact : InputExact k m s
   exact = record {
@@ -128,7 +129,7 @@ module _ (w : ℕ) (c : Cutoffs) (s : List ℕ) (k : ℤ) (m : ℕ → ℤ) (nea
 
   survives : SeriesSurvives c (design s) (phi s) (contrastRows s) (inputOf s) (inputOf s')
   unfolding design
-  survives = series-survives c (design s) (phi s) (contrastRows s) k m (inputOf s) (inputOf s') sizes near cells-written written scaled-input run-inside
+  survives = series-survives c (design s) (phi s) (contrastRows s) k m (inputOf s) (inputOf s') sizes near cells-written written scaled-input run-bears
 
   -- the converted file's design, Φ and sizes are the file's
   run-after : run c s' ≡ whole c (design s) (phi s) (contrastRows s) (inputOf s')

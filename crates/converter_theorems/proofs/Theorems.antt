@@ -1,26 +1,44 @@
 -- THE THIRD DEMAND, whole: the verdict survives a change of converter, for every record file of either call, in entries and in answer bytes.
-use Prim.Native.Nat.{ℕ}
+use Prim.Native.Nat.{ℕ, _≤_}
+use native.Mathlib.Nat.{le-trans}
+use native.Mathlib.Omega.{arith}
 use mathlib.Core.Path.{_≡_, _∙_}
 use mathlib.Core.List.{List}
+use lib.Dec.{T, lit≤}
 use lib.ListN.{length}
+use lib.Ieee.{binary64, fits}
+use Rattle.arithmetic.specs.Marks.{mostBorne}
+use Rattle.arithmetic.proofs.MarkLaws.{inside-bears}
 use Rattle.records.specs.Layout.{entryBytes, answerBytes}
 use Rattle.records.specs.KenwardRogerCall as kenwardRoger
 use Rattle.records.specs.SatterthwaiteCall as satterthwaite
 use Rattle.records.proofs.CallLaws.{returned-is, satterthwaite-returned-is}
 use Rattle.converter.specs.AnswerBytes.{SameAnswer}
 use Rattle.converter.specs.Converted.{kenwardRogerChange, satterthwaiteChange, converted}
-use Rattle.converter.specs.SeriesDemand.{KenwardRogerDemand, KenwardRogerAnswer, PanelDemand, PanelAnswer, SameVerdicts, SameAnswers}
-use Rattle.converter.specs.ParametersDemand.{SatterthwaiteDemand, SatterthwaiteAnswer, SameVerdict}
+use Rattle.converter.specs.SeriesDemand.{AllInside, AllBear, KenwardRogerBorne, KenwardRogerDemand, KenwardRogerAnswer, PanelDemand, PanelAnswer, SameVerdicts, SameAnswers}
+use Rattle.converter.specs.ParametersDemand.{ParametersWith, SatterthwaiteBorne, SatterthwaiteDemand, SatterthwaiteAnswer, SameVerdict}
 use Rattle.converter.proofs.AnswerBytes.{entry-same, answer-same, same-answer}
 use Rattle.converter_theorems.proofs.SeriesCall.{series-same}
 use Rattle.converter_theorems.proofs.ParametersCall.{parameters-same, document-rotation}
 use Rattle.arithmetic_cutoffs.specs.declared.Cutoffs.{Cutoffs}
 use Rattle.arithmetic_cutoffs.specs.Cutoffs.{documentCutoffs}
 
+-- ---- from one premise: every file that a call accepts with marks that bear t, and every change that t covers
+pub borne-kenward-roger : KenwardRogerBorne
+borne-kenward-roger w t c s k m near nears e bears = series-same w c s k m near nears e bears
+
+pub borne-satterthwaite : SatterthwaiteBorne
+borne-satterthwaite c rotation t s k near e bears = parameters-same c rotation s k near e bears
+
+-- the entries of a run that is inside bear all that a mark bears
+pub inside-bear : {t : ℕ} (w : ℕ) (c : Cutoffs) (s : List ℕ) → t ≤ mostBorne → AllInside w c s → AllBear t w c s
+inside-bear w c s h inside = record { coefficient = λ i l. inside-bears h (inside .coefficient i l); contrast = λ l. inside-bears h (inside .contrast l) }
+
+-- ---- k and m from -32 to 32: an inside mark bears 64, which covers twice such a k and such an m, and 128, which covers four times such a k
 -- Every limit of specimens, and every file that the Kenward–Roger call accepts with it and with all entries inside: with sigma2 times 4 ^ k, β and β_H times 2 ^ k and each contrast row times its own 2 ^ (m r), the call accepts
 -- the file again, and rank, F and df of every entry are the same bits, or none where they were none.
 pub converter-kenward-roger : KenwardRogerDemand
-converter-kenward-roger w c s k m near nears e inside = series-same w c s k m near nears e inside
+converter-kenward-roger w c s k m near nears e inside = borne-kenward-roger w 64 c s k m (omega arith) (λ r h. le-trans (nears r h) (lit≤ tt)) e (inside-bear w c s (lit≤ tt) inside)
 
 -- at the panel, with at most 24 specimens
 pub converter-panel : PanelDemand
@@ -29,10 +47,10 @@ converter-panel = converter-kenward-roger 24
 -- Every file that the Satterthwaite call accepts with its entry inside: with v and each Jacobian times 4 ^ k, β and β_H times 2 ^ k, the call accepts the file again, and rank, F and df
 -- are the same bits, or none where they were none.
 pub converter-satterthwaite : SatterthwaiteDemand
-converter-satterthwaite = (
-  λ s k near e inside. parameters-same documentCutoffs document-rotation s k near e inside,
-  λ c rotation s k near e inside. parameters-same c rotation s k near e inside,
-)
+converter-satterthwaite = (survives documentCutoffs document-rotation, survives)
+  where
+    survives : (c : Cutoffs) → T (fits binary64 (c .rotation)) → ParametersWith (SameVerdict c) c
+    survives c rotation s k near e inside = borne-satterthwaite c rotation 128 s k (omega arith) e (inside-bears (lit≤ tt) inside)
 
 -- ---- in answer bytes: files with the same verdicts have the same bytes but for the marks
 module _ (c : Cutoffs) where

@@ -1,4 +1,4 @@
--- The steps of a Satterthwaite test on marked matrices that a second run has scaled: V, each J and the eigenvalues by 2 ^ 2k, LβD and x·LβD by 2 ^ k; eigenvectors, F and g stay.
+-- The steps of a Satterthwaite test on marked matrices that a second run has scaled: V and the eigenvalues by 2 ^ 2k, each J by a power of its own, LβD and x·LβD by 2 ^ k; eigenvectors and F stay.
 use Prim.Native.Nat.{ℕ, _≤_, _<_}
 use native.Mathlib.Omega.{arith}
 use mathlib.Core.Path.{_≡_, refl, sym, ap, _∙_}
@@ -32,12 +32,12 @@ use Rattle.algebra_products.proofs.MovingSmall.{cells-by, given-cells, sandwich
 use Rattle.tests.proofs.MovingVariance.{positive-agrees, row-moves, gradient-first, varianceDf-agrees}
 use Rattle.tests.proofs.MovingOrder.{index-below, indexAt-agrees}
 
--- the first n matrices of a stack move by u
-pub record MovesStack (t : ℕ) (u : ℤ) (n r c : ℕ) (ms ms' : List MarkedRows) : Type 0 where
-  pub matrix : (i : ℕ) → i < n → MovesCells t u r c (getD ms i []) (getD ms' i [])
+-- the first n matrices of a stack move, matrix i by its own shift u i
+pub record MovesStack (t : ℕ) (u : ℕ → ℤ) (n r c : ℕ) (ms ms' : List MarkedRows) : Type 0 where
+  pub matrix : (i : ℕ) → i < n → MovesCells t (u i) r c (getD ms i []) (getD ms' i [])
 
 module _ {t : ℕ} where
-  stack-moves : (u : ℤ) (n r c : ℕ) → n ≤ 4 → (f f' : ℕ → MarkedRows) → ((i : ℕ) → i < n → MovesCells t u r c (f i) (f' i))
+  stack-moves : (u : ℕ → ℤ) (n r c : ℕ) → n ≤ 4 → (f f' : ℕ → MarkedRows) → ((i : ℕ) → i < n → MovesCells t (u i) r c (f i) (f' i))
       → MovesStack t u n r c (span 0 n f (replicate 4 (blank (given plusZero) 6 6))) (span 0 n f' (replicate 4 (blank (given plusZero) 6 6)))
   stack-moves u n r c h f f' p = record {
     matrix = λ i l.
@@ -72,13 +72,13 @@ module _ {t : ℕ} where
     transformed-moves u h m m' f =
         sandwich-moves 6 6 q p hq hq hp hp u h l (givenCells marks 6 6 p p m) l' (givenCells marks 6 6 p p m') pl (given-cells 6 6 p p hp hp u m m' f)
 
-    pub transformedAll-moves : (u : ℤ) → natAbs u ≤ t → (n : ℕ) → n ≤ 4 → (js js' : List Rows)
-        → ((r i j : ℕ) → r < n → i < p → j < p → Tied u (at floats (getD js r []) i j) (at floats (getD js' r []) i j))
+    pub transformedAll-moves : (u : ℕ → ℤ) (n : ℕ) → ((r : ℕ) → r < n → natAbs (u r) ≤ t) → n ≤ 4 → (js js' : List Rows)
+        → ((r i j : ℕ) → r < n → i < p → j < p → Tied (u r) (at floats (getD js r []) i j) (at floats (getD js' r []) i j))
         → MovesStack t u n q q (transformedAll marks n p q l js) (transformedAll marks n p q l' js')
     unfolding transformedAll
-    transformedAll-moves u h n hn js js' f =
+    transformedAll-moves u n h hn js js' f =
         stack-moves u n q q hn (λ i. transformed marks p q l (getD js i [])) (λ i. transformed marks p q l' (getD js' i []))
-        (λ r o. transformed-moves u h (getD js r []) (getD js' r []) (λ i j x y. f r i j o x y))
+        (λ r o. transformed-moves (u r) (h r o) (getD js r []) (getD js' r []) (λ i j x y. f r i j o x y))
 
   -- ---- one row
   pub squareOne-moves : (k : ℤ) (ld v ld' v' : Marked) → Moves t k ld ld' → Moves t (k +ℤ k) v v' → Moves t (pos 0) (squareOne marks ld v) (squareOne marks ld' v')
@@ -89,8 +89,8 @@ module _ {t : ℕ} where
       let f : Moves t (pos 0) x x' = alike-over k ld (markedRoot v) ld' (markedRoot v') p (root-moves k v v' q) in
       still-times (pos 0) (omega arith) x x x' x' f f
 
-  pub gradientOne-moves : (u : ℤ) (n q : ℕ) → n ≤ 4 → 0 < q → (js js' : List MarkedRows) → MovesStack t u n q q js js'
-      → (i : ℕ) → i < n → Moves t u (entryAt marks (gradientOne marks n js) i) (entryAt marks (gradientOne marks n js') i)
+  pub gradientOne-moves : (u : ℕ → ℤ) (n q : ℕ) → n ≤ 4 → 0 < q → (js js' : List MarkedRows) → MovesStack t u n q q js js'
+      → (i : ℕ) → i < n → Moves t (u i) (entryAt marks (gradientOne marks n js) i) (entryAt marks (gradientOne marks n js') i)
   unfolding gradientOne
   gradientOne-moves u n q h o js js' f =
       row-moves 6 n (omega arith) u (λ i. at marks (getD js i []) 0 0) (λ i. at marks (getD js' i []) 0 0) (λ i l. f .matrix i l .cell 0 0 o o)
@@ -116,7 +116,7 @@ module _ {t : ℕ} where
     pub variancesOf-moves : (k : ℕ) → k < q → Moves t w (entryAt marks (variancesOf marks q (eigenvalues marks q d) d) k) (entryAt marks (variancesOf marks q (eigenvalues marks q d') d') k)
     unfolding variancesOf
     variancesOf-moves =
-        row-moves 6 q hq w (λ k. at marks d (indexAt q (eigenvalues marks q d) k) (indexAt q (eigenvalues marks q d) k))
+        row-moves 6 q hq (λ k. w) (λ k. at marks d (indexAt q (eigenvalues marks q d) k) (indexAt q (eigenvalues marks q d) k))
         (λ k. at marks d' (indexAt q (eigenvalues marks q d') k) (indexAt q (eigenvalues marks q d') k))
         (λ k l.
         let i : indexAt q (eigenvalues marks q d) k < q = index-below q (eigenvalues marks q d) k o in
@@ -147,20 +147,20 @@ module _ {t : ℕ} where
         (product-moves 6 6 q 1 hq (omega arith) (pos 0) k (rw +ℤ-idl m) q (transpose marks 6 6 q q x) ld (transpose marks 6 6 q q x') ld' turned-x f)
 
     -- Jx, and x·(Jx)
-    pub turnedAll-moves : (u : ℤ) → natAbs u ≤ t → (n : ℕ) → n ≤ 4 → (js js' : List MarkedRows) → MovesStack t u n q q js js'
+    pub turnedAll-moves : (u : ℕ → ℤ) (n : ℕ) → ((i : ℕ) → i < n → natAbs (u i) ≤ t) → n ≤ 4 → (js js' : List MarkedRows) → MovesStack t u n q q js js'
         → MovesStack t u n q q (jxAll marks n q js x) (jxAll marks n q js' x')
     unfolding jxAll
-    turnedAll-moves u m n h js js' f =
+    turnedAll-moves u n m h js js' f =
         stack-moves u n q q h (λ i. product marks 6 6 q q q (getD js i []) x) (λ i. product marks 6 6 q q q (getD js' i []) x')
-        (λ i l. cells-by (+ℤ-idr u) (product-moves 6 6 q q hq hq u (pos 0) (rw +ℤ-idr m) q (getD js i []) x (getD js' i []) x' (f .matrix i l) px))
+        (λ i l. cells-by (+ℤ-idr (u i)) (product-moves 6 6 q q hq hq (u i) (pos 0) (rw +ℤ-idr (m i l)) q (getD js i []) x (getD js' i []) x' (f .matrix i l) px))
 
-    pub gradientAt-moves : (u : ℤ) → natAbs u ≤ t → (n : ℕ) → n ≤ 4 → (jx jx' : List MarkedRows) → MovesStack t u n q q jx jx' → (k : ℕ) → k < q
-        → (i : ℕ) → i < n → Moves t u (entryAt marks (gradientAt marks n q x jx k) i) (entryAt marks (gradientAt marks n q x' jx' k) i)
+    pub gradientAt-moves : (u : ℕ → ℤ) (n : ℕ) → ((i : ℕ) → i < n → natAbs (u i) ≤ t) → n ≤ 4 → (jx jx' : List MarkedRows) → MovesStack t u n q q jx jx' → (k : ℕ) → k < q
+        → (i : ℕ) → i < n → Moves t (u i) (entryAt marks (gradientAt marks n q x jx k) i) (entryAt marks (gradientAt marks n q x' jx' k) i)
     unfolding gradientAt
-    gradientAt-moves u m n h jx jx' f k l =
+    gradientAt-moves u n m h jx jx' f k l =
         row-moves 6 n (omega arith) u (λ i. cell marks q (transpose marks 6 6 q q x) (getD jx i []) k k) (λ i. cell marks q (transpose marks 6 6 q q x') (getD jx' i []) k k)
-        (λ i j. moves-by (cell marks q (transpose marks 6 6 q q x) (getD jx i []) k k) (cell marks q (transpose marks 6 6 q q x') (getD jx' i []) k k) (+ℤ-idl u)
-        (cell-moves (pos 0) u (rw +ℤ-idl m) q q q (transpose marks 6 6 q q x) (getD jx i []) (transpose marks 6 6 q q x') (getD jx' i []) turned-x (f .matrix i j) k k l l))
+        (λ i j. moves-by (cell marks q (transpose marks 6 6 q q x) (getD jx i []) k k) (cell marks q (transpose marks 6 6 q q x') (getD jx' i []) k k) (+ℤ-idl (u i))
+        (cell-moves (pos 0) (u i) (rw +ℤ-idl (m i j)) q q q (transpose marks 6 6 q q x) (getD jx i []) (transpose marks 6 6 q q x') (getD jx' i []) turned-x (f .matrix i j) k k l l))
 
   -- F
   pub squaresOver-moves : (k : ℤ) → natAbs (k +ℤ k) ≤ t → (q : ℕ) (y y' : MarkedRows) (es es' : List Marked) → MovesCells t k q 1 y y'

@@ -1,22 +1,22 @@
--- Document 01's third demand, for the Satterthwaite test: v and every Jacobian times 4 ^ k, β and β_H times 2 ^ k, all else the same. Where the first test is marked inside, the
+-- Document 01's third demand, for the Satterthwaite test: v and every Jacobian times 4 ^ k, β and β_H times 2 ^ k, all else the same. Where the first test's mark bears t and t covers 4|k|, the
 -- second is refused or accepted as the first, with the same rank, F and degrees of freedom, bit for bit.
-use Prim.Native.Nat.{ℕ, _+_, _≤_, _<_}
+use Prim.Native.Nat.{ℕ, _*_, _≤_, _<_}
 use native.Mathlib.Omega.{arith}
 use mathlib.Core.Path.{_≡_, refl, sym, ap, _∙_}
 use mathlib.Core.Bool.{Bool, true, false, cond}
 use mathlib.Core.List.{[]}
 use lib.Dec.{T, eqb}
-use lib.IntN.{ℤ, pos, negsuc, natAbs, _+ℤ_}
+use lib.IntN.{ℤ, pos, natAbs, _+ℤ_}
 use lib.ListN.{getD}
 use lib.Ieee.{nan, binary64, fits}
 use Rattle.arithmetic.specs.declared.Marked.{Marked}
 use Rattle.arithmetic.specs.Numbers.{plusZero}
-use Rattle.arithmetic.specs.Marks.{given, also}
+use Rattle.arithmetic.specs.Marks.{MarkBears, given, also}
 use Rattle.arithmetic.proofs.Tied.{Tied}
-use Rattle.arithmetic.proofs.MarkLaws.{Bears, Moves, inside-bears, also-bears}
+use Rattle.arithmetic.proofs.MarkLaws.{Bears, Moves, mark-bears, also-bears}
 use Rattle.algebra.specs.Kind.{floats, marks}
 use Rattle.algebra.specs.Product.{at}
-use Rattle.algebra.proofs.MovingCells.{BearsCells, MovesCells, still-value}
+use Rattle.algebra.proofs.MovingCells.{BearsCells, MovesCells, abs-twice, still-value}
 use Rattle.algebra.proofs.MovingJacobi.{StateBears, StateMoves, jacobi-moves}
 use Rattle.algebra.specs.Small.{allMarks}
 use Rattle.arithmetic_cutoffs.specs.declared.Cutoffs.{Cutoffs}
@@ -54,50 +54,45 @@ pub record SameOutcome (x x' : Outcome) : Type 0 where
   pub df : x' .entry .df ≡ x .entry .df
   pub rank : x' .entry .rank ≡ x .entry .rank
 
--- ---- shifts
--- twice a shift is at most twice as large
-twice-small : (k : ℤ) {a : ℕ} → natAbs k ≤ a → natAbs (k +ℤ k) ≤ a + a
-twice-small (pos m) h = omega arith
-twice-small (negsuc m) h = omega arith
-
 -- ---- two tests of the same sizes
 -- s with other numbers
 abbrev pub withNumbers : Inputs → Inputs → Inputs
 withNumbers s r = record { p = s .p; q = s .q; n = s .n; l = r .l; beta = r .beta; betaH = r .betaH; v = r .v; js = r .js; a = r .a }
 
-module _ (c : Cutoffs) (fine : T (fits binary64 (c .rotation))) (k : ℤ) (small : natAbs k ≤ 32) (s r : Inputs) (z : InputSizes s) (e : ConvertedInputs k s (withNumbers s r)) where
+-- t covers 4|k|, the shift of V's squares in Jacobi's rotation tests: nothing that is marked moves further
+module _ {t : ℕ} (c : Cutoffs) (fine : T (fits binary64 (c .rotation))) (k : ℤ) (small : 4 * natAbs k ≤ t) (s r : Inputs) (z : InputSizes s) (e : ConvertedInputs k s (withNumbers s r)) where
   abbrev other : Inputs
   other = withNumbers s r
 
   abbrev w : ℤ
   w = k +ℤ k
 
-  one-small : natAbs k ≤ 128
+  one-small : natAbs k ≤ t
   one-small = omega arith
 
-  two-small : natAbs (k +ℤ k) ≤ 128
-  two-small = omega (arith, twice-small k small)
+  two-small : natAbs w ≤ t
+  two-small = omega (arith, abs-twice k)
 
-  four-small : natAbs (w +ℤ w) ≤ 128
-  four-small = twice-small (k +ℤ k) (twice-small k small)
+  four-small : natAbs (w +ℤ w) ≤ t
+  four-small = omega (arith, abs-twice k, abs-twice w)
 
   -- what both kinds of test start from
-  l-moves : MovesCells 128 (pos 0) (s .q) (s .p) (lRows marks c s) (lRows marks c other)
+  l-moves : MovesCells t (pos 0) (s .q) (s .p) (lRows marks c s) (lRows marks c other)
   l-moves = given-cells 6 6 (s .q) (s .p) (z .q) (z .p) (pos 0) (s .l) (r .l) (e .l)
 
-  ld-moves : MovesCells 128 k (s .q) 1 (ldRows marks c s) (ldRows marks c other)
+  ld-moves : MovesCells t k (s .q) 1 (ldRows marks c s) (ldRows marks c other)
   unfolding ldRows
   ld-moves = contrastOf-moves (s .p) (s .q) (z .p) (z .q) (lRows marks c s) (lRows marks c other) l-moves k one-small (s .beta) (s .betaH) (r .beta) (r .betaH) (e .beta) (e .betaH)
 
-  v-moves : MovesCells 128 w (s .q) (s .q) (vRows marks c s) (vRows marks c other)
+  v-moves : MovesCells t w (s .q) (s .q) (vRows marks c s) (vRows marks c other)
   unfolding vRows
   v-moves = transformed-moves (s .p) (s .q) (z .p) (z .q) (lRows marks c s) (lRows marks c other) l-moves w two-small (s .v) (r .v) (e .v)
 
-  js-moves : MovesStack 128 w (s .n) (s .q) (s .q) (jStack marks c s) (jStack marks c other)
+  js-moves : MovesStack t (λ i. w) (s .n) (s .q) (s .q) (jStack marks c s) (jStack marks c other)
   unfolding jStack
-  js-moves = transformedAll-moves (s .p) (s .q) (z .p) (z .q) (lRows marks c s) (lRows marks c other) l-moves w two-small (s .n) (z .n) (s .js) (r .js) (e .js)
+  js-moves = transformedAll-moves (s .p) (s .q) (z .p) (z .q) (lRows marks c s) (lRows marks c other) l-moves (λ i. w) (s .n) (λ i l. two-small) (z .n) (s .js) (r .js) (e .js)
 
-  start-v : Bears 128 (startSeen marks c s) → BearsCells 128 (s .q) (s .q) (vRows marks c s)
+  start-v : Bears t (startSeen marks c s) → BearsCells t (s .q) (s .q) (vRows marks c s)
   unfolding startSeen
   start-v b =
       allMarks-cells (s .q) (s .q) (vRows marks c s) (allMarks marks (s .q) 1 (ldRows marks c s) (given plusZero))
@@ -107,8 +102,8 @@ module _ (c : Cutoffs) (fine : T (fits binary64 (c .rotation))) (k : ℤ) (small
   few = omega (arith, z .n)
 
   -- ---- one row
-  module _ (b : Bears 128 (seenOne marks c s)) where
-    one-bears : Bears 128 (startSeen marks c s) × Bears 128 (fOne marks c s)
+  module _ (b : Bears t (seenOne marks c s)) where
+    one-bears : Bears t (startSeen marks c s) × Bears t (fOne marks c s)
     unfolding seenOne
     one-bears =
         also-bears (startSeen marks c s) (fOne marks c s) (gradient-first (s .n) few (at marks (vRows marks c s) 0 0) (gradientOne marks (s .n) (jStack marks c s)) (also (startSeen marks c s) (fOne marks c s)) b)
@@ -124,7 +119,7 @@ module _ (c : Cutoffs) (fine : T (fits binary64 (c .rotation))) (k : ℤ) (small
     unfolding dfOne seenOne
     dfOne-agrees =
         varianceDf-agrees (s .n) few w (at marks (vRows marks c s) 0 0) (at marks (vRows marks c other) 0 0) (gradientOne marks (s .n) (jStack marks c s)) (gradientOne marks (s .n) (jStack marks c other))
-        (v-moves .cell 0 0 (z .some) (z .some)) (gradientOne-moves w (s .n) (s .q) (z .n) (z .some) (jStack marks c s) (jStack marks c other) js-moves)
+        (v-moves .cell 0 0 (z .some) (z .some)) (gradientOne-moves (λ i. w) (s .n) (s .q) (z .n) (z .some) (jStack marks c s) (jStack marks c other) js-moves)
         (s .a) (r .a) (also (startSeen marks c s) (fOne marks c s)) (e .a) (start-v (one-bears .0) .cell 0 0 (z .some) (z .some)) b
 
     one-survives : SameOutcome (oneRow marks c s) (oneRow marks c other)
@@ -132,20 +127,20 @@ module _ (c : Cutoffs) (fine : T (fits binary64 (c .rotation))) (k : ℤ) (small
     one-survives = record { refused = refl; f = ap numberOf fOne-agrees; df = dfOne-agrees; rank = refl }
 
   -- ---- several rows
-  module _ (b : Bears 128 (seenSeveral marks c s)) where
+  module _ (b : Bears t (seenSeveral marks c s)) where
     abbrev vectorsSeen : Marked
     vectorsSeen = allMarks marks (s .q) (s .q) (rotatedV marks c s .v) (allMarks marks (s .q) (s .q) (rotatedV marks c s .a) (startSeen marks c s))
 
     abbrev rotationsSeen : Marked
     rotationsSeen = also vectorsSeen (rotatedV marks c s .seen)
 
-    several-bears : Bears 128 rotationsSeen × Bears 128 (fSeveral marks c s)
+    several-bears : Bears t rotationsSeen × Bears t (fSeveral marks c s)
     unfolding seenSeveral
     several-bears = also-bears rotationsSeen (fSeveral marks c s) (components-first (s .n) (s .q) few (variances marks c s) (directions marks c s) (jxStack marks c s) (also rotationsSeen (fSeveral marks c s)) b)
 
-    state-bears : StateBears 128 (s .q) (rotatedV marks c s)
+    state-bears : StateBears t (s .q) (rotatedV marks c s)
     state-bears =
-        let h : Bears 128 vectorsSeen × Bears 128 (rotatedV marks c s .seen) = also-bears vectorsSeen (rotatedV marks c s .seen) (several-bears .0) in
+        let h : Bears t vectorsSeen × Bears t (rotatedV marks c s .seen) = also-bears vectorsSeen (rotatedV marks c s .seen) (several-bears .0) in
         record {
           matrix =
               allMarks-cells (s .q) (s .q) (rotatedV marks c s .a) (startSeen marks c s)
@@ -154,28 +149,28 @@ module _ (c : Cutoffs) (fine : T (fits binary64 (c .rotation))) (k : ℤ) (small
           seen = h .1;
         }
 
-    state-moves : StateMoves 128 w (s .q) (rotatedV marks c s) (rotatedV marks c other)
+    state-moves : StateMoves t w (s .q) (rotatedV marks c s) (rotatedV marks c other)
     unfolding rotatedV
     state-moves =
         jacobi-moves (c .rotation) 6 6 (s .q) (z .q) (z .q) fine w four-small (vRows marks c s) (vRows marks c other)
         (λ i j h l. v-moves .cell i j (omega arith) l) state-bears
 
-    variances-move : (i : ℕ) → i < s .q → Moves 128 w (entryAt marks (variances marks c s) i) (entryAt marks (variances marks c other) i)
+    variances-move : (i : ℕ) → i < s .q → Moves t w (entryAt marks (variances marks c s) i) (entryAt marks (variances marks c other) i)
     unfolding variances
     variances-move = variancesOf-moves w (s .q) (z .q) (z .some) (rotatedV marks c s .a) (rotatedV marks c other .a) (state-moves .matrix) (state-bears .matrix)
 
-    variances-bear : (i : ℕ) → i < s .q → Bears 128 (entryAt marks (variances marks c s) i)
+    variances-bear : (i : ℕ) → i < s .q → Bears t (entryAt marks (variances marks c s) i)
     unfolding variances
     variances-bear = variancesOf-bear w (s .q) (z .q) (z .some) (rotatedV marks c s .a) (rotatedV marks c other .a) (state-moves .matrix) (state-bears .matrix)
 
-    directions-move : MovesCells 128 (pos 0) (s .q) (s .q) (directions marks c s) (directions marks c other)
+    directions-move : MovesCells t (pos 0) (s .q) (s .q) (directions marks c s) (directions marks c other)
     unfolding directions
     directions-move =
         directionsOf-moves w (s .q) (z .q) (z .some) (rotatedV marks c s .a) (rotatedV marks c other .a) (state-moves .matrix) (state-bears .matrix) (rotatedV marks c s .v) (rotatedV marks c other .v) (state-moves .vectors)
 
-    jx-moves : MovesStack 128 w (s .n) (s .q) (s .q) (jxStack marks c s) (jxStack marks c other)
+    jx-moves : MovesStack t (λ i. w) (s .n) (s .q) (s .q) (jxStack marks c s) (jxStack marks c other)
     unfolding jxStack
-    jx-moves = turnedAll-moves (s .q) (z .q) (directions marks c s) (directions marks c other) directions-move w two-small (s .n) (z .n) (jStack marks c s) (jStack marks c other) js-moves
+    jx-moves = turnedAll-moves (s .q) (z .q) (directions marks c s) (directions marks c other) directions-move (λ i. w) (s .n) (λ i l. two-small) (z .n) (jStack marks c s) (jStack marks c other) js-moves
 
     fSeveral-agrees : fSeveral marks c other .value ≡ fSeveral marks c s .value
     unfolding fSeveral
@@ -190,7 +185,7 @@ module _ (c : Cutoffs) (fine : T (fits binary64 (c .rotation))) (k : ℤ) (small
         ap (severalDf (s .q))
         (componentDfs-agree (s .n) (s .q) few (variances marks c s) (directions marks c s) (jxStack marks c s) (also rotationsSeen (fSeveral marks c s)) b w c (s .a) (r .a)
         (variances marks c other) (directions marks c other) (jxStack marks c other) (e .a) variances-move variances-bear
-        (λ i h. gradientAt-moves (s .q) (z .q) (directions marks c s) (directions marks c other) directions-move w two-small (s .n) (z .n) (jxStack marks c s) (jxStack marks c other) jx-moves i h))
+        (λ i h. gradientAt-moves (s .q) (z .q) (directions marks c s) (directions marks c other) directions-move (λ i. w) (s .n) (λ i l. two-small) (z .n) (jxStack marks c s) (jxStack marks c other) jx-moves i h))
 
     several-survives : SameOutcome (severalRows marks c s) (severalRows marks c other)
     unfolding severalRows
@@ -202,27 +197,27 @@ module _ (c : Cutoffs) (fine : T (fits binary64 (c .rotation))) (k : ℤ) (small
     }
 
   -- ---- whole
-  one-inside : T (oneRow marks c s .entry .inside) → SameOutcome (oneRow marks c s) (oneRow marks c other)
+  one-borne : MarkBears t (oneRow marks c s .entry .inside) → SameOutcome (oneRow marks c s) (oneRow marks c other)
   unfolding oneRow
-  one-inside t = one-survives (inside-bears (seenOne marks c s) (omega arith) t)
+  one-borne h = one-survives (mark-bears (seenOne marks c s) h)
 
-  several-inside : T (severalRows marks c s .entry .inside) → SameOutcome (severalRows marks c s) (severalRows marks c other)
+  several-borne : MarkBears t (severalRows marks c s .entry .inside) → SameOutcome (severalRows marks c s) (severalRows marks c other)
   unfolding severalRows
-  several-inside t = several-survives (inside-bears (seenSeveral marks c s) (omega arith) t)
+  several-borne h = several-survives (mark-bears (seenSeveral marks c s) h)
 
-  numbers-survive : T (satterthwaite marks c s .entry .inside) → SameOutcome (satterthwaite marks c s) (satterthwaite marks c other)
+  numbers-survive : MarkBears t (satterthwaite marks c s .entry .inside) → SameOutcome (satterthwaite marks c s) (satterthwaite marks c other)
   unfolding satterthwaite
   numbers-survive = go (eqb (s .q) 1)
     where
-      go : (x : Bool) → T (cond x (oneRow marks c s) (severalRows marks c s) .entry .inside)
+      go : (x : Bool) → MarkBears t (cond x (oneRow marks c s) (severalRows marks c s) .entry .inside)
           → SameOutcome (cond x (oneRow marks c s) (severalRows marks c s)) (cond x (oneRow marks c other) (severalRows marks c other))
-      go true t = one-inside t
-      go false t = several-inside t
+      go true h = one-borne h
+      go false h = several-borne h
 
 -- ---- DEMAND 3 for the Satterthwaite test
-pub satterthwaite-survives : (c : Cutoffs) → T (fits binary64 (c .rotation)) → (k : ℤ) → natAbs k ≤ 32 → (s s' : Inputs) → InputSizes s → ConvertedInputs k s s'
-    → T (satterthwaite marks c s .entry .inside) → SameOutcome (satterthwaite marks c s) (satterthwaite marks c s')
-satterthwaite-survives c fine k small s s' z e t = rw same at (numbers-survive c fine k small s s' z (rw same e) t)
+pub satterthwaite-survives : {t : ℕ} (c : Cutoffs) → T (fits binary64 (c .rotation)) → (k : ℤ) → 4 * natAbs k ≤ t → (s s' : Inputs) → InputSizes s → ConvertedInputs k s s'
+    → MarkBears t (satterthwaite marks c s .entry .inside) → SameOutcome (satterthwaite marks c s) (satterthwaite marks c s')
+satterthwaite-survives c fine k small s s' z e h = rw same at (numbers-survive c fine k small s s' z (rw same e) h)
   where
     sized : ℕ → ℕ → ℕ → Inputs
     sized p q n = record { p = p; q = q; n = n; l = s' .l; beta = s' .beta; betaH = s' .betaH; v = s' .v; js = s' .js; a = s' .a }

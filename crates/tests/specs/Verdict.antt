@@ -1,9 +1,9 @@
 -- Document 01: "F, df and rank are its verdict, and a run's verdict is the verdicts of all its entries. Demand 3 compares the verdicts of whole inputs; the mark may change."
 use Prim.Native.Nat.{ℕ, _<_}
 use mathlib.Core.Path.{_≡_}
-use mathlib.Core.Bool.{true}
 use mathlib.Core.List.{List, map}
 use lib.ListN.{getD}
+use Rattle.arithmetic.specs.Marks.{MarkBears}
 use Rattle.tests.specs.declared.Number.{Number}
 use Rattle.tests.specs.declared.Entry.{Entry}
 use Rattle.tests.specs.Answer.{noEntry}
@@ -20,10 +20,10 @@ verdict e = record { f = e .f; df = e .df; rank = e .rank }
 unfoldable pub verdicts : Run → List Verdict
 verdicts r = map verdict (r .entries)
 
--- "a run is inside when all its entries are": those of p coefficients, and the contrast's where it has rows
-pub record Inside (p rows : ℕ) (r : Run) : Type 0 where
-  pub coefficient : (i : ℕ) → i < p → getD (r .entries) i noEntry .inside ≡ true
-  pub contrast : 0 < rows → getD (r .entries) 6 noEntry .inside ≡ true
+-- every entry in use bears shifts up to 2 ^ t: those of p coefficients, and the contrast's where it has rows
+pub record RunBears (t p rows : ℕ) (r : Run) : Type 0 where
+  pub coefficient : (i : ℕ) → i < p → MarkBears t (getD (r .entries) i noEntry .inside)
+  pub contrast : 0 < rows → MarkBears t (getD (r .entries) 6 noEntry .inside)
 
 -- the second run is refused where the first is (a zero pivot), and all its verdicts are the first's
 pub record RunSurvives (r r' : Run) : Type 0 where
