@@ -4,6 +4,7 @@ pub mod Bytes
 pub mod Kinds
 pub mod Cells
 pub mod File
+pub mod Order
 pub mod Written
 pub mod Series
 pub mod Parameters

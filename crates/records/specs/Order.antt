@@ -1,0 +1,29 @@
+-- Document 02, "Req 01": "The panel now writes records by kind, then by the count where it numbers a matrix, then row and column. .. input must rise strictly in that order, read from the bytes as
+-- they stand and alike in every call." One order of the records of a file s for every call: no table of kinds is asked, the row and column bytes count also where a kind leaves them unused, byte 3
+-- and the value bytes never do.
+use Prim.Native.Nat.{ℕ, _+_, _-_}
+use mathlib.Core.Bool.{Bool, not, _&&_, _||_, cond}
+use mathlib.Core.List.{List}
+use lib.Dec.{eqb, ltb}
+use Rattle.records.specs.Scan.{any}
+use Rattle.records.specs.File.{count, kindOf, rowOf, columnOf, countOf}
+
+-- "where it numbers a matrix": the count of a Jacobian. A block's count is its groups, and numbers nothing.
+unfoldable pub numbersMatrix : ℕ → Bool
+numbersMatrix kind = eqb kind 31
+
+-- the number of record i's matrix, 0 where its count numbers none
+unfoldable pub matrixOf : List ℕ → ℕ → ℕ
+matrixOf s i = cond (numbersMatrix (kindOf s i)) (countOf s i) 0
+
+-- one field decides, and the rest where it is the same: "by .., then by .."
+abbrev pub thenBy : ℕ → ℕ → Bool → Bool
+thenBy x y rest = ltb x y || (eqb x y && rest)
+
+-- record i stands before record j: "by kind, then by the count where it numbers a matrix, then row and column"
+unfoldable pub before : List ℕ → ℕ → ℕ → Bool
+before s i j = thenBy (kindOf s i) (kindOf s j) (thenBy (matrixOf s i) (matrixOf s j) (thenBy (rowOf s i) (rowOf s j) (ltb (columnOf s i) (columnOf s j))))
+
+-- "a file whose neighbouring records don't rise": two that are equal in this order don't
+unfoldable pub falls : List ℕ → Bool
+falls s = any (count s - 1) (λ i. not (before s i (i + 1)))

@@ -1,0 +1,105 @@
+-- Keys stand in the order of the records, and a file falls where one of its records has a key that is not above the last.
+use Prim.Native.Nat.{ℕ, zero, suc, _+_, _-_, _*_, _<_, _≤_}
+use native.Mathlib.Nat.{mul-le-mul-right}
+use native.Mathlib.Numerals.{add-one}
+use native.Mathlib.Omega.{arith}
+use native.Mathlib.Decide.{decLt}
+use mathlib.Core.Path.{_≡_, refl, sym, ap, ap₂, _∙_}
+use mathlib.Core.Bool.{Bool, true, false, not, _&&_, _||_, cond}
+use mathlib.Core.List.{List}
+use lib.Dec.{eqb, ltb}
+use borrow.Author.Tests.{lt-ltb, le-ltb, eq-eqb, ne-eqb}
+use Rattle.records.specs.Bytes.{byte, word}
+use Rattle.records.specs.Scan.{any}
+use Rattle.records.specs.File.{count, kindOf, rowOf, columnOf, countOf}
+use Rattle.records.specs.Order.{numbersMatrix, matrixOf, thenBy, before, falls}
+use Rattle.records_order.specs.joints.Keys.{keyOf, leastKey, fallsAt}
+
+-- ---- digits
+-- of two numbers a w + x and b w + y, with x and y below w, the first digits decide, and the second where they are the same
+pub by-digits : (w a b x y : ℕ) → x < w → y < w → thenBy a b (ltb x y) ≡ ltb (a * w + x) (b * w + y)
+by-digits w a b x y hx hy = go (decLt a b) (decLt b a)
+  where
+    go : Dec (a < b) → Dec (b < a) → thenBy a b (ltb x y) ≡ ltb (a * w + x) (b * w + y)
+    go (yes h) d = rw (lt-ltb a b h) (sym (lt-ltb (a * w + x) (b * w + y) (omega (arith, mul-le-mul-right w h))))
+    go (no h) (yes k) =
+        rw (le-ltb a b (omega arith), ne-eqb a b (λ e. omega arith)) (sym (le-ltb (a * w + x) (b * w + y) (omega (arith, mul-le-mul-right w k))))
+    go (no h) (no k) =
+        let e : a ≡ b = omega arith in
+        rw (e, le-ltb b b (omega arith), eq-eqb b b refl) (same (decLt x y))
+      where
+        same : Dec (x < y) → ltb x y ≡ ltb (b * w + x) (b * w + y)
+        same (yes l) = lt-ltb x y l ∙ sym (lt-ltb (b * w + x) (b * w + y) (omega arith))
+        same (no l) = le-ltb x y (omega arith) ∙ sym (le-ltb (b * w + x) (b * w + y) (omega arith))
+
+-- ---- a pass over the records, with the key of the record at hand and the least that it may have
+module _ (s : List ℕ) (i key least : ℕ) (k : key ≡ keyOf s i) (l : least ≡ leastKey s i) where
+  pub fall-here : key < least → fallsAt s i ≡ true
+  unfolding fallsAt
+  fall-here h = rw (← k, ← l) (lt-ltb key least h)
+
+  pub rise-here : least ≤ key → fallsAt s i ≡ false
+  unfolding fallsAt
+  rise-here h = rw (← k, ← l) (le-ltb key least h)
+
+pub next-least : (s : List ℕ) (i key : ℕ) → key ≡ keyOf s i → key + 1 ≡ leastKey s (i + 1)
+unfolding leastKey
+next-least s i key k = rw (add-one i, k)
+
+-- ---- keys, of a list of bytes
+module _ (s : List ℕ) (bytes : (i : ℕ) → byte s i < 256) where
+  count-below : (i : ℕ) → countOf s i < 4294967296
+  unfolding word
+  count-below i = omega (arith, bytes (16 * i + 4), bytes (16 * i + 4 + 1), bytes (16 * i + 4 + 2), bytes (16 * i + 4 + 3))
+
+  matrix-below : (i : ℕ) → matrixOf s i < 4294967296
+  unfolding matrixOf
+  matrix-below i = go (numbersMatrix (kindOf s i))
+    where
+      go : (b : Bool) → cond b (countOf s i) 0 < 4294967296
+      go true = count-below i
+      go false = omega arith
+
+  -- THE ORDER IS THAT OF THE KEYS
+  pub before-key : (i j : ℕ) → before s i j ≡ ltb (keyOf s i) (keyOf s j)
+  unfolding before keyOf
+  before-key i j =
+      rw (
+        by-digits 256 (rowOf s i) (rowOf s j) (columnOf s i) (columnOf s j) (bytes (16 * i + 2)) (bytes (16 * j + 2)),
+        by-digits 65536 (matrixOf s i) (matrixOf s j) (rowOf s i * 256 + columnOf s i) (rowOf s j * 256 + columnOf s j) (places i) (places j),
+      )
+      (by-digits 281474976710656 (kindOf s i) (kindOf s j) (matrixOf s i * 65536 + (rowOf s i * 256 + columnOf s i)) (matrixOf s j * 65536 + (rowOf s j * 256 + columnOf s j)) (below i) (below j))
+    where
+      places : (i : ℕ) → rowOf s i * 256 + columnOf s i < 65536
+      places i = omega (arith, bytes (16 * i + 1), bytes (16 * i + 2))
+
+      below : (i : ℕ) → matrixOf s i * 65536 + (rowOf s i * 256 + columnOf s i) < 281474976710656
+      below i = omega (arith, matrix-below i, places i)
+
+  -- record i + 1 does not stand after record i just where its key is below the least that it may have
+  next-falls : (i : ℕ) → not (before s i (i + 1)) ≡ fallsAt s (i + 1)
+  unfolding fallsAt leastKey
+  next-falls i = rw (before-key i (i + 1), add-one) (go (decLt (keyOf s i) (keyOf s (suc i))))
+    where
+      go : Dec (keyOf s i < keyOf s (suc i)) → not (ltb (keyOf s i) (keyOf s (suc i))) ≡ ltb (keyOf s (suc i)) (keyOf s i + 1)
+      go (yes h) = rw (lt-ltb (keyOf s i) (keyOf s (suc i)) h) (sym (le-ltb (keyOf s (suc i)) (keyOf s i + 1) (omega arith)))
+      go (no h) = rw (le-ltb (keyOf s i) (keyOf s (suc i)) (omega arith)) (sym (lt-ltb (keyOf s (suc i)) (keyOf s i + 1) (omega arith)))
+
+  -- the first record rises above nothing
+  first-rises : fallsAt s 0 ≡ false
+  unfolding fallsAt leastKey
+  first-rises = le-ltb (keyOf s 0) 0 (omega arith)
+
+  each-falls : (n : ℕ) → any n (λ i. not (before s i (i + 1))) ≡ any (suc n) (fallsAt s)
+  unfolding any
+  each-falls zero = sym first-rises
+  each-falls (suc n) = ap₂ _||_ (each-falls n) (next-falls n ∙ ap (fallsAt s) (add-one n))
+
+  -- A FILE FALLS WHERE A RECORD OF IT DOES
+  pub falls-each : falls s ≡ any (count s) (fallsAt s)
+  unfolding falls any
+  falls-each = go (count s)
+    where
+      go : (n : ℕ) → any (n - 1) (λ i. not (before s i (i + 1))) ≡ any n (fallsAt s)
+      go zero = refl
+      go (suc n) = let e : suc n - 1 ≡ n = omega arith in rw e (each-falls n)
