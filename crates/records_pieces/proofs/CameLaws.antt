@@ -21,7 +21,7 @@ use Rattle.records.proofs.WrittenLaws.{word-same}
 use Rattle.records_order.specs.joints.Keys.{keyOf, leastKey, fallsAt}
 use Rattle.records_order.proofs.KeyLaws.{next-least}
 use Rattle.records_pieces.specs.declared.Arrival.{Arrival}
-use Rattle.records_pieces.specs.joints.Arrived.{State, state, nothing, withRecord, takeRecord, takeByte, fed, Open, Came}
+use Rattle.records_pieces.specs.joints.Arrived.{State, state, nothing, withRecord, takeRecord, takeByte, fed, Open, Came, Arrives}
 use Rattle.records_pieces.proofs.PieceLaws.{oneMore, byte-open}
 
 -- ---- a record's key is its bytes'
@@ -243,3 +243,10 @@ nothing-came kept current h = record {
 
 pub came : (s kept current : List ℕ) → length current ≡ 16 → Came s (fed s (state nothing kept current))
 came s kept current h = more-came s [] (state nothing kept current) (nothing-came kept current h)
+
+-- ---- a program that reads by pieces always has what some file leaves
+pub start-arrives : (kept current : List ℕ) → length current ≡ 16 → Arrives (state nothing kept current)
+start-arrives kept current h = record { file = []; came = nothing-came kept current h }
+
+pub fed-arrives : (piece : List ℕ) (st : State) → Arrives st → Arrives (fed piece st)
+fed-arrives piece st r = record { file = r .file ++ piece; came = more-came piece (r .file) st (r .came) }

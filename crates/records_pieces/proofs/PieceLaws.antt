@@ -17,16 +17,16 @@ use Rattle.records_pieces.specs.declared.Arrival.{Arrival}
 use Rattle.records_pieces.specs.joints.Arrived.{State, state, withRecord, takeRecord, takeByte, fed, feds, joinedPieces, Open}
 
 -- ---- a record
-module _ (a : Arrival) (kept current : List ℕ) (key : ℕ) (k : key ≡ keyOf current 0) where
+module _ (a : Arrival) (kept current : List ℕ) (key : ℕ) (k : key ≡ keyOf current 0) (fell : Bool) (f : fell ≡ a .fell || ltb key (a .least)) where
   pub record-kept : 16 ≤ length kept - 16 * a .records → (after : List ℕ) → after ≡ withRecord (a .records) current kept
-      → state (record { records = a .records + 1; part = 0; least = key + 1; fell = a .fell || ltb key (a .least); longer = a .longer }) after current ≡ takeRecord (state a kept current)
+      → state (record { records = a .records + 1; part = 0; least = key + 1; fell = fell; longer = a .longer }) after current ≡ takeRecord (state a kept current)
   unfolding takeRecord
-  record-kept h after e = rw (e, k, le-leb 16 (length kept - 16 * a .records) h)
+  record-kept h after e = rw (e, f, k, le-leb 16 (length kept - 16 * a .records) h)
 
   pub record-passed : length kept - 16 * a .records < 16
-      → state (record { records = a .records; part = 0; least = key + 1; fell = a .fell || ltb key (a .least); longer = true }) kept current ≡ takeRecord (state a kept current)
+      → state (record { records = a .records; part = 0; least = key + 1; fell = fell; longer = true }) kept current ≡ takeRecord (state a kept current)
   unfolding takeRecord
-  record-passed h = rw (k, lt-leb 16 (length kept - 16 * a .records) h)
+  record-passed h = rw (f, k, lt-leb 16 (length kept - 16 * a .records) h)
 
 -- ---- a byte
 abbrev pub oneMore : Arrival → Arrival

@@ -1,6 +1,8 @@
 // A file that arrives in pieces of any lengths: its first records are kept, as many as the lent bytes have room for, and all are compared with their neighbours, so that a falling pair is seen anywhere in a file of any length.
 ghost use mathlib.Core.Path.{_≡_};
 ghost use Prim.Native.Nat.{_+_, _*_, _≤_};
+ghost use mathlib.Core.Bool.{_||_};
+ghost use lib.Dec.{ltb};
 ghost use lib.ListN.{length};
 ghost use Rattle.records_pieces.specs.joints.Arrived.{state, nothing, withRecord, takeRecord, takeByte, fed, Open};
 use records_order::key_at;
@@ -38,13 +40,20 @@ fn keep_record(n: usize, current: &[u8], kept: &mut [u8])
     }
 }
 
+// A record fell, or this one does, with its key: whether or not any is kept.
+fn fell_with(a: Arrival, key: u64) -> bool
+    ensures { λ r. ⌜ r ≡ a .fell || ltb key (a .least) ⌝ }
+{
+    a.fell | (key < a.least)
+}
+
 // The current record is whole: it is compared with the last one, and kept where there is room.
 fn take_record(a: Arrival, kept: &mut [u8], current: &[u8]) -> Arrival
     requires { ⌜ (16 * a .records ≤ length (now kept)) × (length (now current) ≡ 16) ⌝ }
     ensures { λ r. ⌜ state r (now (kept .exit)) (now (current .entry)) ≡ takeRecord (state a (now (kept .entry)) (now (current .entry))) ⌝ }
 {
     let key = key_at(current, 0);
-    let fell = a.fell | (key < a.least);
+    let fell = fell_with(a, key);
     let n = a.records;
     if kept.len() - 16 * n < 16 {
         return Arrival {

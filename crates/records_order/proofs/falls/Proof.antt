@@ -11,9 +11,6 @@ use Rattle.records_order.specs.joints.Keys.{keyOf, leastKey, fallsAt}
 use Rattle.records_order.proofs.KeyLaws.{fall-here, rise-here, next-least, falls-each}
 use Rattle.records_order.proofs.falls.Statement.{statement}
 use Rattle.records_order.proofs.falls.Tie as tie
-use Rattle.records_order.proofs.falls.Reads as reads
-use Rattle.records_order.proofs.falls.Lts as lts
-use Rattle.records_order.proofs.key_at.Reads as key-at-reads
 
 abbrev Inv-loop : tie.InvT-loop
 Inv-loop s n least₀ i₀ least i = (n ≡ count s) × (i ≤ n) × (least ≡ leastKey s i) × (any i (fallsAt s) ≡ false)
@@ -21,16 +18,13 @@ Inv-loop s n least₀ i₀ least i = (n ≡ count s) × (i ≤ n) × (least ≡ 
 abbrev μ-loop : tie.MeasureT-loop
 μ-loop s n least₀ i₀ least i = n - i
 
--- src/lib.rt:56:5
 loop-holds : tie.Need-loop-holds Inv-loop μ-loop
 unfolding any leastKey
 loop-holds c = (refl, omega arith, refl, refl)
 
--- src/lib.rt:57:13
 key-at-requires : tie.Need-key-at-requires Inv-loop μ-loop
 key-at-requires c κs = omega arith
 
--- src/lib.rt:59:13
 returns : tie.Need-returns Inv-loop μ-loop
 returns c =
     let s = now (c .before .before .before .before .before .args .s) in
@@ -38,19 +32,15 @@ returns c =
     let e = fall-here s i (c .before .key-at .result) (c .before .before .before .loop .least) (c .before .key-at .ensures .0) (c .before .before .before .loop .inv .2) (omega arith) in
     sym (falls-each s (λ j. omega (arith, c .before .before .before .before .shared-slice-known .given j)) ∙ any-hit (count s) (fallsAt s) i (omega arith) e)
 
--- src/lib.rt:61:17
 add-least : tie.Need-add-least Inv-loop μ-loop
 add-least c = omega arith
 
--- src/lib.rt:62:9
 add-i : tie.Need-add-i Inv-loop μ-loop
 add-i c = omega arith
 
--- src/lib.rt:56:5
 loop-less : tie.Need-loop-less Inv-loop μ-loop
 loop-less c = omega arith
 
--- src/lib.rt:56:5
 loop-again : tie.Need-loop-again Inv-loop μ-loop
 loop-again c =
     let s = now (c .before .before .before .before .before .args .s) in
@@ -59,7 +49,6 @@ loop-again c =
     let e = rise-here s i key (c .before .before .before .loop .least) (c .before .key-at .ensures .0) (c .before .before .before .loop .inv .2) (omega arith) in
     (refl, omega arith, next-least s i key (c .before .key-at .ensures .0), any-miss i (fallsAt s) (c .before .before .before .loop .inv .3) e)
 
--- src/lib.rt:50:1
 returns-2 : tie.Need-returns-2 Inv-loop μ-loop
 returns-2 c =
     let s = now (c .before .before .before .args .s) in

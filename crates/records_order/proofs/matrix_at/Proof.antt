@@ -8,37 +8,25 @@ use Rattle.records.specs.Order.{numbersMatrix, matrixOf}
 use borrow.Author.Needs.{needs}
 use Rattle.records_order.proofs.matrix_at.Statement.{statement}
 use Rattle.records_order.proofs.matrix_at.Tie as tie
-use Rattle.records_order.proofs.matrix_at.Reads as reads
-use Rattle.records_order.proofs.matrix_at.Lts as lts
-use Rattle.records_file.proofs.count_at.Reads as count-at-reads
-use Rattle.records_file.proofs.index.Reads as index-reads
-use Rattle.records_file.proofs.kind_at.Reads as kind-at-reads
-use Rattle.records_order.proofs.numbers_matrix.Reads as numbers-matrix-reads
 
--- src/lib.rt:24:43
 kind-at-requires : tie.Need-kind-at-requires
 kind-at-requires c κs = search needs
 
--- src/lib.rt:24:23
 index-requires : tie.Need-index-requires
 index-requires c κs = search needs
 
--- src/lib.rt:24:8
 numbers-matrix-requires : tie.Need-numbers-matrix-requires
 numbers-matrix-requires c κs = search needs
 
--- src/lib.rt:25:9
 count-at-requires : tie.Need-count-at-requires
 count-at-requires c κs = search needs
 
--- src/lib.rt:25:9
 returns : tie.Need-returns
 unfolding matrixOf
 returns c =
     let e : numbersMatrix (kindOf (now (c .before .before .before .before .before .before .args .s)) (c .before .before .before .before .before .before .args .i)) ≡ true = cc in
     (rw e (cc), omega arith)
 
--- src/lib.rt:20:1
 returns-2 : tie.Need-returns-2
 unfolding matrixOf
 returns-2 c =

@@ -2,10 +2,7 @@
 use Rattle.records.specs.Order.{numbersMatrix}
 use Rattle.records_order.proofs.numbers_matrix.Statement.{statement}
 use Rattle.records_order.proofs.numbers_matrix.Tie as tie
-use Rattle.records_order.proofs.numbers_matrix.Reads as reads
-use Rattle.records_order.proofs.numbers_matrix.Lts as lts
 
--- src/lib.rt:13:1
 returns : tie.Need-returns
 unfolding numbersMatrix
 returns c = cc

@@ -9,9 +9,6 @@ use Rattle.records_pieces.specs.joints.Arrived.{State, state, fed, Open}
 use Rattle.records_pieces.proofs.PieceLaws.{fed-none, fed-more, fed-all, byte-open, byte-length}
 use Rattle.records_pieces.proofs.feed.Statement.{statement}
 use Rattle.records_pieces.proofs.feed.Tie as tie
-use Rattle.records_pieces.proofs.feed.Reads as reads
-use Rattle.records_pieces.proofs.feed.Lts as lts
-use Rattle.records_pieces.proofs.take_byte.Reads as take-byte-reads
 
 abbrev Inv-loop : tie.InvT-loop
 Inv-loop piece kept₀ current₀ so-far₀ i₀ i-end kept current so-far i = (i-end ≡ length piece) × (i ≤ i-end) × (length kept ≡ length kept₀) × (length current ≡ length current₀) × (state so-far kept current ≡ fed (take i piece) (state so-far₀ kept₀ current₀)) × Open (state so-far kept current)
@@ -19,27 +16,21 @@ Inv-loop piece kept₀ current₀ so-far₀ i₀ i-end kept current so-far i = (
 abbrev μ-loop : tie.MeasureT-loop
 μ-loop piece kept₀ current₀ so-far₀ i₀ i-end kept current so-far i = i-end - i
 
--- src/lib.rt:94:5
 loop-holds : tie.Need-loop-holds Inv-loop μ-loop
 loop-holds c = (refl, omega arith, refl, refl, fed-none (now (c .before .before .before .args .piece)) _, c .before .before .before .pre)
 
--- src/lib.rt:95:38
 shared-slice-read-take-byte : tie.Need-shared-slice-read-take-byte Inv-loop μ-loop
 shared-slice-read-take-byte c = omega arith
 
--- src/lib.rt:95:13
 take-byte-requires : tie.Need-take-byte-requires Inv-loop μ-loop
 take-byte-requires c κs = c .before .before .before .before .loop .inv .5
 
--- src/lib.rt:94:9
 add-i : tie.Need-add-i Inv-loop μ-loop
 add-i c = omega arith
 
--- src/lib.rt:94:5
 loop-less : tie.Need-loop-less Inv-loop μ-loop
 loop-less c = omega arith
 
--- src/lib.rt:94:5
 loop-again : tie.Need-loop-again Inv-loop μ-loop
 loop-again c =
     let v = c .before .before .before .before .before .before .before .before .before .loop .inv in
@@ -57,15 +48,12 @@ loop-again c =
       subst (λ (x : State). Open x) (sym e) o,
     )
 
--- src/lib.rt:89:1
 same-length : tie.Need-same-length Inv-loop μ-loop
 same-length c = c .before .loop .inv .2
 
--- src/lib.rt:89:1
 same-length-2 : tie.Need-same-length-2 Inv-loop μ-loop
 same-length-2 c = c .before .loop .inv .3
 
--- src/lib.rt:89:1
 returns : tie.Need-returns Inv-loop μ-loop
 returns c =
     fed-all (now (c .before .before .before .before .before .args .piece)) (c .before .loop .i) _ _ (omega arith) (c .before .loop .inv .4)

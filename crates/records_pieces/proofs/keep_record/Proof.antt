@@ -8,8 +8,6 @@ use Rattle.algebra.proofs.FoldLaws.{fold-start, fold-next}
 use Rattle.records.specs.Bytes.{byte}
 use Rattle.records_pieces.proofs.keep_record.Statement.{statement}
 use Rattle.records_pieces.proofs.keep_record.Tie as tie
-use Rattle.records_pieces.proofs.keep_record.Reads as reads
-use Rattle.records_pieces.proofs.keep_record.Lts as lts
 
 abbrev Inv-loop : tie.InvT-loop
 Inv-loop n current kept₀ at o₀ kept o = (at ≡ 16 * n) × (o ≤ 16) × (length kept ≡ length kept₀) × (kept ≡ span (16 * n) (16 * n + o) (λ k. byte current (k - 16 * n)) kept₀)
@@ -17,38 +15,30 @@ Inv-loop n current kept₀ at o₀ kept o = (at ≡ 16 * n) × (o ≤ 16) × (le
 abbrev μ-loop : tie.MeasureT-loop
 μ-loop n current kept₀ at o₀ kept o = 16 - o
 
--- src/lib.rt:35:14
 mul-at : tie.Need-mul-at Inv-loop μ-loop
 mul-at c = omega arith
 
--- src/lib.rt:36:5
 loop-holds : tie.Need-loop-holds Inv-loop μ-loop
 loop-holds c =
     let n = c .args .n in
     let e : 16 * n ≡ 16 * n + 0 = omega arith in
     (refl, omega arith, refl, rw (← e) (fold-start (16 * n) (λ k ys. set ys k (byte (c .args .current .now) (k - 16 * n))) (c .args .kept .now)))
 
--- src/lib.rt:37:24
 shared-slice-read-kept : tie.Need-shared-slice-read-kept Inv-loop μ-loop
 shared-slice-read-kept c = omega arith
 
--- src/lib.rt:37:14
 add-kept : tie.Need-add-kept Inv-loop μ-loop
 add-kept c = omega arith
 
--- src/lib.rt:37:9
 slice-write-kept : tie.Need-slice-write-kept Inv-loop μ-loop
 slice-write-kept c = omega arith
 
--- src/lib.rt:36:9
 add-o : tie.Need-add-o Inv-loop μ-loop
 add-o c = omega arith
 
--- src/lib.rt:36:5
 loop-less : tie.Need-loop-less Inv-loop μ-loop
 loop-less c = omega arith
 
--- src/lib.rt:36:5
 loop-again : tie.Need-loop-again Inv-loop μ-loop
 loop-again c =
     let v = c .before .before .loop .inv in
@@ -58,11 +48,9 @@ loop-again c =
     let f : 16 * n + o - 16 * n ≡ o = omega arith in
     (refl, omega arith, rw length-set (v .2), rw e (fold-next (16 * n) (16 * n + o) _ _ _ _ (omega arith) (v .3) (rw f)))
 
--- src/lib.rt:31:1
 same-length : tie.Need-same-length Inv-loop μ-loop
 same-length c = c .before .loop .inv .2
 
--- src/lib.rt:31:1
 returns : tie.Need-returns Inv-loop μ-loop
 returns c =
     let v = c .before .loop .inv in

@@ -79,3 +79,8 @@ pub record Came (s : List ℕ) (st : State) : Type 0 where
   pub fell : st .arrival .fell ≡ any (count s) (fallsAt s)
   pub current : (o : ℕ) → o < length s % 16 → byte (st .current) o ≡ byte s (16 * count s + o)
   pub kept : (o : ℕ) → o < 16 * st .arrival .records → byte (st .kept) o ≡ byte s o
+
+-- what some file leaves: no contract can say which bytes a program reads
+pub record Arrives (st : State) : Type 0 where
+  pub file : List ℕ
+  pub came : Came file st

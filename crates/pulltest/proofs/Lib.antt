@@ -1,2 +1,0 @@
--- What the program rests on.
-pub mod Longer
