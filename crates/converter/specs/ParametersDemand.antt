@@ -34,13 +34,20 @@ ParametersWith P c = (s : List ℕ) (k : ℤ) → natAbs k ≤ 32 → number c s
 abbrev pub EveryParameters : (Cutoffs → List ℕ → List ℕ → Type 0) → Type 0
 EveryParameters P = ParametersWith (P documentCutoffs) documentCutoffs × ((c : Cutoffs) → T (fits binary64 (c .rotation)) → ParametersWith (P c) c)
 
--- FROM ONE PREMISE: what the mark bears
+-- the same answer bytes, 24 of them, but for the mark
+abbrev pub SameEntryBytes : Cutoffs → List ℕ → List ℕ → Type 0
+SameEntryBytes c s s' = SameAnswer 24 (written c s) (returned c s') (written c s')
+
+-- FROM ONE PREMISE, what the mark bears: in the entry, and in answer bytes
 abbrev pub SatterthwaiteBorne : Type 0
 SatterthwaiteBorne = (c : Cutoffs) → T (fits binary64 (c .rotation)) → ParametersBorne (SameVerdict c) c
+
+abbrev pub SatterthwaiteBorneAnswer : Type 0
+SatterthwaiteBorneAnswer = (c : Cutoffs) → T (fits binary64 (c .rotation)) → ParametersBorne (SameEntryBytes c) c
 
 -- THE THIRD DEMAND, for the Satterthwaite call: in its entry, and in its 24 answer bytes
 abbrev pub SatterthwaiteDemand : Type 0
 SatterthwaiteDemand = EveryParameters SameVerdict
 
 abbrev pub SatterthwaiteAnswer : Type 0
-SatterthwaiteAnswer = EveryParameters (λ c s s'. SameAnswer 24 (written c s) (returned c s') (written c s'))
+SatterthwaiteAnswer = EveryParameters SameEntryBytes

@@ -21,7 +21,7 @@ pub record AllInside (w : ℕ) (c : Cutoffs) (s : List ℕ) : Type 0 where
   pub coefficient : (i : ℕ) → i < coefficients s → getD (entries w c s) i noEntry .inside ≡ true
   pub contrast : 0 < contrastRows s → getD (entries w c s) 6 noEntry .inside ≡ true
 
--- the same entries bear shifts up to 2 ^ t; all bear what an inside mark bears where the run is inside
+-- the same entries bear shifts up to 2 ^ t
 pub record AllBear (t w : ℕ) (c : Cutoffs) (s : List ℕ) : Type 0 where
   pub coefficient : (i : ℕ) → i < coefficients s → MarkBears t (getD (entries w c s) i noEntry .inside)
   pub contrast : 0 < contrastRows s → MarkBears t (getD (entries w c s) 6 noEntry .inside)
@@ -53,9 +53,12 @@ EverySeries P = (w : ℕ) → SeriesAt P w
 abbrev pub SameAnswers : ℕ → Cutoffs → List ℕ → List ℕ → Type 0
 SameAnswers w c s s' = SameAnswer 168 (written w c s) (returned w c s') (written w c s')
 
--- FROM ONE PREMISE: what the marks bear
+-- FROM ONE PREMISE, what the marks bear: in entries, and in answer bytes
 abbrev pub KenwardRogerBorne : Type 0
 KenwardRogerBorne = (w : ℕ) → SeriesBorne SameVerdicts w
+
+abbrev pub KenwardRogerBorneAnswer : Type 0
+KenwardRogerBorneAnswer = (w : ℕ) → SeriesBorne SameAnswers w
 
 -- THE THIRD DEMAND, for the Kenward–Roger call: in entries, and in its answer bytes
 abbrev pub KenwardRogerDemand : Type 0

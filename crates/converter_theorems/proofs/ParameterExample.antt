@@ -32,11 +32,10 @@ use Rattle.records.specs.Kinds.{kindAt, holds, width, indexOf, valueHolds, satt
 use Rattle.records.specs.File.{outOf, badRecord, isCell, again, has, cell as cellOf, rows, columns, beyond, missing, notFinite, lengthReasons, formReasons}
 use Rattle.records.specs.Written.{recordOf}
 use Rattle.records.specs.Parameters.{sizes, valueReasons, reasons, jacobians, inputs}
-use Rattle.records.specs.SatterthwaiteCall.{number, entry, returned, written}
+use Rattle.records.specs.SatterthwaiteCall.{number, entry}
 use Rattle.tests.specs.Verdict.{Verdict, verdict}
 use Rattle.converter.specs.Converted.{satterthwaiteShift, satterthwaiteChange, rewritten, newBits, newByte, converted}
-use Rattle.converter.specs.AnswerBytes.{SameAnswer}
-use Rattle.converter.specs.ParametersDemand.{SameVerdict}
+use Rattle.converter.specs.ParametersDemand.{SameVerdict, SameEntryBytes}
 use Rattle.converter_theorems.proofs.ParametersCall.{number-is, entry-is}
 use Rattle.converter_theorems.proofs.Theorems.{converter-satterthwaite, answer-satterthwaite}
 
@@ -123,7 +122,7 @@ pub record ParameterExample : Type 0 where
   pub other : converted (satterthwaiteChange (negsuc 1)) parameterFile ≡ parameterShifted
   pub acceptedAgain : number documentCutoffs parameterShifted ≡ 0
   pub sameVerdict : Rattle.tests.specs.Verdict.verdict (entry documentCutoffs parameterShifted) ≡ twoAndAHalf
-  pub sameAnswer : SameAnswer 24 (written documentCutoffs parameterFile) (returned documentCutoffs parameterShifted) (written documentCutoffs parameterShifted)
+  pub sameAnswer : SameEntryBytes documentCutoffs parameterFile parameterShifted
 
 pub parameter-example : ParameterExample
 parameter-example =
@@ -139,6 +138,6 @@ parameter-example =
       other = shifted;
       acceptedAgain = e .accepted;
       sameVerdict = e .same ∙ v;
-      sameAnswer = subst (λ (t : List ℕ). SameAnswer 24 (written documentCutoffs parameterFile) (returned documentCutoffs t) (written documentCutoffs t)) shifted
+      sameAnswer = subst (λ (t : List ℕ). SameEntryBytes documentCutoffs parameterFile t) shifted
           (answer-satterthwaite .0 parameterFile (negsuc 1) (lit≤ tt) parameter-accepted i);
     }

@@ -13,10 +13,9 @@ use Rattle.records.specs.Layout.{entryBytes, answerBytes}
 use Rattle.records.specs.KenwardRogerCall as kenwardRoger
 use Rattle.records.specs.SatterthwaiteCall as satterthwaite
 use Rattle.records.proofs.CallLaws.{returned-is, satterthwaite-returned-is}
-use Rattle.converter.specs.AnswerBytes.{SameAnswer}
 use Rattle.converter.specs.Converted.{kenwardRogerChange, satterthwaiteChange, converted}
-use Rattle.converter.specs.SeriesDemand.{AllInside, AllBear, KenwardRogerBorne, KenwardRogerDemand, KenwardRogerAnswer, PanelDemand, PanelAnswer, SameVerdicts, SameAnswers}
-use Rattle.converter.specs.ParametersDemand.{ParametersWith, SatterthwaiteBorne, SatterthwaiteDemand, SatterthwaiteAnswer, SameVerdict}
+use Rattle.converter.specs.SeriesDemand.{AllInside, AllBear, KenwardRogerBorne, KenwardRogerBorneAnswer, KenwardRogerDemand, KenwardRogerAnswer, PanelDemand, PanelAnswer, SameVerdicts, SameAnswers}
+use Rattle.converter.specs.ParametersDemand.{ParametersWith, SameEntryBytes, SatterthwaiteBorne, SatterthwaiteBorneAnswer, SatterthwaiteDemand, SatterthwaiteAnswer, SameVerdict}
 use Rattle.converter.proofs.AnswerBytes.{entry-same, answer-same, same-answer}
 use Rattle.converter_theorems.proofs.SeriesCall.{series-same}
 use Rattle.converter_theorems.proofs.ParametersCall.{parameters-same, document-rotation}
@@ -67,11 +66,19 @@ module _ (c : Cutoffs) where
       same-answer 168 (kenwardRoger.returned w c s) (kenwardRoger.returned w c s') (answerBytes (kenwardRoger.entries w c s)) (answerBytes (kenwardRoger.entries w c s')) (series-returns w s e)
       (series-returns w s' (v .accepted)) (answer-same (kenwardRoger.entries w c s) (kenwardRoger.entries w c s') (v .verdicts))
 
-  parameters-answer : (s s' : List ℕ) → satterthwaite.number c s ≡ 0 → SameVerdict c s s' → SameAnswer 24 (satterthwaite.written c s) (satterthwaite.returned c s') (satterthwaite.written c s')
+  parameters-answer : (s s' : List ℕ) → satterthwaite.number c s ≡ 0 → SameVerdict c s s' → SameEntryBytes c s s'
   unfolding satterthwaite.written
   parameters-answer s s' e v =
       same-answer 24 (satterthwaite.returned c s) (satterthwaite.returned c s') (entryBytes (satterthwaite.entry c s)) (entryBytes (satterthwaite.entry c s')) (parameters-returns s e)
       (parameters-returns s' (v .accepted)) (entry-same (satterthwaite.entry c s) (satterthwaite.entry c s') (v .same))
+
+pub borne-answer-kenward-roger : KenwardRogerBorneAnswer
+borne-answer-kenward-roger w t c s k m near nears e bears =
+    series-answer c w s (converted (kenwardRogerChange k m) s) e (borne-kenward-roger w t c s k m near nears e bears)
+
+pub borne-answer-satterthwaite : SatterthwaiteBorneAnswer
+borne-answer-satterthwaite c rotation t s k near e bears =
+    parameters-answer c s (converted (satterthwaiteChange k) s) e (borne-satterthwaite c rotation t s k near e bears)
 
 -- Every file that the Kenward–Roger call accepts with all entries inside: lent any 168 bytes, it returns 0 for the converted file too, and writes every byte that it writes for the
 -- file itself, but byte 19 of each entry, the mark.
