@@ -1,6 +1,7 @@
 //! Demand 3 through the C functions: a series that is inside keeps its
-//! verdict, bit for bit, in every unit of document 01's shifts; and the mark
-//! means something, since there are series outside whose verdict changes.
+//! verdict, bit for bit, in every unit of document 01's shifts, and of all that
+//! an inside mark covers; and the mark means something, since there are series
+//! outside whose verdict changes.
 //!
 //! The series are the stored vectors, those with some of their values replaced
 //! by random ones, and random small files.
@@ -52,7 +53,8 @@ impl Function {
         let Ok(before) = self.answer(file) else {
             return;
         };
-        let shift = Shift::random(random);
+        let shift =
+            if random.once_in(2) { Shift::random(random) } else { Shift::borne(random, self.call) };
         let Some(other) = shift.apply(self.call, file) else {
             // A value that the other unit has no number for is out of range itself.
             assert!(!inside(&before), "{shift:?} of {}: no such file", hex(file));

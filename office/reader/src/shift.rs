@@ -12,6 +12,10 @@ use crate::{Record, BETA, BETA_H, CONTRAST, JACOBIAN, SIGMA, V};
 /// Document 01's shifts go from -32 to 32.
 pub const LARGEST: i64 = 32;
 
+/// An inside mark bears this shift: its numbers have exponents from -800 to 800,
+/// and moved by up to 221 they stay from -1021 to 1022.
+pub const BORNE: i64 = 221;
+
 /// The powers of one change of unit.
 #[derive(Debug, Clone, Copy, PartialEq)]
 pub struct Shift {
@@ -20,14 +24,29 @@ pub struct Shift {
 }
 
 impl Shift {
-    /// Any k and m(r); often the largest.
+    /// Any k and m(r) of document 01.
     pub fn random(r: &mut Random) -> Shift {
-        let mut any = || match r.below(8) {
-            0 => -LARGEST,
-            1 => LARGEST,
-            _ => r.between(-LARGEST, LARGEST),
+        Shift::up_to(r, LARGEST, LARGEST)
+    }
+
+    /// Any k and m(r) that an inside mark covers: no number of a marked step
+    /// moves by more than 2k (Satterthwaite: 4k) or m(r).
+    pub fn borne(r: &mut Random, call: Call) -> Shift {
+        let degree = match call {
+            Call::KenwardRoger => 2,
+            Call::Satterthwaite => 4,
         };
-        Shift { k: any(), rows: [any(), any(), any(), any(), any(), any()] }
+        Shift::up_to(r, BORNE / degree, BORNE)
+    }
+
+    /// Often the largest.
+    fn up_to(r: &mut Random, k: i64, row: i64) -> Shift {
+        let mut any = |largest: i64| match r.below(8) {
+            0 => -largest,
+            1 => largest,
+            _ => r.between(-largest, largest),
+        };
+        Shift { k: any(k), rows: [any(row), any(row), any(row), any(row), any(row), any(row)] }
     }
 
     /// By how many powers of two a record's value is multiplied.
