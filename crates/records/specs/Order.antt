@@ -21,9 +21,9 @@ abbrev pub thenBy : ℕ → ℕ → Bool → Bool
 thenBy x y rest = ltb x y || (eqb x y && rest)
 
 -- record i stands before record j: "by kind, then by the count where it numbers a matrix, then row and column"
-unfoldable pub before : List ℕ → ℕ → ℕ → Bool
-before s i j = thenBy (kindOf s i) (kindOf s j) (thenBy (matrixOf s i) (matrixOf s j) (thenBy (rowOf s i) (rowOf s j) (ltb (columnOf s i) (columnOf s j))))
+unfoldable pub standsBefore : List ℕ → ℕ → ℕ → Bool
+standsBefore s i j = thenBy (kindOf s i) (kindOf s j) (thenBy (matrixOf s i) (matrixOf s j) (thenBy (rowOf s i) (rowOf s j) (ltb (columnOf s i) (columnOf s j))))
 
 -- "a file whose neighbouring records don't rise": two that are equal in this order don't
 unfoldable pub falls : List ℕ → Bool
-falls s = any (count s - 1) (λ i. not (before s i (i + 1)))
+falls s = any (count s - 1) (λ i. not (standsBefore s i (i + 1)))

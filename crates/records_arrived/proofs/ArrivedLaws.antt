@@ -1,12 +1,12 @@
 -- A file that arrived in pieces, judged by what is kept of it: its number and its entries are the file's own.
-use Prim.Native.Nat.{ℕ, _*_, _/_, _%_, _≤_, _<_, min}
+use Prim.Native.Nat.{ℕ, _*_, _/_, _%_, _≤_, _<_}
 use native.Mathlib.Omega.{arith}
 use native.Mathlib.Decide.{ℕ-discrete, decLt}
 use mathlib.Core.Path.{_≡_, refl, sym, ap, _∙_}
 use mathlib.Core.Bool.{Bool, true, false, not, _||_, cond}
 use mathlib.Core.List.{List}
-use lib.Dec.{eqb, ltb}
-use lib.ListN.{length, getD, take, replicate}
+use lib.Dec.{eqb}
+use lib.ListN.{length, take, replicate}
 use lib.Seq.{ext-getD, length-take-le, getD-take}
 use borrow.Author.Tests.{eq-eqb, ne-eqb, lt-ltb, le-ltb}
 use Rattle.arithmetic_cutoffs.specs.declared.Cutoffs.{Cutoffs}
@@ -15,15 +15,15 @@ use Rattle.tests.specs.Answer.{noEntry}
 use Rattle.records.specs.Text.{textOf}
 use Rattle.algebra.specs.Reasons.{first}
 use Rattle.records.specs.File.{count, lengthReasons, formReasons}
-use Rattle.records.specs.Series.{sizeReasons, valueReasons, reasons, refusal}
+use Rattle.records.specs.Series.{reasons, refusal}
 use Rattle.records.specs.KenwardRogerCall.{number, entries}
 use Rattle.records.proofs.Limits.{panel-slots}
 use Rattle.records_refusals.proofs.Length.{too-long}
 use Rattle.records_kenward_roger.proofs.Numbers.{early-number, no-entries}
 use Rattle.records_pieces.specs.declared.Arrival.{Arrival}
-use Rattle.records_pieces.specs.joints.Arrived.{State, state, nothing, fed, feds, joinedPieces, Came}
+use Rattle.records_pieces.specs.joints.Arrived.{Arrived, arrivedAs, nothingYet, feds, joinedPieces, Came}
 use Rattle.records_pieces.proofs.PieceLaws.{pieces-as-whole}
-use Rattle.records_pieces.proofs.CameLaws.{came}
+use Rattle.records_pieces.proofs.CameLaws.{file-came}
 use Rattle.records_arrived.specs.joints.ArrivedCall.{keptFile, unkept, arrivedNumber, arrivedEntries}
 
 -- ---- two files of which nothing need be kept
@@ -46,7 +46,7 @@ module _ (c : Cutoffs) (a : Arrival) (kept : List ℕ) where
   unfolding arrivedNumber arrivedEntries
   text-kept u = rw u
 
-module _ (c : Cutoffs) (s : List ℕ) (st : State) (room : length (st .kept) ≡ 16384) (k : Came s st) where
+module _ (c : Cutoffs) (s : List ℕ) (st : Arrived) (room : length (st .kept) ≡ 16384) (k : Came s st) where
   abbrev a : Arrival
   a = st .arrival
 
@@ -97,5 +97,5 @@ module _ (c : Cutoffs) (s : List ℕ) (st : State) (room : length (st .kept) ≡
       go false e = ap (entries 24 c) (kept-whole e)
 
 -- ---- PIECES: of any number and any lengths, they leave what the file leaves that they are together, and so its number and its entries
-pub pieces-came : (pieces : List (List ℕ)) (kept current : List ℕ) → length current ≡ 16 → Came (joinedPieces pieces) (feds pieces (state nothing kept current))
-pieces-came pieces kept current h = rw (pieces-as-whole pieces (state nothing kept current)) (came (joinedPieces pieces) kept current h)
+pub pieces-came : (pieces : List (List ℕ)) (kept current : List ℕ) → length current ≡ 16 → Came (joinedPieces pieces) (feds pieces (arrivedAs nothingYet kept current))
+pieces-came pieces kept current h = rw (pieces-as-whole pieces (arrivedAs nothingYet kept current)) (file-came (joinedPieces pieces) kept current h)

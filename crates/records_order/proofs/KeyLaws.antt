@@ -5,14 +5,14 @@ use native.Mathlib.Numerals.{add-one}
 use native.Mathlib.Omega.{arith}
 use native.Mathlib.Decide.{decLt}
 use mathlib.Core.Path.{_≡_, refl, sym, ap, ap₂, _∙_}
-use mathlib.Core.Bool.{Bool, true, false, not, _&&_, _||_, cond}
+use mathlib.Core.Bool.{Bool, true, false, not, _||_, cond}
 use mathlib.Core.List.{List}
-use lib.Dec.{eqb, ltb}
+use lib.Dec.{ltb}
 use borrow.Author.Tests.{lt-ltb, le-ltb, eq-eqb, ne-eqb}
 use Rattle.records.specs.Bytes.{byte, word}
 use Rattle.records.specs.Scan.{any}
 use Rattle.records.specs.File.{count, kindOf, rowOf, columnOf, countOf}
-use Rattle.records.specs.Order.{numbersMatrix, matrixOf, thenBy, before, falls}
+use Rattle.records.specs.Order.{numbersMatrix, matrixOf, thenBy, standsBefore, falls}
 use Rattle.records_order.specs.joints.Keys.{keyOf, leastKey, fallsAt}
 
 -- ---- digits
@@ -61,8 +61,8 @@ module _ (s : List ℕ) (bytes : (i : ℕ) → byte s i < 256) where
       go false = omega arith
 
   -- THE ORDER IS THAT OF THE KEYS
-  pub before-key : (i j : ℕ) → before s i j ≡ ltb (keyOf s i) (keyOf s j)
-  unfolding before keyOf
+  pub before-key : (i j : ℕ) → standsBefore s i j ≡ ltb (keyOf s i) (keyOf s j)
+  unfolding standsBefore keyOf
   before-key i j =
       rw (
         by-digits 256 (rowOf s i) (rowOf s j) (columnOf s i) (columnOf s j) (bytes (16 * i + 2)) (bytes (16 * j + 2)),
@@ -77,7 +77,7 @@ module _ (s : List ℕ) (bytes : (i : ℕ) → byte s i < 256) where
       below i = omega (arith, matrix-below i, places i)
 
   -- record i + 1 does not stand after record i just where its key is below the least that it may have
-  next-falls : (i : ℕ) → not (before s i (i + 1)) ≡ fallsAt s (i + 1)
+  next-falls : (i : ℕ) → not (standsBefore s i (i + 1)) ≡ fallsAt s (i + 1)
   unfolding fallsAt leastKey
   next-falls i = rw (before-key i (i + 1), add-one) (go (decLt (keyOf s i) (keyOf s (suc i))))
     where
@@ -90,7 +90,7 @@ module _ (s : List ℕ) (bytes : (i : ℕ) → byte s i < 256) where
   unfolding fallsAt leastKey
   first-rises = le-ltb (keyOf s 0) 0 (omega arith)
 
-  each-falls : (n : ℕ) → any n (λ i. not (before s i (i + 1))) ≡ any (suc n) (fallsAt s)
+  each-falls : (n : ℕ) → any n (λ i. not (standsBefore s i (i + 1))) ≡ any (suc n) (fallsAt s)
   unfolding any
   each-falls zero = sym first-rises
   each-falls (suc n) = ap₂ _||_ (each-falls n) (next-falls n ∙ ap (fallsAt s) (add-one n))
@@ -100,6 +100,6 @@ module _ (s : List ℕ) (bytes : (i : ℕ) → byte s i < 256) where
   unfolding falls any
   falls-each = go (count s)
     where
-      go : (n : ℕ) → any (n - 1) (λ i. not (before s i (i + 1))) ≡ any n (fallsAt s)
+      go : (n : ℕ) → any (n - 1) (λ i. not (standsBefore s i (i + 1))) ≡ any n (fallsAt s)
       go zero = refl
       go (suc n) = let e : suc n - 1 ≡ n = omega arith in rw e (each-falls n)

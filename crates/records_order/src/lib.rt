@@ -28,7 +28,7 @@ fn matrix_at(s: &[u8], i: usize) -> usize
 }
 
 // A number as a key's part.
-fn wide(x: usize) -> u64
+fn key_part(x: usize) -> u64
     ensures { λ r. ⌜ r ≡ x ⌝ }
 {
     x as u64
@@ -39,10 +39,10 @@ pub fn key_at(s: &[u8], i: usize) -> u64
     requires { ⌜ i < count (now s) ⌝ }
     ensures { λ r. ⌜ (r ≡ keyOf (now (s .entry)) i) × (r < 72057594037927936) ⌝ }
 {
-    let kind = wide(records_file::index(kind_at(s, i)));
-    let matrix = wide(matrix_at(s, i));
-    let row = wide(row_at(s, i));
-    let column = wide(column_at(s, i));
+    let kind = key_part(records_file::index(kind_at(s, i)));
+    let matrix = key_part(matrix_at(s, i));
+    let row = key_part(row_at(s, i));
+    let column = key_part(column_at(s, i));
     kind * 281474976710656 + (matrix * 65536 + (row * 256 + column))
 }
 

@@ -1,18 +1,18 @@
 -- What a file leaves that arrives byte by byte, and so by pieces of any lengths: `Came`.
-use Prim.Native.Nat.{ℕ, zero, suc, _+_, _-_, _*_, _/_, _%_, _≤_, _<_, min}
+use Prim.Native.Nat.{ℕ, zero, suc, _+_, _-_, _*_, _/_, _%_, _≤_, _<_}
 use native.Mathlib.Nat.{zero-add}
 use native.Mathlib.Omega.{arith}
 use native.Mathlib.Decide.{decLe, decLt, ℕ-discrete}
-use mathlib.Core.Path.{_≡_, refl, sym, ap, ap₂, _∙_, subst}
-use mathlib.Core.Bool.{Bool, true, false, _||_, cond}
+use mathlib.Core.Path.{_≡_, refl, sym, ap, ap₂, _∙_}
+use mathlib.Core.Bool.{Bool, _||_}
 use mathlib.Core.List.{List, [], _∷_, _++_, append-assoc, append-nil}
-use mathlib.Core.Logic.{_⊎_, inl, inr}
-use lib.Dec.{eqb, ltb, leb}
-use lib.ListN.{length, getD, set, length-set, length-append, List·getD-append}
+use mathlib.Core.Logic.{inl}
+use lib.Dec.{ltb}
+use lib.ListN.{length, set, length-set, length-append, List·getD-append}
 use lib.Seq.{getD-set-same, getD-set-other, getD-append-add}
 use borrow.Author.Tests.{le-leb, lt-leb, lt-ltb, le-ltb, eq-eqb, ne-eqb}
 use Rattle.algebra.proofs.FoldLaws.{length-span, span-at, span-other}
-use Rattle.records.specs.Bytes.{byte, word}
+use Rattle.records.specs.Bytes.{byte}
 use Rattle.records.specs.Scan.{any}
 use Rattle.records.specs.File.{count, kindOf, rowOf, columnOf, countOf}
 use Rattle.records.specs.Order.{matrixOf}
@@ -21,8 +21,7 @@ use Rattle.records.proofs.WrittenLaws.{word-same}
 use Rattle.records_order.specs.joints.Keys.{keyOf, leastKey, fallsAt}
 use Rattle.records_order.proofs.KeyLaws.{next-least}
 use Rattle.records_pieces.specs.declared.Arrival.{Arrival}
-use Rattle.records_pieces.specs.joints.Arrived.{State, state, nothing, withRecord, takeRecord, takeByte, fed, Open, Came, Arrives}
-use Rattle.records_pieces.proofs.PieceLaws.{oneMore, byte-open}
+use Rattle.records_pieces.specs.joints.Arrived.{Arrived, arrivedAs, nothingYet, oneMore, keptOne, passedOne, withRecord, takeRecord, takeByte, fed, Came, Arrives}
 
 -- ---- a record's key is its bytes'
 pub key-same : (s t : List ℕ) (i j : ℕ) → ((o : ℕ) → o < 16 → byte s (16 * i + o) ≡ byte t (16 * j + o)) → keyOf s i ≡ keyOf t j
@@ -58,7 +57,7 @@ module _ (s t : List ℕ) where
   falls-before = any-same (count s) (fallsAt (s ++ t)) (fallsAt s) (λ i l. rw (key-before i l, least-before i (omega arith)))
 
 -- ---- one more byte
-module _ (s : List ℕ) (b : ℕ) (st : State) (c : Came s st) where
+module _ (s : List ℕ) (b : ℕ) (st : Arrived) (c : Came s st) where
   abbrev a : Arrival
   a = st .arrival
 
@@ -92,7 +91,7 @@ module _ (s : List ℕ) (b : ℕ) (st : State) (c : Came s st) where
   kept-now o h = c .kept o h ∙ sym (before-end s (b ∷ []) o (omega (arith, c .records)))
 
   -- the record is not whole yet
-  part-came : (a .part ≡ 15 → ⊥) → Came s' (state (oneMore a) (st .kept) current')
+  part-came : (a .part ≡ 15 → ⊥) → Came s' (arrivedAs (oneMore a) (st .kept) current')
   part-came e =
       let part = c .part in
       let whole = c .ready .part in
@@ -172,7 +171,7 @@ module _ (s : List ℕ) (b : ℕ) (st : State) (c : Came s st) where
               span-at (16 * a .records) (16 * a .records + 16) (λ k. byte current' (k - 16 * a .records)) (st .kept) o 0 (omega arith) (omega arith) (omega arith)
               ∙ current-now (o - 16 * a .records) (omega arith) ∙ ap (byte s') f
 
-      kept-came : Came s' (state (record { records = a .records + 1; part = 0; least = key + 1; fell = a .fell || ltb key (a .least); longer = a .longer }) kept' current')
+      kept-came : Came s' (arrivedAs (keptOne a key) kept' current')
       kept-came =
           let r = all-kept in
           let q = one-record in
@@ -190,7 +189,7 @@ module _ (s : List ℕ) (b : ℕ) (st : State) (c : Came s st) where
 
     -- there is no room for it
     passed-came : length (st .kept) - 16 * a .records < 16
-        → Came s' (state (record { records = a .records; part = 0; least = key + 1; fell = a .fell || ltb key (a .least); longer = true }) (st .kept) current')
+        → Came s' (arrivedAs (passedOne a key) (st .kept) current')
     passed-came h =
         let r = c .records in
         let l = c .ready .room in
@@ -206,11 +205,11 @@ module _ (s : List ℕ) (b : ℕ) (st : State) (c : Came s st) where
           kept = kept-now;
         }
 
-    whole-came : Came s' (takeRecord (state (oneMore a) (st .kept) current'))
+    whole-came : Came s' (takeRecord (arrivedAs (oneMore a) (st .kept) current'))
     unfolding takeRecord
     whole-came = go (decLe 16 (length (st .kept) - 16 * a .records))
       where
-        go : Dec (16 ≤ length (st .kept) - 16 * a .records) → Came s' (takeRecord (state (oneMore a) (st .kept) current'))
+        go : Dec (16 ≤ length (st .kept) - 16 * a .records) → Came s' (takeRecord (arrivedAs (oneMore a) (st .kept) current'))
         go (yes h) = rw (le-leb 16 (length (st .kept) - 16 * a .records) h) (kept-came h)
         go (no h) = rw (lt-leb 16 (length (st .kept) - 16 * a .records) (omega arith)) (passed-came (omega arith))
 
@@ -223,12 +222,12 @@ module _ (s : List ℕ) (b : ℕ) (st : State) (c : Came s st) where
       go (no e) = rw (ne-eqb (a .part) 15 e) (part-came e)
 
 -- ---- WHAT A FILE LEAVES
-more-came : (rest s : List ℕ) (st : State) → Came s st → Came (s ++ rest) (fed rest st)
+more-came : (rest s : List ℕ) (st : Arrived) → Came s st → Came (s ++ rest) (fed rest st)
 unfolding fed
 more-came [] s st c = rw (append-nil s) c
 more-came (b ∷ rest) s st c = rw (append-assoc s (b ∷ []) rest) at (more-came rest (s ++ (b ∷ [])) (takeByte b st) (byte-came s b st c))
 
-nothing-came : (kept current : List ℕ) → length current ≡ 16 → Came [] (state nothing kept current)
+nothing-came : (kept current : List ℕ) → length current ≡ 16 → Came [] (arrivedAs nothingYet kept current)
 unfolding any leastKey
 nothing-came kept current h = record {
   ready = record { part = omega arith; sixteen = h; room = omega arith };
@@ -241,12 +240,12 @@ nothing-came kept current h = record {
   kept = λ o l. absurd (omega arith);
 }
 
-pub came : (s kept current : List ℕ) → length current ≡ 16 → Came s (fed s (state nothing kept current))
-came s kept current h = more-came s [] (state nothing kept current) (nothing-came kept current h)
+pub file-came : (s kept current : List ℕ) → length current ≡ 16 → Came s (fed s (arrivedAs nothingYet kept current))
+file-came s kept current h = more-came s [] (arrivedAs nothingYet kept current) (nothing-came kept current h)
 
 -- ---- a program that reads by pieces always has what some file leaves
-pub start-arrives : (kept current : List ℕ) → length current ≡ 16 → Arrives (state nothing kept current)
+pub start-arrives : (kept current : List ℕ) → length current ≡ 16 → Arrives (arrivedAs nothingYet kept current)
 start-arrives kept current h = record { file = []; came = nothing-came kept current h }
 
-pub fed-arrives : (piece : List ℕ) (st : State) → Arrives st → Arrives (fed piece st)
+pub fed-arrives : (piece : List ℕ) (st : Arrived) → Arrives st → Arrives (fed piece st)
 fed-arrives piece st r = record { file = r .file ++ piece; came = more-came piece (r .file) st (r .came) }

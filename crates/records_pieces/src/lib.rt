@@ -4,7 +4,7 @@ ghost use Prim.Native.Nat.{_+_, _*_, _≤_};
 ghost use mathlib.Core.Bool.{_||_};
 ghost use lib.Dec.{ltb};
 ghost use lib.ListN.{length};
-ghost use Rattle.records_pieces.specs.joints.Arrived.{state, nothing, withRecord, takeRecord, takeByte, fed, Open};
+ghost use Rattle.records_pieces.specs.joints.Arrived.{arrivedAs, nothingYet, withRecord, takeRecord, takeByte, fed, Open};
 use records_order::key_at;
 
 // How far a file has come: the records that are kept, the bytes of the current record, one more than the last record's key, whether a record fell, and whether there are more records than are kept.
@@ -17,8 +17,8 @@ pub struct Arrival {
 }
 
 // Nothing has come.
-pub fn start() -> Arrival
-    ensures { λ r. ⌜ r ≡ nothing ⌝ }
+pub fn nothing_yet() -> Arrival
+    ensures { λ r. ⌜ r ≡ nothingYet ⌝ }
 {
     Arrival {
         records: 0,
@@ -50,7 +50,7 @@ fn fell_with(a: Arrival, key: u64) -> bool
 // The current record is whole: it is compared with the last one, and kept where there is room.
 fn take_record(a: Arrival, kept: &mut [u8], current: &[u8]) -> Arrival
     requires { ⌜ (16 * a .records ≤ length (now kept)) × (length (now current) ≡ 16) ⌝ }
-    ensures { λ r. ⌜ state r (now (kept .exit)) (now (current .entry)) ≡ takeRecord (state a (now (kept .entry)) (now (current .entry))) ⌝ }
+    ensures { λ r. ⌜ arrivedAs r (now (kept .exit)) (now (current .entry)) ≡ takeRecord (arrivedAs a (now (kept .entry)) (now (current .entry))) ⌝ }
 {
     let key = key_at(current, 0);
     let fell = fell_with(a, key);
@@ -76,8 +76,8 @@ fn take_record(a: Arrival, kept: &mut [u8], current: &[u8]) -> Arrival
 
 // One more byte.
 fn take_byte(a: Arrival, b: u8, kept: &mut [u8], current: &mut [u8]) -> Arrival
-    requires { ⌜ Open (state a (now kept) (now current)) ⌝ }
-    ensures { λ r. ⌜ state r (now (kept .exit)) (now (current .exit)) ≡ takeByte b (state a (now (kept .entry)) (now (current .entry))) ⌝ }
+    requires { ⌜ Open (arrivedAs a (now kept) (now current)) ⌝ }
+    ensures { λ r. ⌜ arrivedAs r (now (kept .exit)) (now (current .exit)) ≡ takeByte b (arrivedAs a (now (kept .entry)) (now (current .entry))) ⌝ }
 {
     let part = a.part;
     current[part] = b;
@@ -96,8 +96,8 @@ fn take_byte(a: Arrival, b: u8, kept: &mut [u8], current: &mut [u8]) -> Arrival
 
 // One more piece.
 pub fn feed(a: Arrival, piece: &[u8], kept: &mut [u8], current: &mut [u8]) -> Arrival
-    requires { ⌜ Open (state a (now kept) (now current)) ⌝ }
-    ensures { λ r. ⌜ state r (now (kept .exit)) (now (current .exit)) ≡ fed (now (piece .entry)) (state a (now (kept .entry)) (now (current .entry))) ⌝ }
+    requires { ⌜ Open (arrivedAs a (now kept) (now current)) ⌝ }
+    ensures { λ r. ⌜ arrivedAs r (now (kept .exit)) (now (current .exit)) ≡ fed (now (piece .entry)) (arrivedAs a (now (kept .entry)) (now (current .entry))) ⌝ }
 {
     let mut so_far = a;
     for i in 0..piece.len() {

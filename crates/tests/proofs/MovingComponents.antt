@@ -1,25 +1,25 @@
 -- The steps of a Satterthwaite test on marked matrices that a second run has scaled: V and the eigenvalues by 2 ^ 2k, each J by a power of its own, LβD and x·LβD by 2 ^ k; eigenvectors and F stay.
 use Prim.Native.Nat.{ℕ, _≤_, _<_}
 use native.Mathlib.Omega.{arith}
-use mathlib.Core.Path.{_≡_, refl, sym, ap, _∙_}
-use mathlib.Core.Bool.{Bool, true, false, not, cond, _||_}
+use mathlib.Core.Path.{_≡_}
+use mathlib.Core.Bool.{false, not, _||_}
 use mathlib.Core.List.{List, []}
 use lib.IntN.{ℤ, pos, natAbs, _+ℤ_, +ℤ-idl, +ℤ-idr}
 use lib.ListN.{getD, replicate, length-replicate}
 use lib.Ieee.{Float, nan}
 use Rattle.arithmetic.specs.declared.Marked.{Marked}
 use Rattle.arithmetic.specs.Numbers.{plusZero, ofCount}
-use Rattle.arithmetic.specs.Marks.{given, markedMul, markedDiv, markedRoot, also}
+use Rattle.arithmetic.specs.Marks.{given, markedMul, markedDiv, markedRoot}
 use Rattle.arithmetic.proofs.Tied.{Tied}
 use Rattle.arithmetic.proofs.PlainLaws.{count-fits}
-use Rattle.arithmetic.proofs.MarkLaws.{Bears, Moves, given-moves, also-bears, mul-moves, root-moves}
+use Rattle.arithmetic.proofs.MarkLaws.{Bears, Moves, given-moves, mul-moves, root-moves}
 use Rattle.algebra.specs.Fold.{fold, span}
-use Rattle.algebra.specs.Table.{row, blank, table}
+use Rattle.algebra.specs.Table.{row, blank}
 use Rattle.algebra.specs.Kind.{floats, marks}
 use Rattle.algebra.specs.Product.{at, sum, cell, product, transpose}
 use Rattle.algebra.proofs.FoldLaws.{fold-ext, span-at}
 use Rattle.algebra.proofs.TableLaws.{row-at}
-use Rattle.algebra.proofs.MovingCells.{BearsCells, MovesCells, first-bears, step-bears, moves-by, constant-moves, still-times, alike-over, half-small, table-moves}
+use Rattle.algebra.proofs.MovingCells.{BearsCells, MovesCells, first-bears, step-bears, moves-by, constant-moves, still-times, alike-over, table-moves}
 use Rattle.algebra.proofs.MovingProducts.{sum-moves, cell-moves, product-moves, transpose-moves, minusCells-moves}
 use Rattle.algebra.specs.Small.{MarkedRows, Rows, givenCells, allMarks}
 use Rattle.arithmetic_cutoffs.specs.declared.Cutoffs.{Cutoffs}
@@ -28,7 +28,7 @@ use Rattle.tests.specs.Order.{indexAt}
 use Rattle.tests.specs.VarianceDf.{entryAt, varianceDf, gradientSeen}
 use Rattle.tests.specs.Both.{isPositive, squareOne, stackSeen}
 use Rattle.tests.specs.Satterthwaite.{column, contrastOf, transformed, transformedAll, gradientOne, eigenvalues, notPositive, variancesOf, directionsOf, projected, squaresOver, jxAll, gradientAt, capped, componentDf, componentDfs, componentsSeen}
-use Rattle.algebra_products.proofs.MovingSmall.{cells-by, given-cells, sandwich-moves, allMarks-first, allMarks-cells}
+use Rattle.algebra_products.proofs.MovingSmall.{cells-by, given-cells, sandwich-moves, allMarks-first}
 use Rattle.tests.proofs.MovingVariance.{positive-agrees, row-moves, gradient-first, varianceDf-agrees}
 use Rattle.tests.proofs.MovingOrder.{index-below, indexAt-agrees}
 

@@ -1,6 +1,6 @@
 -- `pulltest::next_piece` meets its contract.
 use mathlib.Core.Path.{sym, subst}
-use Rattle.records_pieces.specs.joints.Arrived.{State, state, fed, Arrives}
+use Rattle.records_pieces.specs.joints.Arrived.{Arrived, Arrives}
 use Rattle.records_pieces.proofs.CameLaws.{fed-arrives}
 use borrow.Author.Needs.{needs}
 use Rattle.pulltest.proofs.next_piece.Statement.{statement}
@@ -31,7 +31,7 @@ same-length-2 : tie.Need-same-length-2
 same-length-2 c = search needs
 
 returns : tie.Need-returns
-returns c = subst (λ (st : State). Arrives st) (sym (c .before .before .before .before .feed .ensures)) (fed-arrives _ _ (c .before .before .before .before .before .before .before .before .before .before .before .before .before .before .pre))
+returns c = subst (λ (st : Arrived). Arrives st) (sym (c .before .before .before .before .feed .ensures)) (fed-arrives _ _ (c .before .before .before .before .before .before .before .before .before .before .before .before .before .before .pre))
 
 pub next-piece-spec : {M : Type 1} → statement M
 next-piece-spec =

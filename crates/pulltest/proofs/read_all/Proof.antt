@@ -3,25 +3,25 @@ use mathlib.Core.Path.{_≡_, refl, sym, subst}
 use native.Mathlib.Omega.{arith}
 use lib.ListN.{length}
 use Rattle.records_pieces.specs.declared.Arrival.{Arrival}
-use Rattle.records_pieces.specs.joints.Arrived.{state, Arrives}
+use Rattle.records_pieces.specs.joints.Arrived.{arrivedAs, Arrives}
 use Rattle.records_pieces.proofs.CameLaws.{start-arrives}
 use Rattle.pulltest.proofs.read_all.Statement.{statement}
 use Rattle.pulltest.proofs.read_all.Tie as tie
 
 abbrev Inv-loop : tie.InvT-loop
-Inv-loop kept₀ current₀ a₀ last₀ pieces₀ kept current a last pieces = (length kept ≡ length kept₀) × (length current ≡ length current₀) × Arrives (state a kept current)
+Inv-loop kept₀ current₀ a₀ last₀ pieces₀ kept current a last pieces = (length kept ≡ length kept₀) × (length current ≡ length current₀) × Arrives (arrivedAs a kept current)
 
 abbrev μ-loop : tie.MeasureT-loop
 μ-loop kept₀ current₀ a₀ last₀ pieces₀ kept current a last pieces = pieces
 
-start-requires : tie.Need-start-requires Inv-loop μ-loop
-start-requires c κs = tt
+nothing-yet-requires : tie.Need-nothing-yet-requires Inv-loop μ-loop
+nothing-yet-requires c κs = tt
 
 loop-holds : tie.Need-loop-holds Inv-loop μ-loop
 loop-holds c =
     let kept = c .before .before .before .args .kept .now in
     let current = c .before .before .before .args .current .now in
-    (refl, refl, subst (λ (a : Arrival). Arrives (state a kept current)) (sym (c .start .ensures)) (start-arrives kept current (c .before .before .before .pre)))
+    (refl, refl, subst (λ (a : Arrival). Arrives (arrivedAs a kept current)) (sym (c .nothing-yet .ensures)) (start-arrives kept current (c .before .before .before .pre)))
 
 next-piece-requires : tie.Need-next-piece-requires Inv-loop μ-loop
 next-piece-requires c κs = c .before .before .before .before .loop .inv .2
@@ -59,7 +59,7 @@ read-all-spec =
     (tie.spec
     Inv-loop
     μ-loop
-    start-requires
+    nothing-yet-requires
     loop-holds
     next-piece-requires
     same-length

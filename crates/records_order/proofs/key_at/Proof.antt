@@ -11,26 +11,26 @@ kind-at-requires c κs = search needs
 index-requires : tie.Need-index-requires
 index-requires c κs = search needs
 
-wide-requires : tie.Need-wide-requires
-wide-requires c κs = search needs
+key-part-requires : tie.Need-key-part-requires
+key-part-requires c κs = search needs
 
 matrix-at-requires : tie.Need-matrix-at-requires
 matrix-at-requires c κs = search needs
 
-wide-requires-2 : tie.Need-wide-requires-2
-wide-requires-2 c κs = search needs
+key-part-requires-2 : tie.Need-key-part-requires-2
+key-part-requires-2 c κs = search needs
 
 row-at-requires : tie.Need-row-at-requires
 row-at-requires c κs = search needs
 
-wide-requires-3 : tie.Need-wide-requires-3
-wide-requires-3 c κs = search needs
+key-part-requires-3 : tie.Need-key-part-requires-3
+key-part-requires-3 c κs = search needs
 
 column-at-requires : tie.Need-column-at-requires
 column-at-requires c κs = search needs
 
-wide-requires-4 : tie.Need-wide-requires-4
-wide-requires-4 c κs = search needs
+key-part-requires-4 : tie.Need-key-part-requires-4
+key-part-requires-4 c κs = search needs
 
 mul-result : tie.Need-mul-result
 mul-result c = search needs
@@ -60,13 +60,13 @@ key-at-spec =
     (tie.spec
     kind-at-requires
     index-requires
-    wide-requires
+    key-part-requires
     matrix-at-requires
-    wide-requires-2
+    key-part-requires-2
     row-at-requires
-    wide-requires-3
+    key-part-requires-3
     column-at-requires
-    wide-requires-4
+    key-part-requires-4
     mul-result
     mul-result-2
     mul-result-3

@@ -5,13 +5,13 @@ use native.Mathlib.Omega.{arith}
 use denote.Ref.{now}
 use lib.ListN.{length, take}
 use Rattle.records.specs.Bytes.{byte}
-use Rattle.records_pieces.specs.joints.Arrived.{State, state, fed, Open}
+use Rattle.records_pieces.specs.joints.Arrived.{Arrived, arrivedAs, fed, Open}
 use Rattle.records_pieces.proofs.PieceLaws.{fed-none, fed-more, fed-all, byte-open, byte-length}
 use Rattle.records_pieces.proofs.feed.Statement.{statement}
 use Rattle.records_pieces.proofs.feed.Tie as tie
 
 abbrev Inv-loop : tie.InvT-loop
-Inv-loop piece kept₀ current₀ so-far₀ i₀ i-end kept current so-far i = (i-end ≡ length piece) × (i ≤ i-end) × (length kept ≡ length kept₀) × (length current ≡ length current₀) × (state so-far kept current ≡ fed (take i piece) (state so-far₀ kept₀ current₀)) × Open (state so-far kept current)
+Inv-loop piece kept₀ current₀ so-far₀ i₀ i-end kept current so-far i = (i-end ≡ length piece) × (i ≤ i-end) × (length kept ≡ length kept₀) × (length current ≡ length current₀) × (arrivedAs so-far kept current ≡ fed (take i piece) (arrivedAs so-far₀ kept₀ current₀)) × Open (arrivedAs so-far kept current)
 
 abbrev μ-loop : tie.MeasureT-loop
 μ-loop piece kept₀ current₀ so-far₀ i₀ i-end kept current so-far i = i-end - i
@@ -36,16 +36,16 @@ loop-again c =
     let v = c .before .before .before .before .before .before .before .before .before .loop .inv in
     let start = c .before .before .before .before .before .before .before .before .before .before .before .before .before .args in
     let loop = c .before .before .before .before .before .before .before .before .before .loop in
-    let st = state (loop .so-far) (loop .kept) (loop .current) in
+    let st = arrivedAs (loop .so-far) (loop .kept) (loop .current) in
     let b = byte (now (start .piece)) (loop .i) in
     let e = c .before .before .before .before .take-byte .ensures in
     let o = byte-open b st (v .5) in (
       refl,
       omega arith,
-      ap (λ (x : State). length (x .kept)) e ∙ byte-length b st ∙ v .2,
-      ap (λ (x : State). length (x .current)) e ∙ o .sixteen ∙ sym (v .5 .sixteen) ∙ v .3,
-      fed-more (now (start .piece)) (loop .i) (state (start .a) (now (start .kept)) (now (start .current))) st _ (omega arith) (v .4) e,
-      subst (λ (x : State). Open x) (sym e) o,
+      ap (λ (x : Arrived). length (x .kept)) e ∙ byte-length b st ∙ v .2,
+      ap (λ (x : Arrived). length (x .current)) e ∙ o .sixteen ∙ sym (v .5 .sixteen) ∙ v .3,
+      fed-more (now (start .piece)) (loop .i) (arrivedAs (start .a) (now (start .kept)) (now (start .current))) st _ (omega arith) (v .4) e,
+      subst (λ (x : Arrived). Open x) (sym e) o,
     )
 
 same-length : tie.Need-same-length Inv-loop μ-loop

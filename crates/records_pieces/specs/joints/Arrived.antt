@@ -15,46 +15,55 @@ use Rattle.records_order.specs.joints.Keys.{keyOf, leastKey, fallsAt}
 use Rattle.records_pieces.specs.declared.Arrival.{Arrival}
 
 -- how far a file has come, the lent bytes, and the sixteen of the current record
-pub record State : Type 0 where
+pub record Arrived : Type 0 where
   pub arrival : Arrival
   pub kept : List ℕ
   pub current : List ℕ
 
-abbrev pub state : Arrival → List ℕ → List ℕ → State
-state a kept current = record { arrival = a; kept = kept; current = current }
+abbrev pub arrivedAs : Arrival → List ℕ → List ℕ → Arrived
+arrivedAs a kept current = record { arrival = a; kept = kept; current = current }
 
 -- nothing has come
-abbrev pub nothing : Arrival
-nothing = record { records = 0; part = 0; least = 0; fell = false; longer = false }
+abbrev pub nothingYet : Arrival
+nothingYet = record { records = 0; part = 0; least = 0; fell = false; longer = false }
+
+-- one byte more of the current record, and one whole record more with this key, kept or passed over
+abbrev pub oneMore : Arrival → Arrival
+oneMore a = record { records = a .records; part = a .part + 1; least = a .least; fell = a .fell; longer = a .longer }
+
+abbrev pub keptOne : Arrival → ℕ → Arrival
+keptOne a key = record { records = a .records + 1; part = 0; least = key + 1; fell = a .fell || ltb key (a .least); longer = a .longer }
+
+abbrev pub passedOne : Arrival → ℕ → Arrival
+passedOne a key = record { records = a .records; part = 0; least = key + 1; fell = a .fell || ltb key (a .least); longer = true }
 
 -- the bytes of one more record after the first n
 abbrev pub withRecord : ℕ → List ℕ → List ℕ → List ℕ
 withRecord n current kept = span (16 * n) (16 * n + 16) (λ k. byte current (k - 16 * n)) kept
 
 -- the current record is whole: its key is compared with the least that it may have, and it is kept where there is room
-unfoldable pub takeRecord : State → State
+unfoldable pub takeRecord : Arrived → Arrived
 takeRecord st =
     let a : Arrival = st .arrival in
     let key : ℕ = keyOf (st .current) 0 in
     let room : Bool = leb 16 (length (st .kept) - 16 * a .records) in
     cond room
-    (state (record { records = a .records + 1; part = 0; least = key + 1; fell = a .fell || ltb key (a .least); longer = a .longer }) (withRecord (a .records) (st .current) (st .kept)) (st .current))
-    (state (record { records = a .records; part = 0; least = key + 1; fell = a .fell || ltb key (a .least); longer = true }) (st .kept) (st .current))
+    (arrivedAs (keptOne a key) (withRecord (a .records) (st .current) (st .kept)) (st .current))
+    (arrivedAs (passedOne a key) (st .kept) (st .current))
 
 -- one more byte
-unfoldable pub takeByte : ℕ → State → State
+unfoldable pub takeByte : ℕ → Arrived → Arrived
 takeByte b st =
     let a : Arrival = st .arrival in
-    let more : State =
-    state (record { records = a .records; part = a .part + 1; least = a .least; fell = a .fell; longer = a .longer }) (st .kept) (set (st .current) (a .part) b) in
+    let more : Arrived = arrivedAs (oneMore a) (st .kept) (set (st .current) (a .part) b) in
     cond (eqb (a .part) 15) (takeRecord more) more
 
 -- one more piece, and pieces one after another
-unfoldable pub fed : List ℕ → State → State
+unfoldable pub fed : List ℕ → Arrived → Arrived
 fed [] st = st
 fed (b ∷ bs) st = fed bs (takeByte b st)
 
-unfoldable pub feds : List (List ℕ) → State → State
+unfoldable pub feds : List (List ℕ) → Arrived → Arrived
 feds [] st = st
 feds (piece ∷ pieces) st = feds pieces (fed piece st)
 
@@ -64,13 +73,13 @@ joinedPieces [] = []
 joinedPieces (piece ∷ pieces) = piece ++ joinedPieces pieces
 
 -- ---- where the code may take a byte: the current record has room for it, and what is kept fits
-pub record Open (st : State) : Type 0 where
+pub record Open (st : Arrived) : Type 0 where
   pub part : st .arrival .part ≤ 15
   pub sixteen : length (st .current) ≡ 16
   pub room : 16 * st .arrival .records ≤ length (st .kept)
 
 -- ---- what a file s leaves, whole or in pieces: its bytes up to its last whole record that has room, the bytes after its last whole record, and whether its records rise
-pub record Came (s : List ℕ) (st : State) : Type 0 where
+pub record Came (s : List ℕ) (st : Arrived) : Type 0 where
   pub ready : Open st
   pub part : st .arrival .part ≡ length s % 16
   pub records : st .arrival .records ≡ min (count s) (length (st .kept) / 16)
@@ -81,6 +90,6 @@ pub record Came (s : List ℕ) (st : State) : Type 0 where
   pub kept : (o : ℕ) → o < 16 * st .arrival .records → byte (st .kept) o ≡ byte s o
 
 -- what some file leaves: no contract can say which bytes a program reads
-pub record Arrives (st : State) : Type 0 where
+pub record Arrives (st : Arrived) : Type 0 where
   pub file : List ℕ
   pub came : Came file st
