@@ -14,7 +14,7 @@ use Rattle.algebra.specs.Fold.{fold}
 use Rattle.algebra.specs.Kind.{marks, zeroOf}
 use Rattle.algebra.specs.Product.{at, sum, cell, product, transpose, minusCells, timesNumber, overNumber, identity}
 use Rattle.algebra.proofs.FoldLaws.{fold-both}
-use Rattle.algebra.proofs.MovingCells.{BearsCells, MovesCells, step-bears, nil-moves, constant-moves, table-moves, table-bears}
+use Rattle.algebra.proofs.MovingCells.{MovesCells, step-bears, nil-moves, constant-moves, table-moves, table-bears}
 
 abbrev Matrix : Type 0
 Matrix = List (List Marked)
@@ -53,10 +53,6 @@ module _ {t : ℕ} where
         → (k : ℕ) → k < n → Bears t (at marks a i k) × Bears t (at marks b k j)
     unfolding product
     product-bears n a b i j h l x = cell-bears n a b i j (table-bears R C r c (cell marks n a b) hr hc i j h l x)
-
-    -- the right matrix, where there is a row to meet each column
-    pub product-right : (n : ℕ) (a b : Matrix) → 0 < r → BearsCells t r c (product marks R C r n c a b) → BearsCells t n c b
-    product-right n a b s x = record { cell = λ k j l h. product-bears n a b 0 j s h (x .cell 0 j s h) k l .1 }
 
     pub product-moves : (u v : ℤ) → natAbs (u +ℤ v) ≤ t → (n : ℕ) (a b a' b' : Matrix) → MovesCells t u r n a a' → MovesCells t v n c b b'
         → MovesCells t (u +ℤ v) r c (product marks R C r n c a b) (product marks R C r n c a' b')

@@ -14,7 +14,7 @@ use Rattle.arithmetic.specs.declared.Marked.{Marked}
 use Rattle.arithmetic.specs.Numbers.{magnitude, isZero}
 use Rattle.arithmetic.specs.Scale.{scale, powerOfTwo}
 use Rattle.arithmetic.specs.SquareRoot.{squareRoot}
-use Rattle.arithmetic.specs.Marks.{inRange, marked, Mark, mostBorne, MarkBears, isInside, given, stepMark, lostProduct, lostQuotient, markedAdd, markedSub, markedMul, markedDiv, markedRoot, markedMagnitude, also}
+use Rattle.arithmetic.specs.Marks.{inRange, Mark, mostBorne, MarkBears, isInside, given, stepMark, lostProduct, lostQuotient, markedAdd, markedSub, markedMul, markedDiv, markedRoot, markedMagnitude, also}
 use Rattle.arithmetic.proofs.Operations.{Zero, Safe}
 use Rattle.arithmetic.proofs.Rounding.{Within}
 use Rattle.arithmetic.proofs.Ranges.{within-mono, safe-within, zero-safe}
@@ -53,11 +53,6 @@ magnitude-value a = refl
 pub also-value : (a b : Marked) → also a b .value ≡ a .value
 unfolding also
 also-value a b = refl
-
--- where the code keeps a mark apart from its value
-pub also-mark : (x : Float) (i : Bool) (a : Marked) → also (marked x i) a ≡ marked x (i && a .inside)
-unfolding also
-also-mark x i a = refl
 
 -- ---- what a mark bears
 pub record Bears (t : ℕ) (a : Marked) : Type 0 where

@@ -84,11 +84,6 @@ byte-open b st o = go (ℕ-discrete (st .arrival .part) 15)
         (record-open (arrivedAs (oneMore (st .arrival)) (st .kept) (set (st .current) (st .arrival .part) b)) (omega arith) sixteen (o .room))
     go (no e) = rw (ne-eqb (st .arrival .part) 15 e) (record { part = let h = o .part in omega arith; sixteen = sixteen; room = o .room })
 
-pub fed-open : (bs : List ℕ) (st : Arrived) → Open st → Open (fed bs st)
-unfolding fed
-fed-open [] st o = o
-fed-open (b ∷ bs) st o = fed-open bs (takeByte b st) (byte-open b st o)
-
 -- ---- what is lent keeps its length
 record-length : (st : Arrived) → length (takeRecord st .kept) ≡ length (st .kept)
 unfolding takeRecord

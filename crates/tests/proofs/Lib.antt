@@ -7,6 +7,6 @@ pub mod SatterthwaiteSurvives
 pub mod DdfBench
 pub mod KenwardRogerBench
 pub mod RotationMark
-pub mod AlikeTests
-pub mod AlikeSatterthwaite
+pub mod TestsAlike
+pub mod SatterthwaiteAlike
 pub mod PlainTests

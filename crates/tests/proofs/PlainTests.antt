@@ -16,8 +16,8 @@ use Rattle.tests.specs.KenwardRoger.{scaledBy, runOf}
 use Rattle.tests.specs.Satterthwaite.{Inputs, satterthwaite}
 use Rattle.tests.specs.Verdict.{verdict, verdicts, RunSurvives}
 use Rattle.tests.proofs.VarianceLaws.{gradientValues-at}
-use Rattle.tests.proofs.AlikeTests.{EntriesAlike, scaledBy-alike, runOf-alike}
-use Rattle.tests.proofs.AlikeSatterthwaite.{satterthwaite-alike}
+use Rattle.tests.proofs.TestsAlike.{EntriesAlike, scaledBy-alike, runOf-alike}
+use Rattle.tests.proofs.SatterthwaiteAlike.{satterthwaite-alike}
 use Rattle.tests.proofs.SatterthwaiteSurvives.{SameOutcome}
 
 -- plain numbers have no mark to compare with

@@ -19,7 +19,7 @@ use Rattle.tests.specs.Both.{isPositive}
 use Rattle.tests.specs.VarianceDf.{relativeGradient, varianceDf, gradientSeen}
 use Rattle.tests.specs.Satterthwaite.{column, contrastOf, transformed, transformedAll, gradientOne, eigenvalues, notPositive, variancesOf, directionsOf, projected, squaresOver, jxAll, gradientAt, capped, componentDf, componentDfs, severalDf, componentsSeen, Inputs, Outcome, lRows, ldRows, vRows, jStack, rotatedV, variances, directions, jxStack, fOne, fSeveral, dfOne, dfSeveral, startSeen, seenOne, seenSeveral, oneRow, severalRows, satterthwaite}
 use Rattle.tests.proofs.VarianceLaws.{gradientValues-agree}
-use Rattle.tests.proofs.AlikeTests.{EntriesAlike, Stacks, stack-alike, squareOne-alike, stackSeen-alike}
+use Rattle.tests.proofs.TestsAlike.{EntriesAlike, Stacks, stack-alike, squareOne-alike, stackSeen-alike}
 
 -- two tests: both refused or neither, and their entries
 pub record OutcomesAlike (Q : Bool → Bool → Type 0) (t t′ : Outcome) : Type 0 where
