@@ -6,7 +6,7 @@ pub mod MovingComponents
 pub mod SatterthwaiteSurvives
 pub mod DdfBench
 pub mod KenwardRogerBench
-pub mod RotationMark
+pub mod MarkedRotation
 pub mod TestsAlike
 pub mod SatterthwaiteAlike
 pub mod PlainTests
