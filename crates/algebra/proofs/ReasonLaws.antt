@@ -7,6 +7,7 @@ use native.Mathlib.Nat.{not-suc-le-zero, le-of-suc-le-suc}
 use native.Mathlib.Omega.{arith}
 use lib.Dec.{eqb}
 use lib.ListN.{length, getD}
+use borrow.Author.Tests.{eqb-true, eqb-false}
 use Rattle.algebra.specs.Reasons.{first}
 
 abbrev pub Line : Type 0
@@ -37,10 +38,14 @@ pub record Precisely (r : ℕ) (l : List Line) : Type 0 where
   pub refused : (n : ℕ) → (n ≡ 0 → ⊥) → Iff (r ≡ n) (Gives l n)
   pub accepted : Iff (r ≡ 0) (NoneHolds l)
 
+-- no line has the number n
+abbrev pub lacks : ℕ → List Line → Bool
+lacks n [] = true
+lacks n (c ∷ cs) = not (eqb (c .0) n) && lacks n cs
+
 -- every line's number is a refusal's
 abbrev pub named : List Line → Bool
-named [] = true
-named (c ∷ cs) = not (eqb (c .0) 0) && named cs
+named l = lacks 0 l
 
 -- ---- its proof
 later : (x : Line) (l : List Line) (n : ℕ) → x .1 ≡ false → Gives l n → Gives (x ∷ l) n
@@ -76,13 +81,10 @@ gives-first (x ∷ l) n g = go (x .1) refl (gives-first l n) (g .index) (g .numb
     go true q k (suc i) a d = absurd (false≢true (sym (d 0 (omega arith)) ∙ q))
     go false q k i a d = k (sooner x l n q g)
 
--- the list's numbers are refusals' where the first one's is and the rest's are
-rest-named : (n : ℕ) (b : Bool) → not (eqb n 0) && b ≡ true → (eqb n 0 ≡ false) × (b ≡ true)
-rest-named n b h = go (eqb n 0) h
-  where
-    go : (z : Bool) → not z && b ≡ true → (z ≡ false) × (b ≡ true)
-    go true e = absurd (false≢true e)
-    go false e = (refl, e)
+-- a list lacks a number where its first line and the rest do
+rest-lacks : (z b : Bool) → not z && b ≡ true → (z ≡ false) × (b ≡ true)
+rest-lacks true b e = absurd (false≢true e)
+rest-lacks false b e = (refl, e)
 
 -- 0 is not the first line's number: neither its condition nor a later one holds
 pub passed : (n : ℕ) (b : Bool) (l : List Line) → eqb n 0 ≡ false → first ((n, b) ∷ l) ≡ 0 → (b ≡ false) × (first l ≡ 0)
@@ -93,7 +95,7 @@ passed n false l h e = (refl, e)
 pub first-none : (l : List Line) → named l ≡ true → first l ≡ 0 → NoneHolds l
 first-none [] h e i k = absurd (not-suc-le-zero k)
 first-none (x ∷ l) h e i k =
-    let m = rest-named (x .0) (named l) h in
+    let m = rest-lacks (eqb (x .0) 0) (named l) h in
     let q = passed (x .0) (x .1) l (m .0) e in go i (q .0) (first-none l (m .1) (q .1)) k
   where
     go : (i : ℕ) → x .1 ≡ false → NoneHolds l → i < length (x ∷ l) → line (x ∷ l) i .1 ≡ false
@@ -130,3 +132,24 @@ first-front (x ∷ a) b h = go (x .1) (first-front a b) h
     go : (c : Bool) → (first (a ++ b) ≡ 0 → first a ≡ 0) → cond c (x .0) (first (a ++ b)) ≡ 0 → cond c (x .0) (first a) ≡ 0
     go true f e = e
     go false f e = f e
+
+-- ---- a number that one line alone has
+-- a number that no line has is not given
+first-lacks : (n : ℕ) (l : List Line) → (n ≡ 0 → ⊥) → lacks n l ≡ true → first l ≡ n → ⊥
+unfolding first
+first-lacks n [] z h e = z (sym e)
+first-lacks n (x ∷ l) z h e = let m = rest-lacks (eqb (x .0) n) (lacks n l) h in go (x .1) (m .0) (first-lacks n l z (m .1)) e
+  where
+    go : (c : Bool) → eqb (x .0) n ≡ false → (first l ≡ n → ⊥) → cond c (x .0) (first l) ≡ n → ⊥
+    go true m f e = eqb-false (x .0) n m e
+    go false m f e = f e
+
+-- it is given precisely where this line's condition holds and no earlier line's does
+pub first-alone : (a b : List Line) (n : ℕ) (c : Bool) → (n ≡ 0 → ⊥) → named a ≡ true → lacks n a ≡ true → lacks n b ≡ true → Iff (first (a ++ ((n, c) ∷ b)) ≡ n) ((first a ≡ 0) × (c ≡ true))
+unfolding first
+first-alone a b n c z h k l = record { to = λ e. to (eqb (first a) 0) refl c (sym (first-append a ((n, c) ∷ b) h) ∙ e); from = λ p. first-append a ((n, c) ∷ b) h ∙ rw (p .0, p .1) }
+  where
+    to : (f : Bool) → eqb (first a) 0 ≡ f → (d : Bool) → cond f (cond d n (first b)) (first a) ≡ n → (first a ≡ 0) × (d ≡ true)
+    to true q true e = (eqb-true (first a) 0 q, refl)
+    to true q false e = absurd (first-lacks n b z l e)
+    to false q d e = absurd (first-lacks n a z k e)
