@@ -243,9 +243,14 @@ nothing-came kept current h = record {
 pub file-came : (s kept current : List ℕ) → length current ≡ 16 → Came s (fed s (arrivedAs nothingYet kept current))
 file-came s kept current h = more-came s [] (arrivedAs nothingYet kept current) (nothing-came kept current h)
 
--- ---- a program that reads by pieces always has what some file leaves
-pub start-arrives : (kept current : List ℕ) → length current ≡ 16 → Arrives (arrivedAs nothingYet kept current)
-start-arrives kept current h = record { file = []; came = nothing-came kept current h }
+-- ---- a program that reads by pieces always has what some file of bytes leaves
+joined-bytes : (a b : List ℕ) → ((i : ℕ) → byte a i < 256) → ((i : ℕ) → byte b i < 256) → (i : ℕ) → byte (a ++ b) i < 256
+joined-bytes [] b ha hb i = hb i
+joined-bytes (x ∷ a) b ha hb zero = ha 0
+joined-bytes (x ∷ a) b ha hb (suc i) = joined-bytes a b (λ j. ha (suc j)) hb i
 
-pub fed-arrives : (piece : List ℕ) (st : Arrived) → Arrives st → Arrives (fed piece st)
-fed-arrives piece st r = record { file = r .file ++ piece; came = more-came piece (r .file) st (r .came) }
+pub start-arrives : (kept current : List ℕ) → length current ≡ 16 → Arrives (arrivedAs nothingYet kept current)
+start-arrives kept current h = record { file = []; bytes = λ i. omega arith; came = nothing-came kept current h }
+
+pub fed-arrives : (piece : List ℕ) (st : Arrived) → ((i : ℕ) → byte piece i < 256) → Arrives st → Arrives (fed piece st)
+fed-arrives piece st h r = record { file = r .file ++ piece; bytes = joined-bytes (r .file) piece (r .bytes) h; came = more-came piece (r .file) st (r .came) }

@@ -107,3 +107,9 @@ byte-length b st = go (eqb (st .arrival .part) 15)
     go : (whole : Bool) → length (cond whole (takeRecord more) more .kept) ≡ length (st .kept)
     go true = record-length more
     go false = refl
+
+-- nor does a piece
+pub fed-length : (piece : List ℕ) (st : Arrived) → length (fed piece st .kept) ≡ length (st .kept)
+unfolding fed
+fed-length [] st = refl
+fed-length (b ∷ piece) st = fed-length piece (takeByte b st) ∙ byte-length b st

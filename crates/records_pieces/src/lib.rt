@@ -1,9 +1,10 @@
 // A file that arrives in pieces of any lengths: its first records are kept, as many as the lent bytes have room for, and all are compared with their neighbours, so that a falling pair is seen anywhere in a file of any length.
 ghost use mathlib.Core.Path.{_≡_};
-ghost use Prim.Native.Nat.{_+_, _*_, _≤_};
+ghost use Prim.Native.Nat.{ℕ, _+_, _*_, _<_, _≤_};
 ghost use mathlib.Core.Bool.{_||_};
 ghost use lib.Dec.{ltb};
 ghost use lib.ListN.{length};
+ghost use Rattle.records.specs.Bytes.{byte};
 ghost use Rattle.records_pieces.specs.joints.Arrived.{arrivedAs, nothingYet, withRecord, takeRecord, takeByte, fed, Open};
 use records_order::key_at;
 
@@ -94,10 +95,11 @@ fn take_byte(a: Arrival, b: u8, kept: &mut [u8], current: &mut [u8]) -> Arrival
     more
 }
 
-// One more piece.
+// One more piece; that its bytes are below 256 is said for the caller, who compares records by them.
 pub fn feed(a: Arrival, piece: &[u8], kept: &mut [u8], current: &mut [u8]) -> Arrival
     requires { ⌜ Open (arrivedAs a (now kept) (now current)) ⌝ }
     ensures { λ r. ⌜ arrivedAs r (now (kept .exit)) (now (current .exit)) ≡ fed (now (piece .entry)) (arrivedAs a (now (kept .entry)) (now (current .entry))) ⌝ }
+    ensures { λ r. ⌜ ((i : ℕ) → byte (now (piece .entry)) i < 256) ⌝ }
 {
     let mut so_far = a;
     for i in 0..piece.len() {

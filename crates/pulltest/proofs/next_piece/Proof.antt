@@ -31,7 +31,7 @@ same-length-2 : tie.Need-same-length-2
 same-length-2 c = search needs
 
 returns : tie.Need-returns
-returns c = subst (λ (st : Arrived). Arrives st) (sym (c .before .before .before .before .feed .ensures)) (fed-arrives _ _ (c .before .before .before .before .before .before .before .before .before .before .before .before .before .before .pre))
+returns c = subst (λ (st : Arrived). Arrives st) (sym (c .before .before .before .before .feed .ensures .0)) (fed-arrives _ _ (c .before .before .before .before .feed .ensures .1) (c .before .before .before .before .before .before .before .before .before .before .before .before .before .before .pre))
 
 pub next-piece-spec : {M : Type 1} → statement M
 next-piece-spec =

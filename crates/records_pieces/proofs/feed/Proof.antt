@@ -56,7 +56,7 @@ same-length-2 c = c .before .loop .inv .3
 
 returns : tie.Need-returns Inv-loop μ-loop
 returns c =
-    fed-all (now (c .before .before .before .before .before .args .piece)) (c .before .loop .i) _ _ (omega arith) (c .before .loop .inv .4)
+    (fed-all (now (c .before .before .before .before .before .args .piece)) (c .before .loop .i) _ _ (omega arith) (c .before .loop .inv .4), λ j. omega (arith, c .before .before .before .before .shared-slice-known .given j))
 
 pub feed-spec : {M : Type 1} → statement M
 feed-spec =

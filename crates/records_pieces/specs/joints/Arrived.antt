@@ -89,7 +89,8 @@ pub record Came (s : List ℕ) (st : Arrived) : Type 0 where
   pub current : (o : ℕ) → o < length s % 16 → byte (st .current) o ≡ byte s (16 * count s + o)
   pub kept : (o : ℕ) → o < 16 * st .arrival .records → byte (st .kept) o ≡ byte s o
 
--- what some file leaves: no contract can say which bytes a program reads
+-- what some file of bytes leaves: no contract can say which bytes a program reads
 pub record Arrives (st : Arrived) : Type 0 where
   pub file : List ℕ
+  pub bytes : (i : ℕ) → byte file i < 256
   pub came : Came file st
