@@ -1,5 +1,5 @@
 #!/usr/bin/env python3
-"""Writes the example series of this folder as record files (16 bytes a record; see ../README.md).
+"""Writes the example series of this folder as record files (16 bytes a record, rising; see ../README.md).
 
     python3 make.py
 
@@ -116,6 +116,13 @@ TWO_ROWS = fitted("sleepstudy-rows-df-4")
 # The same groups with the time in decades, so that the df of the slope is far too large.
 DECADES = fitted("units-seconds-decades")
 
+
+def rises(data):
+    """Each record stands before the next: by kind, then row and column. A series of the Kenward-Roger call has no kind 31, which goes by its count before them."""
+    keys = [data[i:i + 3] for i in range(0, len(data), 16)]
+    return all(a < b for a, b in zip(keys, keys[1:]))
+
+
 for name, data in (
     ("pull", PULL),
     ("batches", BATCHES),
@@ -125,5 +132,6 @@ for name, data in (
     ("two-rows", TWO_ROWS),
     ("decades", DECADES),
 ):
+    assert rises(data), name
     with open(f"{name}.rec", "wb") as f:
         f.write(data)

@@ -19,14 +19,19 @@ extern "C" {
 #define PULL_ENTRY_BYTES 24u
 #define PULL_KENWARD_ROGER_BYTES 168u /* seven entries */
 
-/* What a call returns: 0, or the number of the refusal. Where several apply
- * the lowest is returned, but for the late reason of PULL_NOT_FINITE, which
- * comes after 9 and 10 of the covariance adjustment. */
+/* What a call returns: 0, or the number of the refusal. Where several apply it
+ * is the first of these:
+ *
+ *   1; 2 for records_length; 12; 2 for any of its other reasons; then
+ *   pull_kenward_roger: 3, 4 of an input, 5, 6, 7, 8; 9 and 10 of the
+ *     covariance adjustment; 4 of its output; 10 of a test
+ *   pull_satterthwaite: 4, 11 */
 enum pull_number {
     PULL_ACCEPTED = 0,
     PULL_LENGTH = 1,        /* answer_length is not the stated one */
     PULL_RECORDS = 2,       /* records_length not a multiple of 16, bad kind, nonzero unused field,
-                               index past a limit, cell twice, missing or beyond the sizes */
+                               index past a limit, cell twice (a block with two k's), missing or
+                               beyond the sizes */
     PULL_SIZE = 3,          /* a size outside its limits: a block's k not 1 or 2, m = 0, more than
                                three block parameters */
     PULL_NOT_FINITE = 4,    /* an input not finite; or some number of the adjustment's output */
@@ -37,16 +42,21 @@ enum pull_number {
     PULL_ZERO_CONTRAST = 8, /* Kenward-Roger: the contrast is all zero */
     PULL_CHOLESKY = 9,      /* a Cholesky diagonal not > 0 */
     PULL_PIVOT = 10,        /* a zero pivot in an elimination */
-    PULL_EIGENVALUE = 11    /* Satterthwaite: a covariance of several rows that has an eigenvalue
+    PULL_EIGENVALUE = 11,   /* Satterthwaite: a covariance of several rows that has an eigenvalue
                                not finite or <= 0 */
+    PULL_ORDER = 12         /* a record that does not stand before the next one, as the records
+                               argument says; so also any other cell twice */
 };
 
 /* One series by Kenward-Roger: each coefficient alone, then the contrast if
  * the series has one.
  *
- * records         the series: records of 16 bytes, in any order. Byte 0 kind,
- *                 1 row, 2 column, 3 zero, 4-7 count (little-endian), 8-15 the
- *                 bits of an f64 (little-endian). Read, never written.
+ * records         the series: records of 16 bytes, rising strictly. Byte 0
+ *                 kind, 1 row, 2 column, 3 zero, 4-7 count (little-endian),
+ *                 8-15 the bits of an f64 (little-endian). A record stands
+ *                 before another by its kind, then for kind 31 by its count,
+ *                 then by its row, then by its column, also where the kind
+ *                 leaves row or column unused. Read, never written.
  * records_length  the number of bytes at records.
  * answer          the answer bytes. They may not overlap the records.
  * answer_length   the number of bytes at answer: PULL_KENWARD_ROGER_BYTES.
@@ -55,7 +65,7 @@ enum pull_number {
  * not NULL even where the length is 0. No alignment is asked.
  *
  * Returns 0, and then all 168 answer bytes are written; or the number of the
- * refusal (1 to 10), and then every answer byte keeps its contents.
+ * refusal (1 to 10 or 12), and then every answer byte keeps its contents.
  *
  * The answer has seven entries of 24 bytes: entries 0 to 5 are the
  * coefficients, entry 6 is the contrast. In an entry:
@@ -76,8 +86,9 @@ uint32_t pull_kenward_roger(const uint8_t *records, size_t records_length,
 /* A contrast by Satterthwaite, with the covariance of beta, its Jacobians and
  * the covariance of the parameters from the file.
  *
- * The arguments are those of pull_kenward_roger, and the same is asked of the
- * pointers. answer_length is PULL_ENTRY_BYTES.
+ * The arguments are those of pull_kenward_roger, with the same order of the
+ * records, and the same is asked of the pointers. answer_length is
+ * PULL_ENTRY_BYTES.
  *
  * The records have the kinds 8 (beta), 9 (the contrast), 10 (the hypothesis
  * values, all or none), 30 (v, the covariance of beta), 31 (a Jacobian, told
@@ -85,9 +96,9 @@ uint32_t pull_kenward_roger(const uint8_t *records, size_t records_length,
  * any other kind is refused with PULL_RECORDS.
  *
  * Returns 0, and then all 24 answer bytes are written, one entry as above; or
- * the number of the refusal (PULL_LENGTH, PULL_RECORDS, PULL_NOT_FINITE of an
- * input, PULL_EIGENVALUE), and then every answer byte keeps its contents. The
- * rank is the number of contrast rows. */
+ * the number of the refusal (PULL_LENGTH, PULL_RECORDS, PULL_ORDER,
+ * PULL_NOT_FINITE of an input, PULL_EIGENVALUE), and then every answer byte
+ * keeps its contents. The rank is the number of contrast rows. */
 uint32_t pull_satterthwaite(const uint8_t *records, size_t records_length,
                             uint8_t *answer, size_t answer_length);
 

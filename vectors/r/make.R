@@ -3,7 +3,8 @@
 #     Rscript make.R            writes both files into the current folder
 #
 # Needs R with lme4, pbkrtest, lmerTest and what they bring along (Debian: r-cran-lme4 r-cran-pbkrtest r-cran-lmertest).
-# Document 01 names the records; nothing here computes an F or a df of its own.
+# Document 01 names the records; nothing here computes an F or a df of its own. The records of a file rise by kind, then by the count of
+# a Jacobian, then by row and column: the order in which `kr_file` and `satt_file` put them together.
 
 suppressMessages({
   library(lme4)

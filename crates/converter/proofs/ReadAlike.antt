@@ -18,7 +18,7 @@ use Rattle.converter.specs.Converted.{Change, rewritten, converted}
 use Rattle.converter.specs.ReadAlike.{moves, movesRecord, Exact, OnFloats, Alike, numbered, ConvertedReadsAlike}
 use Rattle.converter.proofs.Rewritten.{rewritten-zero, rewritten-scales}
 use Rattle.converter.proofs.Fields.{converted-alike, bits-other, value-other, value-new}
-use Rattle.converter.proofs.SameFile.{count-same, rows-same, columns-same, present-same, isCell-same, length-same, form-same}
+use Rattle.converter.proofs.SameFile.{count-same, rows-same, columns-same, present-same, isCell-same, length-same, falls-same, form-same}
 use Rattle.converter.proofs.Cells.{own-fields, value-is-cell}
 
 module _ (g : Change) (s : List ℕ) where
@@ -90,6 +90,7 @@ converted-reads-alike g limit sized s f =
       sameColumns = columns-same a;
       samePresent = present-same a;
       sameLength = length-same a;
+      sameOrder = falls-same a;
       sameForm = form-same a limit sized (values-hold g s limit f);
       sameFinite = finite-same g s;
       keptCell = cell-kept g s sized;

@@ -15,6 +15,7 @@ use Rattle.adjustment.specs.Blocks.{places}
 use Rattle.records.specs.Scan.{any}
 use Rattle.records.specs.Kinds.{Table, kenwardRoger, limits}
 use Rattle.records.specs.File.{count, cell, beyond, present, formReasons}
+use Rattle.records.specs.Order.{orderReasons}
 use Rattle.records.specs.Series.{specimens, coefficients, zColumns, blockCount, thetas, contrastRows, sizes, kinds, cellValue, sigma2, badSize, badWeight, misfit, zeroContrast, sizeReasons, valueReasons, reasons}
 use Rattle.records.proofs.ScanLaws.{any-same, total-same}
 use Rattle.converter.specs.Converted.{Change, kenwardRogerShift, kenwardRogerChange, converted}
@@ -72,5 +73,5 @@ module _ (k : ℤ) (m : ℕ → ℤ) (s : List ℕ) where
 
     -- with every limit of specimens
     pub reasons-same : (w : ℕ) → reasons w (converted (kenwardRogerChange k m) s) ≡ reasons w s
-    unfolding reasons sizeReasons valueReasons
-    reasons-same w = rw (alike .sameLength, form-same w, badSize-same, alike .sameFinite h, sigma2-same, badWeight-same, misfit-same, zeroContrast-same)
+    unfolding reasons orderReasons sizeReasons valueReasons
+    reasons-same w = rw (alike .sameLength, alike .sameOrder, form-same w, badSize-same, alike .sameFinite h, sigma2-same, badWeight-same, misfit-same, zeroContrast-same)

@@ -1,5 +1,5 @@
 -- Two files whose records have the same fields (`Alike`) get the same answers to every question on cells and sizes, with any table of kinds.
-use Prim.Native.Nat.{ℕ, _+_, _/_, _%_}
+use Prim.Native.Nat.{ℕ, _+_, _-_, _/_, _%_}
 use mathlib.Core.Path.{_≡_, ap, _∙_}
 use mathlib.Core.Bool.{Bool, not, _&&_, _||_, cond}
 use mathlib.Core.List.{List, [], _∷_}
@@ -8,6 +8,7 @@ use Rattle.records.specs.declared.Kind.{Kind}
 use Rattle.records.specs.Scan.{any, most}
 use Rattle.records.specs.Kinds.{Table, kindAt, kindNumbers, valueHolds}
 use Rattle.records.specs.File.{count, kindOf, rowOf, columnOf, paddingOf, bitsOf, outOf, badRecord, cellCount, cellRow, cellColumn, isCell, again, has, rows, columns, present, beyond, missing, lengthReasons, formReasons}
+use Rattle.records.specs.Order.{matrixOf, standsBefore, falls}
 use Rattle.records.proofs.ScanLaws.{any-same, most-same}
 use Rattle.converter.specs.ReadAlike.{Alike}
 
@@ -75,6 +76,16 @@ module _ {s s' : List ℕ} (a : Alike s s') where
   pub length-same : lengthReasons s' ≡ lengthReasons s
   unfolding lengthReasons
   length-same = ap (λ (n : ℕ). (2, not (eqb (n % 16) 0)) ∷ []) (a .size)
+
+  before-same : (i j : ℕ) → standsBefore s' i j ≡ standsBefore s i j
+  unfolding standsBefore matrixOf
+  before-same i j = rw (a .kind i, a .kind j, a .number i, a .number j, a .place i, a .place j, a .column i, a .column j)
+
+  pub falls-same : falls s' ≡ falls s
+  unfolding falls
+  falls-same =
+      ap (λ (n : ℕ). any (n - 1) (λ i. not (standsBefore s' i (i + 1)))) count-same
+      ∙ any-same (count s - 1) (λ i. not (standsBefore s' i (i + 1))) (λ i. not (standsBefore s i (i + 1))) (λ i l. ap not (before-same i (i + 1)))
 
   pub form-same : (limit sized : Table) → ((i : ℕ) → valueHolds (kindAt limit (kindOf s i) .value) (bitsOf s' i) ≡ valueHolds (kindAt limit (kindOf s i) .value) (bitsOf s i)) → formReasons limit sized s' ≡ formReasons limit sized s
   unfolding formReasons

@@ -10,6 +10,7 @@ use Rattle.records.specs.declared.Value.the-variants.{Float as FloatBits}
 use Rattle.records.specs.Scan.{any}
 use Rattle.records.specs.Kinds.{Table, kindAt, satterthwaiteKinds, limits, satterthwaite}
 use Rattle.records.specs.File.{count, cell, beyond, formReasons}
+use Rattle.records.specs.Order.{orderReasons}
 use Rattle.records.specs.Parameters.{coefficients, contrastRows, parameters, sizes, kinds, cellValue, valueReasons, reasons}
 use Rattle.converter.specs.Converted.{satterthwaiteShift, satterthwaiteChange, converted}
 use Rattle.converter.specs.ReadAlike.{Exact, OnFloats, isNumber, numbered, ReadAlike}
@@ -61,5 +62,5 @@ module _ (k : ℤ) (s : List ℕ) where
         ap (λ (t : Table). cell t s' kind n r c) kinds-same ∙ alike .scaledCell h within kind n r c e (parameters-numbered k (sizes s) kind e)
 
     pub reasons-same : reasons (converted (satterthwaiteChange k) s) ≡ reasons s
-    unfolding reasons valueReasons
-    reasons-same = rw (alike .sameLength, form-same, alike .sameFinite h)
+    unfolding reasons orderReasons valueReasons
+    reasons-same = rw (alike .sameLength, alike .sameOrder, form-same, alike .sameFinite h)

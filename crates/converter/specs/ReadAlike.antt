@@ -16,6 +16,7 @@ use Rattle.records.specs.declared.Kind.{Kind}
 use Rattle.records.specs.Scan.{any}
 use Rattle.records.specs.Kinds.{Table, kindAt}
 use Rattle.records.specs.File.{count, kindOf, rowOf, columnOf, paddingOf, countOf, valueOf, cell, rows, columns, present, beyond, notFinite, lengthReasons, formReasons}
+use Rattle.records.specs.Order.{falls}
 use Rattle.converter.specs.Converted.{Change, rewritten, converted}
 
 -- ---- the powers of a change
@@ -63,6 +64,8 @@ pub record ReadAlike (g : Change) (limit sized : Table) (s s' : List ℕ) : Type
   pub samePresent : (k : ℕ) → present s' k ≡ present s k
   -- the refusals
   pub sameLength : lengthReasons s' ≡ lengthReasons s
+  -- it rises exactly where the file does
+  pub sameOrder : falls s' ≡ falls s
   pub sameForm : formReasons limit sized s' ≡ formReasons limit sized s
   pub sameFinite : Exact g s → any (count s') (notFinite s') ≡ any (count s) (notFinite s)
   -- the cells of a kind that is not rewritten

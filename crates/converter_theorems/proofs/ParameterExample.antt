@@ -31,6 +31,7 @@ use Rattle.records.specs.Scan.{any, most, last}
 use Rattle.records.specs.Kinds.{kindAt, holds, width, indexOf, valueHolds, satterthwaiteKinds, limits}
 use Rattle.records.specs.File.{outOf, badRecord, isCell, again, has, cell as cellOf, rows, columns, beyond, missing, notFinite, lengthReasons, formReasons}
 use Rattle.records.specs.Written.{recordOf}
+use Rattle.records.specs.Order.{numbersMatrix, matrixOf, standsBefore, falls, orderReasons}
 use Rattle.records.specs.Parameters.{sizes, valueReasons, reasons, jacobians, inputs}
 use Rattle.records.specs.SatterthwaiteCall.{number, entry}
 use Rattle.tests.specs.Verdict.{Verdict, verdict}
@@ -79,7 +80,7 @@ record Says : Type 0 where
   pub passes : first (reasons parameterFile ++ ((11, false) ∷ [])) ≡ 0
 
 says : Says
-unfolding inputs jacobians table row blank fold reasons lengthReasons formReasons valueReasons first sizes outOf badRecord isCell again has cellOf rows columns beyond missing notFinite kindAt holds width indexOf valueHolds satterthwaiteKinds limits any most last word long bytesOf isFinite isZero ofBits le eq
+unfolding inputs jacobians table row blank fold reasons lengthReasons orderReasons falls standsBefore matrixOf numbersMatrix formReasons valueReasons first sizes outOf badRecord isCell again has cellOf rows columns beyond missing notFinite kindAt holds width indexOf valueHolds satterthwaiteKinds limits any most last word long bytesOf isFinite isZero ofBits le eq
 says = record { inputs = refl; passes = refl }
 
 -- ---- what the test makes of it: F 2.5, df 4, rank 2, inside

@@ -34,6 +34,7 @@ use Rattle.records.specs.Bytes.{word, long, bytesOf}
 use Rattle.records.specs.Scan.{any, most, last, total}
 use Rattle.records.specs.Kinds.{kindAt, holds, width, indexOf, valueHolds, kenwardRogerKinds, limits}
 use Rattle.records.specs.File.{outOf, badRecord, isCell, again, has, cell as cellOf, rows, columns, beyond, missing, notFinite, lengthReasons, formReasons}
+use Rattle.records.specs.Order.{numbersMatrix, matrixOf, standsBefore, falls, orderReasons}
 use Rattle.records.specs.Series.{coefficients, sizes, blockOf as blockAt, badSize, badWeight, misfit, zeroContrast, sizeReasons, valueReasons, reasons, design, phi, beta, betaH, contrast, sigma2}
 use Rattle.records.specs.Bench.{pullBytes, pullFile}
 use Rattle.records.specs.KenwardRogerCall.{run, number, entries}
@@ -71,7 +72,7 @@ abbrev pullInput : Input
 pullInput = record { sigma2 = fin false 1 (pos 3); beta = fin false 3 (pos 1) ∷ replicate 5 plusZero; betaH = replicate 6 plusZero; contrast = single one }
 
 reads : Reads pullFile pullDesign pullPhi 1 pullInput
-unfolding design phi beta betaH contrast table row blank fold reasons lengthReasons formReasons sizeReasons valueReasons first sizes badSize badWeight misfit zeroContrast blockAt outOf badRecord isCell again has cellOf rows columns beyond missing notFinite kindAt holds width indexOf valueHolds kenwardRogerKinds limits any most last total word long bytesOf isFinite isZero ofBits le eq
+unfolding design phi beta betaH contrast table row blank fold reasons lengthReasons orderReasons falls standsBefore matrixOf numbersMatrix formReasons sizeReasons valueReasons first sizes badSize badWeight misfit zeroContrast blockAt outOf badRecord isCell again has cellOf rows columns beyond missing notFinite kindAt holds width indexOf valueHolds kenwardRogerKinds limits any most last total word long bytesOf isFinite isZero ofBits le eq
 reads = record { design = refl; phi = refl; input = refl; contrast = refl; passes = refl }
 
 one-coefficient : coefficients pullFile ≡ 1

@@ -21,6 +21,7 @@ use Rattle.tests.specs.Answer.{noEntry}
 use Rattle.tests.specs.KenwardRoger.{Run}
 use Rattle.algebra.specs.Reasons.{first}
 use Rattle.records.specs.File.{lengthReasons, formReasons}
+use Rattle.records.specs.Order.{orderReasons}
 use Rattle.records.specs.Series.{coefficients, contrastRows, design, phi, sigma2, beta, betaH, contrast, sizeReasons, valueReasons, reasons, refusal}
 use Rattle.records.specs.KenwardRogerCall.{adjusted, scaled, run, number, entries}
 use Rattle.tests.specs.Verdict.{verdict, verdicts, RunBears}
@@ -53,7 +54,7 @@ module _ (c : Cutoffs) (s : List ℕ) where
 
   module _ (w : ℕ) where
     pub number-is : number w c s ≡ first (listed (reasons w s) (adjustmentRefusal c (design s) (phi s) (sigma2 s)) (run c s .refused))
-    unfolding refusal reasons lengthReasons formReasons sizeReasons valueReasons first
+    unfolding refusal reasons lengthReasons orderReasons formReasons sizeReasons valueReasons first
     number-is =
         let n : ℕ = adjustmentRefusal c (design s) (phi s) (sigma2 s) in
         call-number c s w

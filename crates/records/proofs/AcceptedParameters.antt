@@ -10,10 +10,12 @@ use Rattle.algebra.proofs.ReasonLaws.{NoneHolds, first-none}
 use Rattle.records.specs.Scan.{any}
 use Rattle.records.specs.Kinds.{kindNumbers, satterthwaite}
 use Rattle.records.specs.File.{count, badRecord, again, beyond, missing, notFinite, lengthReasons, formReasons}
+use Rattle.records.specs.Order.{falls, orderReasons}
 use Rattle.records.specs.Parameters.{kinds, valueReasons, reasons, refusal}
 
 pub record AcceptedParameters (s : List ℕ) : Type 0 where
   pub whole : length s % 16 ≡ 0
+  pub rises : falls s ≡ false
   pub good : any (count s) (badRecord satterthwaite s) ≡ false
   pub once : any (count s) (again (kinds s) s) ≡ false
   pub complete : any kindNumbers (missing (kinds s) s) ≡ false
@@ -21,14 +23,15 @@ pub record AcceptedParameters (s : List ℕ) : Type 0 where
   pub finite : any (count s) (notFinite s) ≡ false
 
 pub accepted-parameters : (s : List ℕ) → refusal s ≡ 0 → AcceptedParameters s
-unfolding refusal reasons lengthReasons formReasons valueReasons
+unfolding refusal reasons lengthReasons orderReasons formReasons valueReasons
 accepted-parameters s e =
     let n : NoneHolds (reasons s) = first-none (reasons s) refl e in
     record {
       whole = eqb-true (length s % 16) 0 (not-false (eqb (length s % 16) 0) (n 0 (lit≤ tt)));
-      good = n 1 (lit≤ tt);
-      once = n 2 (lit≤ tt);
-      complete = n 3 (lit≤ tt);
-      within = n 4 (lit≤ tt);
-      finite = n 5 (lit≤ tt);
+      rises = n 1 (lit≤ tt);
+      good = n 2 (lit≤ tt);
+      once = n 3 (lit≤ tt);
+      complete = n 4 (lit≤ tt);
+      within = n 5 (lit≤ tt);
+      finite = n 6 (lit≤ tt);
     }

@@ -12,10 +12,12 @@ use Rattle.algebra.proofs.ReasonLaws.{NoneHolds, first-none}
 use Rattle.records.specs.Scan.{any}
 use Rattle.records.specs.Kinds.{kindNumbers, kenwardRoger}
 use Rattle.records.specs.File.{count, badRecord, again, beyond, missing, notFinite, lengthReasons, formReasons}
+use Rattle.records.specs.Order.{falls, orderReasons}
 use Rattle.records.specs.Series.{kinds, sigma2, badSize, badWeight, misfit, zeroContrast, sizeReasons, valueReasons, reasons, refusal}
 
 pub record AcceptedSeries (w : ℕ) (s : List ℕ) : Type 0 where
   pub whole : length s % 16 ≡ 0
+  pub rises : falls s ≡ false
   pub good : any (count s) (badRecord (kenwardRoger w) s) ≡ false
   pub once : any (count s) (again (kinds s) s) ≡ false
   pub complete : any kindNumbers (missing (kinds s) s) ≡ false
@@ -28,19 +30,20 @@ pub record AcceptedSeries (w : ℕ) (s : List ℕ) : Type 0 where
   pub nonzero : zeroContrast s ≡ false
 
 pub accepted-series : (w : ℕ) (s : List ℕ) → refusal w s ≡ 0 → AcceptedSeries w s
-unfolding refusal reasons lengthReasons formReasons sizeReasons valueReasons
+unfolding refusal reasons lengthReasons orderReasons formReasons sizeReasons valueReasons
 accepted-series w s e =
     let n : NoneHolds (reasons w s) = first-none (reasons w s) refl e in
     record {
       whole = eqb-true (length s % 16) 0 (not-false (eqb (length s % 16) 0) (n 0 (lit≤ tt)));
-      good = n 1 (lit≤ tt);
-      once = n 2 (lit≤ tt);
-      complete = n 3 (lit≤ tt);
-      within = n 4 (lit≤ tt);
-      sized = n 5 (lit≤ tt);
-      finite = n 6 (lit≤ tt);
-      positive = n 7 (lit≤ tt);
-      weighed = n 8 (lit≤ tt);
-      fits = n 9 (lit≤ tt);
-      nonzero = n 10 (lit≤ tt);
+      rises = n 1 (lit≤ tt);
+      good = n 2 (lit≤ tt);
+      once = n 3 (lit≤ tt);
+      complete = n 4 (lit≤ tt);
+      within = n 5 (lit≤ tt);
+      sized = n 6 (lit≤ tt);
+      finite = n 7 (lit≤ tt);
+      positive = n 8 (lit≤ tt);
+      weighed = n 9 (lit≤ tt);
+      fits = n 10 (lit≤ tt);
+      nonzero = n 11 (lit≤ tt);
     }

@@ -10,6 +10,7 @@ use Rattle.algebra.specs.Reasons.{first}
 use Rattle.algebra.proofs.ReasonLaws.{first-append}
 use Rattle.adjustment.specs.Adjusted.{adjustmentReasons, adjustmentRefusal}
 use Rattle.records.specs.File.{lengthReasons, formReasons}
+use Rattle.records.specs.Order.{orderReasons}
 use Rattle.records.specs.Series.{sizeReasons, valueReasons, reasons, refusal, design, phi, sigma2}
 use Rattle.records.specs.Parameters.{valueReasons as parameterValueReasons, reasons as parameterReasons, refusal as parameterRefusal}
 use Rattle.records.specs.KenwardRogerCall.{run, testReasons, allReasons, number, returnedReasons, returned}
@@ -31,7 +32,7 @@ module _ (c : Cutoffs) (s : List ℕ) where
 
   -- the Kenward–Roger call's number, from the reader's, the adjustment's and the run's
   pub number-is : (w : ℕ) → number w c s ≡ cond (eqb (refusal w s) 0) (cond (eqb fileAdjustmentRefusal 0) (cond (run c s .refused) 10 0) fileAdjustmentRefusal) (refusal w s)
-  unfolding number allReasons refusal reasons lengthReasons formReasons sizeReasons valueReasons
+  unfolding number allReasons refusal reasons lengthReasons orderReasons formReasons sizeReasons valueReasons
   number-is w =
       first-append (reasons w s) (adjustmentReasons c (design s) (phi s) (sigma2 s) ++ testReasons c s) refl
       ∙ ap (λ (n : ℕ). cond (eqb (first (reasons w s)) 0) n (first (reasons w s))) later-is
@@ -42,7 +43,7 @@ module _ (c : Cutoffs) (s : List ℕ) where
 
   -- the Satterthwaite call's, from the reader's and the test's
   pub satterthwaite-number-is : satterthwaiteNumber c s ≡ cond (eqb (parameterRefusal s) 0) (cond (outcome c s .refused) 11 0) (parameterRefusal s)
-  unfolding satterthwaiteNumber satterthwaiteReasons satterthwaiteTestReasons parameterRefusal parameterReasons lengthReasons formReasons parameterValueReasons first
+  unfolding satterthwaiteNumber satterthwaiteReasons satterthwaiteTestReasons parameterRefusal parameterReasons lengthReasons orderReasons formReasons parameterValueReasons first
   satterthwaite-number-is = first-append (parameterReasons s) (satterthwaiteTestReasons c s) refl
 
   pub satterthwaite-returned-is : (answer : List ℕ) → satterthwaiteReturned c s answer ≡ cond (eqb (length answer) 24) (satterthwaiteNumber c s) 1

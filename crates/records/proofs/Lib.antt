@@ -8,5 +8,6 @@ pub mod AcceptedSeries
 pub mod AcceptedParameters
 pub mod CallLaws
 pub mod Precisely
+pub mod SortedLaws
 pub mod Examples
 pub mod CallExamples

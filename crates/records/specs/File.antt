@@ -1,4 +1,4 @@
--- Document 01: "Input: 16-byte records, no header, in any order. Byte 0 kind; 1 row; 2 column; 3 zero; 4–7 count (little-endian); 8–15 f64 bits, little-endian."
+-- Document 01: "Input: 16-byte records, no header, in any order. Byte 0 kind; 1 row; 2 column; 3 zero; 4–7 count (little-endian); 8–15 f64 bits, little-endian." The order that document 02 asks of them is Order.antt's.
 -- The records of a file s, a list of bytes: record i stands at bytes 16 i to 16 i + 15. t is a table of the kinds that a call reads.
 use Prim.Native.Nat.{ℕ, _+_, _*_, _/_, _%_}
 use mathlib.Core.Bool.{Bool, not, _&&_, _||_, cond}

@@ -35,7 +35,7 @@ module _ (c : Cutoffs) (s : List ℕ) where
 
 -- ---- the call, with the limit of specimens w
 module _ (w : ℕ) (c : Cutoffs) (s : List ℕ) where
-  -- what refuses a file, in document 01's order: the reader's reasons, then the adjustment's 9, 10, 10 and 4, then the tests'
+  -- what refuses a file, in the documents' order: the reader's reasons, then the adjustment's 9, 10, 10 and 4, then the tests'
   unfoldable pub allReasons : List (ℕ × Bool)
   allReasons = reasons w s ++ (adjustmentReasons c (design s) (phi s) (sigma2 s) ++ testReasons c s)
 

@@ -12,4 +12,5 @@ pub mod Layout
 pub mod KenwardRogerCall
 pub mod SatterthwaiteCall
 pub mod Text
+pub mod AnyOrder
 pub mod Bench

@@ -3,7 +3,7 @@
 -- and the value bytes never do.
 use Prim.Native.Nat.{ℕ, _+_, _-_}
 use mathlib.Core.Bool.{Bool, not, _&&_, _||_, cond}
-use mathlib.Core.List.{List}
+use mathlib.Core.List.{List, [], _∷_}
 use lib.Dec.{eqb, ltb}
 use Rattle.records.specs.Scan.{any}
 use Rattle.records.specs.File.{count, kindOf, rowOf, columnOf, countOf}
@@ -27,3 +27,7 @@ standsBefore s i j = thenBy (kindOf s i) (kindOf s j) (thenBy (matrixOf s i) (ma
 -- "a file whose neighbouring records don't rise": two that are equal in this order don't
 unfoldable pub falls : List ℕ → Bool
 falls s = any (count s - 1) (λ i. not (standsBefore s i (i + 1)))
+
+-- 12: "It refuses with 12 a file whose neighbouring records don't rise"
+unfoldable pub orderReasons : List ℕ → List (ℕ × Bool)
+orderReasons s = (12, falls s) ∷ []

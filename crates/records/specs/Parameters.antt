@@ -1,5 +1,5 @@
 -- Document 01, "kenward_roger.rs (66 lines) and records": "The Satterthwaite call reads kinds 8, 9, 10, 30 v, 31 Jacobian (count its number, from 0) and 32 A, the last three by row and column, only
--- 10 optional; p comes from β, the parameters from A. Kinds of the other call are bad." What a file of this call says, and the refusals 2 and 4.
+-- 10 optional; p comes from β, the parameters from A. Kinds of the other call are bad." What a file of this call says, and the refusals 2, 12 and 4.
 use Prim.Native.Nat.{ℕ, max}
 use mathlib.Core.Bool.{Bool, false}
 use mathlib.Core.List.{List, [], _∷_, _++_}
@@ -13,6 +13,7 @@ use Rattle.records.specs.declared.Sizes.{Sizes}
 use Rattle.records.specs.Scan.{any}
 use Rattle.records.specs.Kinds.{Table, satterthwaiteKinds, satterthwaite}
 use Rattle.records.specs.File.{count, cell, rows, columns, present, notFinite, lengthReasons, formReasons}
+use Rattle.records.specs.Order.{orderReasons}
 use Rattle.tests.specs.Satterthwaite.{Inputs}
 
 -- There is a coefficient, a contrast row and a parameter: a file without misses its first cell.
@@ -43,12 +44,20 @@ sizes s = record {
 abbrev pub kinds : List ℕ → Table
 kinds s = satterthwaiteKinds (sizes s)
 
--- what refuses a file before anything is computed, in order: its length and form, its values
+-- what refuses a file before anything is computed, in order: its length, its form, its values
 unfoldable pub valueReasons : List ℕ → List (ℕ × Bool)
 valueReasons s = (4, any (count s) (notFinite s)) ∷ []
 
+abbrev pub contentReasons : List ℕ → List (ℕ × Bool)
+contentReasons s = formReasons satterthwaite (kinds s) s ++ valueReasons s
+
+-- document 01's list, for records "in any order"
+unfoldable pub anyOrderReasons : List ℕ → List (ℕ × Bool)
+anyOrderReasons s = lengthReasons s ++ contentReasons s
+
+-- document 02's: the order is "checked directly after the multiple-of-16 test of 2 and before 2's other reasons"
 unfoldable pub reasons : List ℕ → List (ℕ × Bool)
-reasons s = lengthReasons s ++ (formReasons satterthwaite (kinds s) s ++ valueReasons s)
+reasons s = lengthReasons s ++ (orderReasons s ++ contentReasons s)
 
 unfoldable pub refusal : List ℕ → ℕ
 refusal s = first (reasons s)

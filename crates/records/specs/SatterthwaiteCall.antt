@@ -21,7 +21,7 @@ module _ (c : Cutoffs) (s : List ℕ) where
   unfoldable pub testReasons : List (ℕ × Bool)
   testReasons = (11, outcome .refused) ∷ []
 
-  -- the refusals are 1, 2, 4 and 11
+  -- the refusals are 1, 2, 12, 4 and 11
   unfoldable pub allReasons : List (ℕ × Bool)
   allReasons = reasons s ++ testReasons
 

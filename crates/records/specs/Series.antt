@@ -1,4 +1,4 @@
--- Document 01, "kenward_roger.rs (66 lines) and records" and "Refusals": a Kenward–Roger series as its file gives it, and the refusals 2 to 8, which come before any computing.
+-- Document 01, "kenward_roger.rs (66 lines) and records" and "Refusals": a Kenward–Roger series as its file gives it, and the refusals 2, 12 and 3 to 8, which come before any computing.
 use Prim.Native.Nat.{ℕ, _+_, _*_, max}
 use mathlib.Core.Bool.{Bool, not, _&&_, _||_, cond}
 use mathlib.Core.List.{List, [], _∷_, _++_}
@@ -15,6 +15,7 @@ use Rattle.records.specs.declared.Sizes.{Sizes}
 use Rattle.records.specs.Scan.{any, last, total}
 use Rattle.records.specs.Kinds.{Table, kenwardRogerKinds, kenwardRoger}
 use Rattle.records.specs.File.{count, columnOf, countOf, isCell, cell, rows, columns, present, notFinite, lengthReasons, formReasons}
+use Rattle.records.specs.Order.{orderReasons}
 
 -- "n and p come from the largest X indices; Z columns, blocks, thetas and contrast rows from their own kind." A series has a specimen and a coefficient: a file with no X misses its
 -- first cell.
@@ -93,7 +94,7 @@ misfit s =
 unfoldable pub zeroContrast : List ℕ → Bool
 zeroContrast s = present s 9 && not (any (contrastRows s) (λ r. any (coefficients s) (λ c. not (isZero (cellValue s 9 r c)))))
 
--- "Refusals, lowest number first": what refuses a file before anything is computed, in order: its length and form, its sizes, its values. w is the limit of specimens.
+-- "Refusals, lowest number first": what refuses a file before anything is computed, in order: its length, its form, its sizes, its values. w is the limit of specimens.
 unfoldable pub sizeReasons : List ℕ → List (ℕ × Bool)
 sizeReasons s = (3, badSize s) ∷ []
 
@@ -106,8 +107,16 @@ valueReasons s =
     ∷ (8, zeroContrast s)
     ∷ []
 
+abbrev pub contentReasons : ℕ → List ℕ → List (ℕ × Bool)
+contentReasons w s = formReasons (kenwardRoger w) (kinds s) s ++ (sizeReasons s ++ valueReasons s)
+
+-- document 01's list, for records "in any order"
+unfoldable pub anyOrderReasons : ℕ → List ℕ → List (ℕ × Bool)
+anyOrderReasons w s = lengthReasons s ++ contentReasons w s
+
+-- document 02's: the order is "checked directly after the multiple-of-16 test of 2 and before 2's other reasons"
 unfoldable pub reasons : ℕ → List ℕ → List (ℕ × Bool)
-reasons w s = lengthReasons s ++ (formReasons (kenwardRoger w) (kinds s) s ++ (sizeReasons s ++ valueReasons s))
+reasons w s = lengthReasons s ++ (orderReasons s ++ contentReasons w s)
 
 unfoldable pub refusal : ℕ → List ℕ → ℕ
 refusal w s = first (reasons w s)

@@ -5,16 +5,25 @@ ghost use lib.ListN.{length};
 ghost use lib.Seq.{sets};
 ghost use Rattle.arithmetic_cutoffs.specs.Cutoffs.{documentCutoffs};
 ghost use Rattle.records.specs.Text.{textOf};
-ghost use Rattle.records_arrived.specs.joints.ArrivedCall.{unkept, arrivedNumber, arrivedEntries};
+ghost use Rattle.records_arrived.specs.joints.ArrivedCall.{unkeptNumber, arrivedNumber, arrivedEntries};
 use records_answer_text::put_run;
 use records_pieces::Arrival;
 use tests_entries::no_entry;
 
-// Bytes after the last whole record, or more records than are kept: refused whatever is kept.
-fn unkept(a: Arrival) -> bool
-    ensures { λ r. ⌜ r ≡ unkept a ⌝ }
+// The number of a file that is refused whatever is kept: 2 of bytes after the last whole record, 12 of records that do not rise, 2 of more records than are kept; 0 of any other.
+fn unkept_number(a: Arrival) -> u32
+    ensures { λ r. ⌜ r ≡ unkeptNumber a ⌝ }
 {
-    (a.part != 0) | a.longer
+    if a.part != 0 {
+        return 2;
+    }
+    if a.fell {
+        return 12;
+    }
+    if a.longer {
+        return 2;
+    }
+    0
 }
 
 // Its text from the front of `out`, whose other bytes stay, and the text's length.
@@ -23,8 +32,9 @@ pub fn text_arrived(a: Arrival, kept: &[u8], out: &mut [u8; 512]) -> usize
     ensures { λ r. ⌜ (r ≡ length (textOf (arrivedNumber documentCutoffs a (now (kept .entry))) (arrivedEntries documentCutoffs a (now (kept .entry))))) × (r ≤ 512) ⌝ }
     ensures { λ r. ⌜ now (out .exit) ≡ sets (now (out .entry)) 0 (textOf (arrivedNumber documentCutoffs a (now (kept .entry))) (arrivedEntries documentCutoffs a (now (kept .entry)))) ⌝ }
 {
-    if unkept(a) {
-        return put_run(out, 0, 2, [no_entry(); 7]);
+    let number = unkept_number(a);
+    if number != 0 {
+        return put_run(out, 0, number, [no_entry(); 7]);
     }
     let end = 16 * a.records;
     records_kenward_roger::text(&kept[..end], out)

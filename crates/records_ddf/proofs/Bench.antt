@@ -32,6 +32,7 @@ use Rattle.records.specs.Scan.{any, most, last}
 use Rattle.records.specs.Kinds.{kindAt, holds, width, indexOf, valueHolds, satterthwaiteKinds, limits}
 use Rattle.records.specs.File.{outOf, badRecord, isCell, again, has, cell as fileCell, rows, columns, beyond, missing, notFinite, lengthReasons, formReasons}
 use Rattle.records.specs.Written.{recordOf}
+use Rattle.records.specs.Order.{numbersMatrix, matrixOf, standsBefore, falls, orderReasons}
 use Rattle.records.specs.Parameters.{sizes, valueReasons, reasons, refusal, jacobians, inputs}
 use Rattle.records.specs.SatterthwaiteCall.{outcome, number, entry, returned, written}
 use Rattle.records.proofs.CallLaws.{satterthwaite-returned-is}
@@ -46,23 +47,30 @@ fourBits = 0x4010000000000000
 abbrev halfBits : ℕ
 halfBits = 0x3fe0000000000000
 
--- the cells (0,0), (0,1), (1,0) and (1,1) of a kind
-abbrev square : ℕ → ℕ → ℕ → ℕ → ℕ → List ℕ
-square k a b c d = recordOf k 0 0 0 a ++ (recordOf k 0 1 0 b ++ (recordOf k 1 0 0 c ++ recordOf k 1 1 0 d))
+-- the cells (r,0) and (r,1) of a kind, of matrix n; and of (0,0), (0,1), (1,0) and (1,1)
+abbrev cellsOfRow : ℕ → ℕ → ℕ → ℕ → ℕ → List ℕ
+cellsOfRow k n r a b = recordOf k r 0 n a ++ recordOf k r 1 n b
 
--- β (4,1), L identity, v = diag of two numbers, one Jacobian equal to v, A of one cell
-abbrev pub fileOf : ℕ → ℕ → ℕ → List ℕ
-fileOf x y a =
+abbrev square : ℕ → ℕ → ℕ → ℕ → ℕ → ℕ → List ℕ
+square k n a b c d = cellsOfRow k n 0 a b ++ cellsOfRow k n 1 c d
+
+-- β (4,1), L identity, then this hypothesis; v = diag of two numbers, then these Jacobians and this A
+abbrev pub fileOf : List ℕ → ℕ → ℕ → List ℕ → List ℕ
+fileOf hypothesis x y parameters =
     recordOf 8 0 0 0 fourBits
-    ++ (recordOf 8 1 0 0 oneBits ++ (square 9 oneBits 0 0 oneBits ++ (square 30 x 0 0 y ++ (square 31 x 0 0 y ++ recordOf 32 0 0 0 a))))
+    ++ (recordOf 8 1 0 0 oneBits ++ (square 9 0 oneBits 0 0 oneBits ++ (hypothesis ++ (square 30 0 x 0 0 y ++ parameters))))
+
+-- one Jacobian equal to v, A of one cell
+abbrev pub oneParameter : ℕ → ℕ → ℕ → List ℕ
+oneParameter x y a = square 31 0 x 0 0 y ++ recordOf 32 0 0 0 a
 
 -- v = diag(4,1), A 0.5
 abbrev pub fileI : List ℕ
-fileI = fileOf fourBits oneBits halfBits
+fileI = fileOf [] fourBits oneBits (oneParameter fourBits oneBits halfBits)
 
 -- refusal 11's example: V = diag(1,0)
 abbrev pub fileEleven : List ℕ
-fileEleven = fileOf oneBits 0 halfBits
+fileEleven = fileOf [] oneBits 0 (oneParameter oneBits 0 halfBits)
 
 -- ---- what it sends
 abbrev four : Float
@@ -102,7 +110,7 @@ unfolding inputs jacobians sizes rows columns most fileCell last isCell kindAt i
 file-sends = (refl, refl)
 
 pub file-taken : (refusal fileI ≡ 0) × (refusal fileEleven ≡ 0)
-unfolding refusal reasons lengthReasons formReasons valueReasons first sizes outOf badRecord isCell again has fileCell rows columns beyond missing notFinite kindAt holds width indexOf valueHolds satterthwaiteKinds limits any most last word long bytesOf isFinite isZero ofBits le eq
+unfolding refusal reasons lengthReasons orderReasons falls standsBefore matrixOf numbersMatrix formReasons valueReasons first sizes outOf badRecord isCell again has fileCell rows columns beyond missing notFinite kindAt holds width indexOf valueHolds satterthwaiteKinds limits any most last word long bytesOf isFinite isZero ofBits le eq
 file-taken = (refl, refl)
 
 -- the test
@@ -137,26 +145,36 @@ eleven-file = ap (λ (i : Inputs). satterthwaite marks documentCutoffs i .refuse
 pub record Refused : Type 0 where
   -- 1: 23 lent bytes
   pub short : returned documentCutoffs fileI (replicate 23 0) ≡ 1
-  -- 2: no records; X, a kind of the other call; A twice; β_H of one row where there are two coefficients; two parameters and one Jacobian
+  -- 2: no records; X, a kind of the other call; β_H of one row where there are two coefficients; two parameters and one Jacobian
   pub empty : refusal [] ≡ 2
-  pub otherCall : refusal (fileI ++ recordOf 1 0 0 0 oneBits) ≡ 2
-  pub twice : refusal (fileI ++ recordOf 32 0 0 0 halfBits) ≡ 2
-  pub partly : refusal (fileI ++ recordOf 10 0 0 0 oneBits) ≡ 2
-  pub oneJacobian : refusal (fileI ++ (recordOf 32 0 1 0 0 ++ (recordOf 32 1 0 0 0 ++ recordOf 32 1 1 0 oneBits))) ≡ 2
+  pub otherCall : refusal (recordOf 1 0 0 0 oneBits ++ fileI) ≡ 2
+  pub partly : refusal (fileOf (recordOf 10 0 0 0 oneBits) fourBits oneBits (oneParameter fourBits oneBits halfBits)) ≡ 2
+  pub oneJacobian : refusal (fileI ++ (recordOf 32 0 1 0 0 ++ cellsOfRow 32 0 1 0 oneBits)) ≡ 2
+  -- 12: A twice; two Jacobians row by row, which are taken one after the other
+  pub twice : refusal (fileI ++ recordOf 32 0 0 0 halfBits) ≡ 12
+  pub byRow : refusal (fileOf [] fourBits oneBits (cellsOfRow 31 0 0 oneBits 0 ++ (cellsOfRow 31 1 0 oneBits 0 ++ (cellsOfRow 31 0 1 0 oneBits ++ (cellsOfRow 31 1 1 0 oneBits ++ square 32 0 oneBits 0 0 oneBits))))) ≡ 12
+  pub byCount : refusal (fileOf [] fourBits oneBits (square 31 0 oneBits 0 0 oneBits ++ (square 31 1 oneBits 0 0 oneBits ++ square 32 0 oneBits 0 0 oneBits))) ≡ 0
+  -- 12 after the length's 2 and before the form's
+  pub afterLength : refusal (fileI ++ (recordOf 8 0 0 0 oneBits ++ (0 ∷ []))) ≡ 2
+  pub beforeForm : refusal (fileI ++ recordOf 1 0 0 0 oneBits) ≡ 12
   -- 4: A infinite
-  pub infinite : refusal (fileOf fourBits oneBits 0x7ff0000000000000) ≡ 4
+  pub infinite : refusal (fileOf [] fourBits oneBits (oneParameter fourBits oneBits 0x7ff0000000000000)) ≡ 4
   -- 11: V = diag(1,0), L identity
   pub eleven : number documentCutoffs fileEleven ≡ 11
 
 pub refused : Refused
-unfolding refusal reasons lengthReasons formReasons valueReasons first sizes outOf badRecord isCell again has fileCell rows columns beyond missing notFinite kindAt holds width indexOf valueHolds satterthwaiteKinds limits any most last word long bytesOf isFinite isZero ofBits le eq
+unfolding refusal reasons lengthReasons orderReasons falls standsBefore matrixOf numbersMatrix formReasons valueReasons first sizes outOf badRecord isCell again has fileCell rows columns beyond missing notFinite kindAt holds width indexOf valueHolds satterthwaiteKinds limits any most last word long bytesOf isFinite isZero ofBits le eq
 refused = record {
   short = sym (other-length documentCutoffs fileI (replicate 23 0) (λ e. absurd (omega arith)) .0);
   empty = refl;
   otherCall = refl;
-  twice = refl;
   partly = refl;
   oneJacobian = refl;
+  twice = refl;
+  byRow = refl;
+  byCount = refl;
+  afterLength = refl;
+  beforeForm = refl;
   infinite = refl;
   eleven = sym (judged-late documentCutoffs fileEleven noEntry (file-taken .1) eleven-file refl .1);
 }

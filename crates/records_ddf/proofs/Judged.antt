@@ -1,4 +1,4 @@
--- What the numbers say: of a file's form and values, of a file that is not refused, of the number with the test's own refusal, and of the lent bytes.
+-- What the numbers say: of a file's length, order, form and values, of a file that is not refused, of the number with the test's own refusal, and of the lent bytes.
 use Prim.Native.Nat.{ℕ, _≤_}
 use mathlib.Core.Path.{_≡_, refl, ap, sym, _∙_, subst}
 use mathlib.Core.Bool.{Bool, true, false, cond}
@@ -19,6 +19,7 @@ use Rattle.records.specs.Scan.{any, total}
 use Rattle.records.specs.Kinds.{width, kindAt, kindsOf, kindNumbers, satterthwaiteKinds, satterthwaite, limits}
 use Rattle.records.specs.Cells.{slots, firstSlot, slotCount}
 use Rattle.records.specs.File.{count, beyond, notFinite, lengthReasons, formReasons}
+use Rattle.records.specs.Order.{orderReasons}
 use Rattle.records.specs.Parameters.{contrastRows, sizes, kinds, valueReasons, reasons, refusal}
 use Rattle.records.specs.SatterthwaiteCall.{outcome, number, entry, returned, written}
 use Rattle.records.proofs.Limits.{Below, parameters-below, fewer-slots}
@@ -29,24 +30,25 @@ use Rattle.records_little_endian.proofs.StoreLaws.{sets-all}
 use Rattle.records_sheet.specs.joints.Sheet.{Small}
 use Rattle.records_sheet.proofs.Sheets.{below-small}
 use Rattle.records_sizes.specs.joints.Gathered.{sizesOf, tableOf}
+use Rattle.records_form.proofs.FormLaws.{rawNumberBy}
 
 -- ---- the refusals before anything is computed
--- as the reader of either call counts a file's form: this is call 1, in which specimens are of no account
-abbrev pub formNumber : List ℕ → ℕ
-formNumber s = first (lengthReasons s ++ formReasons (kindsOf 1 (limits 1)) (tableOf 1 s) s)
+-- by its length, order and form, as the reader of either call counts them: this is call 1, in which specimens are of no account
+abbrev pub rawNumber : List ℕ → ℕ
+rawNumber s = rawNumberBy (kindsOf 1 (limits 1)) (tableOf 1 s) s
 
 module _ (s : List ℕ) where
-  refusal-is : refusal s ≡ cond (eqb (formNumber s) 0) (cond (any (count s) (notFinite s)) 4 0) (formNumber s)
-  unfolding refusal reasons lengthReasons formReasons valueReasons first kindsOf satterthwaiteKinds limits sizesOf
-  refusal-is = first-append (lengthReasons s ++ formReasons satterthwaite (kinds s) s) (valueReasons s) refl
+  refusal-is : refusal s ≡ cond (eqb (rawNumber s) 0) (cond (any (count s) (notFinite s)) 4 0) (rawNumber s)
+  unfolding refusal reasons lengthReasons orderReasons formReasons valueReasons first kindsOf satterthwaiteKinds limits sizesOf
+  refusal-is = first-append (lengthReasons s ++ (orderReasons s ++ formReasons satterthwaite (kinds s) s)) (valueReasons s) refl
 
-  pub form-refused : (n : ℕ) → n ≡ formNumber s → (n ≡ 0 → ⊥) → n ≡ refusal s
-  form-refused n e h = sym (refusal-is ∙ rw (← e, ne-eqb n 0 h))
+  pub file-refused : (n : ℕ) → n ≡ rawNumber s → (n ≡ 0 → ⊥) → n ≡ refusal s
+  file-refused n e h = sym (refusal-is ∙ rw (← e, ne-eqb n 0 h))
 
-  pub value-refused : formNumber s ≡ 0 → any (count s) (notFinite s) ≡ true → 4 ≡ refusal s
+  pub value-refused : rawNumber s ≡ 0 → any (count s) (notFinite s) ≡ true → 4 ≡ refusal s
   value-refused e h = sym (refusal-is ∙ rw (e, h))
 
-  pub reader-accepts : formNumber s ≡ 0 → any (count s) (notFinite s) ≡ false → 0 ≡ refusal s
+  pub reader-accepts : rawNumber s ≡ 0 → any (count s) (notFinite s) ≡ false → 0 ≡ refusal s
   reader-accepts e h = sym (refusal-is ∙ rw (e, h))
 
 -- the limits leave the kinds this many cells

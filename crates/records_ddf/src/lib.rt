@@ -33,7 +33,7 @@ fn refusal(s: &[u8], flags: &mut [bool], sheet: &mut [f64]) -> u32
     ensures { λ r. ⌜ r ≡ refusal (now (s .entry)) ⌝ }
     ensures { λ r. ⌜ (r ≡ 0 → now (sheet .exit) ≡ sheetAfter (length (now (sheet .entry))) (kinds (now (s .entry))) (now (s .entry)) (count (now (s .entry)))) ⌝ }
 {
-    let formed = records_form::form_refusal(1, 1, s, flags);
+    let formed = records_form::file_refusal(1, 1, s, flags);
     if formed != 0 {
         return formed;
     }

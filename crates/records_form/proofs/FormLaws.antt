@@ -1,4 +1,4 @@
--- The number of a file's form, by which of its conditions holds; and the sizes of a file with no bad record, for either call.
+-- The number of a file's form and of the file, by which of their conditions holds; and the sizes of a file with no bad record, for either call.
 use Prim.Native.Nat.{ℕ, _%_, _≤_}
 use native.Mathlib.Omega.{arith}
 use mathlib.Core.Path.{_≡_, refl, sym, _∙_}
@@ -12,6 +12,7 @@ use Rattle.records.specs.Scan.{any}
 use Rattle.records.specs.Kinds.{Table, kindsOf, kindNumbers, kenwardRogerKinds, satterthwaiteKinds, limits}
 use Rattle.records.specs.Cells.{slotCount}
 use Rattle.records.specs.File.{count, badRecord, again, missing, beyond, lengthReasons, formReasons}
+use Rattle.records.specs.Order.{falls, orderReasons}
 use Rattle.records.specs.Series.{sizes as seriesSizes}
 use Rattle.records.specs.Parameters.{sizes as parameterSizes}
 use Rattle.records.proofs.Limits.{Below, series-below, parameters-below, fewer-slots}
@@ -19,39 +20,39 @@ use Rattle.records_sizes.specs.joints.Gathered.{sizesOf}
 use Rattle.records_sheet.specs.joints.Sheet.{Small}
 use Rattle.records_sheet.proofs.Sheets.{below-small}
 
--- ---- five conditions with one number
-five : (a b c d e : Bool) → first ((2, a) ∷ (2, b) ∷ (2, c) ∷ (2, d) ∷ (2, e) ∷ []) ≡ cond a 2 (cond b 2 (cond c 2 (cond d 2 (cond e 2 0))))
+-- ---- four conditions with one number
+four : (a b c d : Bool) → first ((2, a) ∷ (2, b) ∷ (2, c) ∷ (2, d) ∷ []) ≡ cond a 2 (cond b 2 (cond c 2 (cond d 2 0)))
 unfolding first
-five a b c d e = refl
+four a b c d = refl
 
 module _ (limit sized : Table) (s : List ℕ) where
   abbrev formNumber : ℕ
-  formNumber = first (lengthReasons s ++ formReasons limit sized s)
+  formNumber = first (formReasons limit sized s)
 
-  cases : formNumber ≡ cond (not (eqb (length s % 16) 0)) 2 (cond (any (count s) (badRecord limit s)) 2 (cond (any (count s) (again sized s)) 2 (cond (any kindNumbers (missing sized s)) 2 (cond (any (count s) (beyond sized s)) 2 0))))
-  unfolding lengthReasons formReasons
-  cases = five _ _ _ _ _
-
-  pub odd-length : (length s % 16 ≡ 0 → ⊥) → 2 ≡ formNumber
-  odd-length h = sym (cases ∙ rw (ne-eqb (length s % 16) 0 h))
+  cases : formNumber ≡ cond (any (count s) (badRecord limit s)) 2 (cond (any (count s) (again sized s)) 2 (cond (any kindNumbers (missing sized s)) 2 (cond (any (count s) (beyond sized s)) 2 0)))
+  unfolding formReasons
+  cases = four _ _ _ _
 
   pub bad-record : any (count s) (badRecord limit s) ≡ true → 2 ≡ formNumber
-  bad-record h = sym (cases ∙ go (not (eqb (length s % 16) 0)))
-    where
-      go : (a : Bool) → _≡_ {A = ℕ} (cond a 2 (cond (any (count s) (badRecord limit s)) 2 (cond (any (count s) (again sized s)) 2 (cond (any kindNumbers (missing sized s)) 2 (cond (any (count s) (beyond sized s)) 2 0))))) 2
-      go true = refl
-      go false = rw h
+  bad-record h = sym (cases ∙ rw h)
 
   pub cell-again : any (count s) (again sized s) ≡ true → 2 ≡ formNumber
-  cell-again h = sym (cases ∙ rw h (go (not (eqb (length s % 16) 0)) (any (count s) (badRecord limit s))))
+  cell-again h = sym (cases ∙ rw h (go (any (count s) (badRecord limit s))))
+    where
+      go : (a : Bool) → _≡_ {A = ℕ} (cond a 2 2) 2
+      go true = refl
+      go false = refl
+
+  pub cell-missing : any kindNumbers (missing sized s) ≡ true → 2 ≡ formNumber
+  cell-missing h = sym (cases ∙ rw h (go (any (count s) (badRecord limit s)) (any (count s) (again sized s))))
     where
       go : (a b : Bool) → _≡_ {A = ℕ} (cond a 2 (cond b 2 2)) 2
       go true b = refl
       go false true = refl
       go false false = refl
 
-  pub cell-missing : any kindNumbers (missing sized s) ≡ true → 2 ≡ formNumber
-  cell-missing h = sym (cases ∙ rw h (go (not (eqb (length s % 16) 0)) (any (count s) (badRecord limit s)) (any (count s) (again sized s))))
+  pub cell-beyond : any (count s) (beyond sized s) ≡ true → 2 ≡ formNumber
+  cell-beyond h = sym (cases ∙ rw h (go (any (count s) (badRecord limit s)) (any (count s) (again sized s)) (any kindNumbers (missing sized s))))
     where
       go : (a b c : Bool) → _≡_ {A = ℕ} (cond a 2 (cond b 2 (cond c 2 2))) 2
       go true b c = refl
@@ -59,18 +60,25 @@ module _ (limit sized : Table) (s : List ℕ) where
       go false false true = refl
       go false false false = refl
 
-  pub cell-beyond : any (count s) (beyond sized s) ≡ true → 2 ≡ formNumber
-  cell-beyond h = sym (cases ∙ rw h (go (not (eqb (length s % 16) 0)) (any (count s) (badRecord limit s)) (any (count s) (again sized s)) (any kindNumbers (missing sized s))))
-    where
-      go : (a b c d : Bool) → _≡_ {A = ℕ} (cond a 2 (cond b 2 (cond c 2 (cond d 2 2)))) 2
-      go true b c d = refl
-      go false true c d = refl
-      go false false true d = refl
-      go false false false true = refl
-      go false false false false = refl
+  pub well-formed : any (count s) (badRecord limit s) ≡ false → any (count s) (again sized s) ≡ false → any kindNumbers (missing sized s) ≡ false → any (count s) (beyond sized s) ≡ false → 0 ≡ formNumber
+  well-formed a b c d = sym (cases ∙ rw (a, b, c, d))
 
-  pub well-formed : length s % 16 ≡ 0 → any (count s) (badRecord limit s) ≡ false → any (count s) (again sized s) ≡ false → any kindNumbers (missing sized s) ≡ false → any (count s) (beyond sized s) ≡ false → 0 ≡ formNumber
-  well-formed a b c d e = sym (cases ∙ rw (eq-eqb (length s % 16) 0 a, b, c, d, e))
+  -- ---- with the length and the order before it
+  abbrev pub rawNumberBy : ℕ
+  rawNumberBy = first (lengthReasons s ++ (orderReasons s ++ formReasons limit sized s))
+
+  pub odd-length : (length s % 16 ≡ 0 → ⊥) → 2 ≡ rawNumberBy
+  unfolding lengthReasons first
+  odd-length h = rw (ne-eqb (length s % 16) 0 h)
+
+  module _ (whole : length s % 16 ≡ 0) where
+    pub file-falls : falls s ≡ true → 12 ≡ rawNumberBy
+    unfolding lengthReasons orderReasons first
+    file-falls h = rw (eq-eqb (length s % 16) 0 whole, h)
+
+    pub file-rises : falls s ≡ false → formNumber ≡ rawNumberBy
+    unfolding lengthReasons orderReasons first
+    file-rises h = rw (eq-eqb (length s % 16) 0 whole, h)
 
 -- ---- the sizes of a file with no bad record are below the limits
 module _ (call w : ℕ) (some : 1 ≤ w) (s : List ℕ) (good : any (count s) (badRecord (kindsOf call (limits w)) s) ≡ false) where

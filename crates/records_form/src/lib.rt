@@ -1,4 +1,5 @@
-// Whether a file is a set of records that its call reads: a length, a kind, an unused field, an index, a cell twice, missing or beyond the sizes. Call 0 is Kenward and Roger's, any other Satterthwaite's.
+// Whether a file is a rising list of records that its call reads: a length, the order, a kind, an unused field, an index, a cell twice, missing or beyond the sizes. Call 0 is Kenward and Roger's, any other
+// Satterthwaite's.
 ghost use mathlib.Core.Path.{_≡_};
 ghost use mathlib.Core.Bool.{false};
 ghost use mathlib.Core.List.{_++_};
@@ -8,6 +9,7 @@ ghost use Rattle.algebra.specs.Reasons.{first};
 ghost use Rattle.records.specs.Kinds.{kindsOf, limits};
 ghost use Rattle.records.specs.Cells.{slotCount};
 ghost use Rattle.records.specs.File.{lengthReasons, formReasons};
+ghost use Rattle.records.specs.Order.{orderReasons};
 ghost use Rattle.records_sizes.specs.joints.Gathered.{tableOf};
 use records_limits::any_bad;
 use records_limits::any_beyond;
@@ -15,14 +17,11 @@ use records_sheet::any_missing;
 use records_sheet::first_slots;
 use records_sheet::mark_cells;
 
-// The number 2 of a file that is no such set, with the limit of specimens w; 0 of any other. The lent flags are all clear at first.
-pub fn form_refusal(call: usize, w: usize, s: &[u8], flags: &mut [bool]) -> u32
+// The number 2 of records that its call does not read, whatever their order, with the limit of specimens w; 0 of any other. The lent flags are all clear at first.
+fn form_refusal(call: usize, w: usize, s: &[u8], flags: &mut [bool]) -> u32
     requires { ⌜ (1 ≤ w) × (w ≤ 256) × (now flags ≡ replicate (length (now flags)) false) × (slotCount (kindsOf call (limits w)) ≤ length (now flags)) ⌝ }
-    ensures { λ r. ⌜ r ≡ first (lengthReasons (now (s .entry)) ++ formReasons (kindsOf call (limits w)) (tableOf call (now (s .entry))) (now (s .entry))) ⌝ }
+    ensures { λ r. ⌜ r ≡ first (formReasons (kindsOf call (limits w)) (tableOf call (now (s .entry))) (now (s .entry))) ⌝ }
 {
-    if s.len() % 16 != 0 {
-        return 2;
-    }
     if any_bad(call, records_kinds::limits(w), s) {
         return 2;
     }
@@ -38,4 +37,18 @@ pub fn form_refusal(call: usize, w: usize, s: &[u8], flags: &mut [bool]) -> u32
         return 2;
     }
     0
+}
+
+// The number of a file by its length, its order and its form: 2, 12 and 2; 0 where none of them refuses it.
+pub fn file_refusal(call: usize, w: usize, s: &[u8], flags: &mut [bool]) -> u32
+    requires { ⌜ (1 ≤ w) × (w ≤ 256) × (now flags ≡ replicate (length (now flags)) false) × (slotCount (kindsOf call (limits w)) ≤ length (now flags)) ⌝ }
+    ensures { λ r. ⌜ r ≡ first (lengthReasons (now (s .entry)) ++ (orderReasons (now (s .entry)) ++ formReasons (kindsOf call (limits w)) (tableOf call (now (s .entry))) (now (s .entry)))) ⌝ }
+{
+    if s.len() % 16 != 0 {
+        return 2;
+    }
+    if records_order::falls(s) {
+        return 12;
+    }
+    form_refusal(call, w, s, flags)
 }

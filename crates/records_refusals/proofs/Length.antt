@@ -1,4 +1,4 @@
--- A file that is longer than every cell's record together is refused with 2, so a program may read into a buffer that holds one byte more.
+-- A file that rises and is longer than every cell's record together is refused with 2, so that of longer files a program need keep no more than whether they fall.
 use Prim.Native.Nat.{ℕ, _*_, _<_, _≤_}
 use native.Mathlib.Omega.{arith}
 use mathlib.Core.Path.{_≡_, refl, sym, _∙_}
@@ -13,6 +13,7 @@ use Rattle.records.specs.Scan.{any}
 use Rattle.records.specs.Kinds.{Table, kindsOf, kenwardRoger}
 use Rattle.records.specs.Cells.{slotCount}
 use Rattle.records.specs.File.{count, kindOf, cellRow, cellColumn, cellCount, isCell, again, beyond, lengthReasons, formReasons}
+use Rattle.records.specs.Order.{falls, orderReasons}
 use Rattle.records.specs.Series.{sizes, refusal}
 use Rattle.records.proofs.ScanLaws.{any-none}
 use Rattle.records.proofs.Slots.{sized-inside, slot-cell}
@@ -21,7 +22,7 @@ use Rattle.records_sheet.specs.joints.Sheet.{slotOf}
 use Rattle.records_sheet.proofs.Sheets.{slot-of-fits}
 use Rattle.records_form.proofs.FormLaws.{sizes-fit}
 use Rattle.records_series.proofs.Pigeons.{pigeons}
-use Rattle.records_refusals.proofs.RefusalLaws.{formNumber, formed, refusal-cases}
+use Rattle.records_refusals.proofs.RefusalLaws.{rawNumber, formed, refusal-cases}
 
 -- no record beyond the sizes z of a call and no cell twice: as many records as cells at most
 pub few-records : (call : ℕ) (z : Sizes) (s : List ℕ) → any (count s) (beyond (kindsOf call z) s) ≡ false → any (count s) (again (kindsOf call z) s) ≡ false → count s ≤ slotCount (kindsOf call z)
@@ -48,8 +49,8 @@ few-records call z s within once = pigeons (slotCount t) (count s) (slotOf t s) 
         let c = slot-cell t s (kindOf s j) (cellCount t s j) (cellRow t s j) (cellColumn t s j) i (sized i (omega arith)) (sized-inside t s j (sized j h)) in
         false≢true (sym (none i j l h) ∙ sym c ∙ eq-eqb (slotOf t s i) (slotOf t s j) e)
 
--- what a form refuses it refuses with 2
-two : (a b c d e : Bool) → (first ((2, a) ∷ (2, b) ∷ (2, c) ∷ (2, d) ∷ (2, e) ∷ []) ≡ 0 → ⊥) → first ((2, a) ∷ (2, b) ∷ (2, c) ∷ (2, d) ∷ (2, e) ∷ []) ≡ 2
+-- what length and form refuse they refuse with 2
+two : (a b c d e : Bool) → (first ((2, a) ∷ (12, false) ∷ (2, b) ∷ (2, c) ∷ (2, d) ∷ (2, e) ∷ []) ≡ 0 → ⊥) → first ((2, a) ∷ (12, false) ∷ (2, b) ∷ (2, c) ∷ (2, d) ∷ (2, e) ∷ []) ≡ 2
 unfolding first
 two true b c d e h = refl
 two false true c d e h = refl
@@ -58,19 +59,19 @@ two false false false true e h = refl
 two false false false false true h = refl
 two false false false false false h = absurd (h refl)
 
-form-two : (w : ℕ) (s : List ℕ) → (formNumber w s ≡ 0 → ⊥) → formNumber w s ≡ 2
-unfolding lengthReasons formReasons
-form-two w s h = two _ _ _ _ _ h
+raw-two : (w : ℕ) (s : List ℕ) → falls s ≡ false → (rawNumber w s ≡ 0 → ⊥) → rawNumber w s ≡ 2
+unfolding lengthReasons orderReasons formReasons
+raw-two w s r = rw r (two _ _ _ _ _)
 
-pub too-long : (w : ℕ) → 1 ≤ w → (s : List ℕ) → 16 * slotCount (kenwardRoger w) < length s → refusal w s ≡ 2
+pub too-long : (w : ℕ) → 1 ≤ w → (s : List ℕ) → 16 * slotCount (kenwardRoger w) < length s → falls s ≡ false → refusal w s ≡ 2
 unfolding kindsOf sizesOf
-too-long w some s l = refusal-cases w s ∙ go (eqb (formNumber w s) 0) refl _
+too-long w some s l rises = refusal-cases w s ∙ go (eqb (rawNumber w s) 0) refl _
   where
-    go : (b : Bool) → eqb (formNumber w s) 0 ≡ b → (n : ℕ) → cond b n (formNumber w s) ≡ 2
+    go : (b : Bool) → eqb (rawNumber w s) 0 ≡ b → (n : ℕ) → cond b n (rawNumber w s) ≡ 2
     go true e n =
-        let f = formed w s (eqb-true (formNumber w s) 0 e) in
+        let f = formed w s (eqb-true (rawNumber w s) 0 e) in
         let a = few-records 0 (sizes s) s (f .within) (f .once) in
         let b = sizes-fit 0 w some s (f .good) in
         let m = f .whole in
         absurd (omega arith)
-    go false e n = form-two w s (eqb-false (formNumber w s) 0 e)
+    go false e n = raw-two w s rises (eqb-false (rawNumber w s) 0 e)

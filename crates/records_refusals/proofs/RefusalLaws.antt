@@ -1,4 +1,4 @@
--- What the code reads off the sheet of a series is what the file says, and the number of a file by its form and by what comes after it.
+-- What the code reads off the sheet of a series is what the file says, and the number of a file by its length, order and form and by what comes after them.
 use Prim.Native.Nat.{ℕ, _+_, _*_, _%_, _<_, _≤_}
 use native.Mathlib.Omega.{arith}
 use mathlib.Core.Path.{_≡_, refl, sym, ap, _∙_, subst}
@@ -11,7 +11,7 @@ use borrow.Author.Tests.{eqb-true, eq-eqb, ne-eqb, not-false}
 use Rattle.arithmetic.specs.Numbers.{plusZero, isZero}
 use Rattle.algebra.specs.Table.{row}
 use Rattle.algebra.specs.Reasons.{first}
-use Rattle.algebra.proofs.ReasonLaws.{NoneHolds, first-none, first-append}
+use Rattle.algebra.proofs.ReasonLaws.{Line, NoneHolds, first-none, first-append}
 use Rattle.adjustment.specs.declared.Block.{Block}
 use Rattle.adjustment.specs.Blocks.{noBlock}
 use Rattle.records.specs.declared.Sizes.{Sizes}
@@ -19,6 +19,7 @@ use Rattle.records.specs.Scan.{any}
 use Rattle.records.specs.Kinds.{width, Table, kindAt, kindsOf, kenwardRogerKinds, limits, kenwardRoger}
 use Rattle.records.specs.Cells.{firstSlot, slotCount}
 use Rattle.records.specs.File.{count, badRecord, again, beyond, notFinite, present, lengthReasons, formReasons}
+use Rattle.records.specs.Order.{orderReasons}
 use Rattle.records.specs.Series.{specimens, coefficients, blockCount, contrastRows, sizes, kinds, cellValue, sigma2, blockOf, badSize, badWeight, misfit, zeroContrast, sizeReasons, valueReasons, reasons, refusal}
 use Rattle.records.proofs.ScanLaws.{any-same}
 use Rattle.records.proofs.Slots.{any-flat}
@@ -27,7 +28,7 @@ use Rattle.records_sizes.specs.joints.Gathered.{sizesOf, tableOf}
 use Rattle.records_sheet.specs.joints.Sheet.{Small, firstSlots, sheetAfter}
 use Rattle.records_sheet.proofs.Sheets.{firsts-at, ends-within, below-small}
 use Rattle.records_sheet_parts.proofs.Read.{Flat, flat-slots, flat-cell, line-cell, alone-cell}
-use Rattle.records_form.proofs.FormLaws.{sizes-below, sizes-fit}
+use Rattle.records_form.proofs.FormLaws.{rawNumberBy, sizes-below, sizes-fit}
 use Rattle.records_block_limits.specs.joints.Checks.{badSizeIn, misfitIn}
 use Rattle.records_block_limits.proofs.BlockLaws.{size-read, misfit-read}
 use Rattle.records_refusals.specs.joints.Checks.{nonzeros, notPositive, badWeightIn, zeroContrastIn, sheetRefusal}
@@ -115,45 +116,46 @@ module _ (s : List ℕ) (within : any (count s) (beyond (kindsOf 0 (sizes s)) s)
   unfolding sheetRefusal first
   sheet-read few = rw (variance-read, weight-read, misfit-read s few, contrast-read)
 
--- ---- the number of a file, by its form and by what comes after it
-abbrev pub formNumber : ℕ → List ℕ → ℕ
-formNumber w s = first (lengthReasons s ++ formReasons (kindsOf 0 (limits w)) (tableOf 0 s) s)
+-- ---- the number of a file, by its length, order and form, and by what comes after them
+abbrev pub rawNumber : ℕ → List ℕ → ℕ
+rawNumber w s = rawNumberBy (kindsOf 0 (limits w)) (tableOf 0 s) s
 
 abbrev lateNumber : List ℕ → ℕ
 lateNumber s = cond (badSize s) 3 (cond (any (count s) (notFinite s)) 4 (cond (le (sigma2 s) plusZero) 5 (cond (badWeight s) 6 (cond (misfit s) 7 (cond (zeroContrast s) 8 0)))))
 
-pub refusal-cases : (w : ℕ) (s : List ℕ) → refusal w s ≡ cond (eqb (formNumber w s) 0) (lateNumber s) (formNumber w s)
-unfolding refusal reasons lengthReasons formReasons sizeReasons valueReasons first kindsOf sizesOf
-refusal-cases w s = first-append (lengthReasons s ++ formReasons (kenwardRoger w) (kinds s) s) (sizeReasons s ++ valueReasons s) refl
+pub refusal-cases : (w : ℕ) (s : List ℕ) → refusal w s ≡ cond (eqb (rawNumber w s) 0) (lateNumber s) (rawNumber w s)
+unfolding refusal reasons lengthReasons orderReasons formReasons sizeReasons valueReasons first kindsOf sizesOf
+refusal-cases w s = first-append (lengthReasons s ++ (orderReasons s ++ formReasons (kenwardRoger w) (kinds s) s)) (sizeReasons s ++ valueReasons s) refl
 
--- a file that its form does not refuse
+-- a file that none of them refuses
 pub record Formed (w : ℕ) (s : List ℕ) : Type 0 where
   pub whole : length s % 16 ≡ 0
   pub good : any (count s) (badRecord (kindsOf 0 (limits w)) s) ≡ false
   pub once : any (count s) (again (kindsOf 0 (sizes s)) s) ≡ false
   pub within : any (count s) (beyond (kindsOf 0 (sizes s)) s) ≡ false
 
-pub formed : (w : ℕ) (s : List ℕ) → formNumber w s ≡ 0 → Formed w s
-unfolding lengthReasons formReasons sizesOf
+pub formed : (w : ℕ) (s : List ℕ) → rawNumber w s ≡ 0 → Formed w s
+unfolding lengthReasons orderReasons formReasons sizesOf
 formed w s e =
-    let n : NoneHolds (lengthReasons s ++ formReasons (kindsOf 0 (limits w)) (tableOf 0 s) s) = first-none (lengthReasons s ++ formReasons (kindsOf 0 (limits w)) (tableOf 0 s) s) refl e in
+    let l : List Line = lengthReasons s ++ (orderReasons s ++ formReasons (kindsOf 0 (limits w)) (tableOf 0 s) s) in
+    let n : NoneHolds l = first-none l refl e in
     record {
       whole = eqb-true (length s % 16) 0 (not-false (eqb (length s % 16) 0) (n 0 (lit≤ tt)));
-      good = n 1 (lit≤ tt);
-      once = n 2 (lit≤ tt);
-      within = n 4 (lit≤ tt);
+      good = n 2 (lit≤ tt);
+      once = n 3 (lit≤ tt);
+      within = n 5 (lit≤ tt);
     }
 
 -- the sizes z of such a file are small, and its cells have room
 pub record Sound (w : ℕ) (s : List ℕ) (z : Sizes) : Type 0 where
-  pub formed : formNumber w s ≡ 0
+  pub formed : rawNumber w s ≡ 0
   pub sized : z ≡ sizes s
   pub within : any (count s) (beyond (kindsOf 0 z) s) ≡ false
   pub small : Small z
   pub few : z .blocks ≤ 3
   pub fit : slotCount (kindsOf 0 z) ≤ slotCount (kindsOf 0 (limits w))
 
-pub sound-of : (w : ℕ) (s : List ℕ) (z : Sizes) (r : ℕ) → 1 ≤ w → w ≤ 256 → r ≡ formNumber w s → r ≡ 0 → z ≡ sizes s → Sound w s z
+pub sound-of : (w : ℕ) (s : List ℕ) (z : Sizes) (r : ℕ) → 1 ≤ w → w ≤ 256 → r ≡ rawNumber w s → r ≡ 0 → z ≡ sizes s → Sound w s z
 unfolding sizesOf limits
 sound-of w s z r some most er e ez =
     let q = sym er ∙ e in
@@ -169,12 +171,12 @@ sound-of w s z r some most er e ez =
     }
 
 -- ---- the number by who gives it
-pub form-refuses : (w : ℕ) (s : List ℕ) (r : ℕ) → r ≡ formNumber w s → (r ≡ 0 → ⊥) → r ≡ refusal w s
-form-refuses w s r e h = e ∙ sym (refusal-cases w s ∙ rw (ne-eqb (formNumber w s) 0 (λ q. h (e ∙ q))))
+pub file-refuses : (w : ℕ) (s : List ℕ) (r : ℕ) → r ≡ rawNumber w s → (r ≡ 0 → ⊥) → r ≡ refusal w s
+file-refuses w s r e h = e ∙ sym (refusal-cases w s ∙ rw (ne-eqb (rawNumber w s) 0 (λ q. h (e ∙ q))))
 
 module _ (w : ℕ) (s : List ℕ) (z : Sizes) (h : Sound w s z) where
   late-is : refusal w s ≡ lateNumber s
-  late-is = refusal-cases w s ∙ rw (eq-eqb (formNumber w s) 0 (h .formed))
+  late-is = refusal-cases w s ∙ rw (eq-eqb (rawNumber w s) 0 (h .formed))
 
   pub size-is : (bs : List Block) (b : Bool) → bs ≡ row noBlock 3 (z .blocks) (blockOf s) → b ≡ badSizeIn bs (z .blocks) → b ≡ badSize s
   unfolding sizes

@@ -103,7 +103,7 @@ pub fn refusal(w: usize, s: &[u8], flags: &mut [bool], sheet: &mut [f64]) -> u32
     ensures { λ r. ⌜ r ≡ refusal w (now (s .entry)) ⌝ }
     ensures { λ r. ⌜ (r ≡ 0 → now (sheet .exit) ≡ sheetAfter (length (now (sheet .entry))) (kinds (now (s .entry))) (now (s .entry)) (count (now (s .entry)))) ⌝ }
 {
-    let formed = records_form::form_refusal(0, w, s, flags);
+    let formed = records_form::file_refusal(0, w, s, flags);
     if formed != 0 {
         return formed;
     }

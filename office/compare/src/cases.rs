@@ -1,15 +1,17 @@
 //! The random files. A family and a seed decide a file.
 
-use oracle::random::{kr_case, KR_FAMILIES, MORE_KR_FAMILIES};
+use oracle::random::{kr_case, satt_case, KR_FAMILIES, MORE_KR_FAMILIES, SATT_FAMILIES, SHUFFLED};
 use reader::random::Random;
 use reader::tries::Call;
 
 /// The families of a call: those of the stored vectors, and some more.
 pub fn families(call: Call) -> Vec<&'static str> {
-    match call {
-        Call::KenwardRoger => KR_FAMILIES.iter().chain(&MORE_KR_FAMILIES).copied().collect(),
-        Call::Satterthwaite => oracle::random::SATT_FAMILIES.to_vec(),
-    }
+    let mut out = match call {
+        Call::KenwardRoger => [&KR_FAMILIES[..], &MORE_KR_FAMILIES].concat(),
+        Call::Satterthwaite => SATT_FAMILIES.to_vec(),
+    };
+    out.push(SHUFFLED);
+    out
 }
 
 /// The file of a family and a seed.
@@ -17,7 +19,7 @@ pub fn file(call: Call, family: &str, seed: u64) -> Vec<u8> {
     let mut random = Random::new(seed);
     match call {
         Call::KenwardRoger => kr_case(&mut random, family),
-        Call::Satterthwaite => oracle::random::satt_case(&mut random, family),
+        Call::Satterthwaite => satt_case(&mut random, family),
     }
 }
 

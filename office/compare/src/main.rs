@@ -8,7 +8,7 @@ use std::path::{Path, PathBuf};
 use std::process::ExitCode;
 
 const USAGE: &str = "usage: compare [FLAGS]
-  --files N          files for each call (usually 25000), shared among the families
+  --files N          files for each call (usually 27000), shared among the families
   --seed S           another seed (usually 1)
   --family NAME      one family alone
   --branches         also print in how many files each branch of document 01 was taken
@@ -86,7 +86,7 @@ fn single(flags: &Flags, title: &str, bytes: &[u8]) -> bool {
 fn flags(mut words: impl Iterator<Item = String>) -> Option<Flags> {
     let office = Path::new(env!("CARGO_MANIFEST_DIR")).parent().expect("compare lies in office");
     let folder = office.join("target/compare");
-    let plan = Plan { files: 25_000, seed: 1, family: None, trace: false, folder };
+    let plan = Plan { files: 27_000, seed: 1, family: None, trace: false, folder };
     let mut flags =
         Flags { plan, branches: false, case: None, file: None, call: Call::KenwardRoger };
     while let Some(word) = words.next() {

@@ -1,6 +1,7 @@
 //! Makes a failing file small: whole parts of the series go first, then single
 //! records, then the digits of the numbers. Each step is kept if the file
-//! still differs in the same manner.
+//! still differs in the same manner. No step but the sorting moves a record past
+//! another, so a file that rises still does.
 
 use crate::judge::manner;
 use reader::tries::Call;
@@ -123,12 +124,11 @@ impl Search<'_> {
         }
     }
 
-    /// By kind, count, row and column.
+    /// The records in order.
     fn order(&mut self) {
         self.try_records(|rs| {
             let mut sorted = rs.to_vec();
-            sorted.sort_by_key(|r| (r.kind, if r.kind == BLOCK { 0 } else { r.count }, r.row));
-            sorted.sort_by_key(|r| (r.kind, if r.kind == JACOBIAN { r.count } else { 0 }));
+            sorted.sort_by_key(Record::key);
             sorted
         });
     }
@@ -337,6 +337,17 @@ mod tests {
         assert_eq!(series.blocks, [Block { m: 2, k: 1 }]);
         assert_eq!(series.contrast.map(|l| l.rows), Some(1));
         assert!(small.len() <= 16 * 15, "{} bytes\n{}", small.len(), text(&small));
+    }
+
+    /// Of records out of order the pair that falls is left.
+    #[test]
+    fn a_falling_pair_is_found() {
+        let mut random = Random::new(5);
+        let mut file = kr_bytes(&series_of_sizes(&mut random, 24, 6, Vec::new(), 5));
+        let last = file.len() - 16;
+        file[last - 16..].rotate_left(16);
+        let small = shrink_while(&file, &|bytes| reader::read(bytes) == Err(12));
+        assert_eq!(small.len(), 32, "{}", text(&small));
     }
 
     /// A damaged record alone is left.

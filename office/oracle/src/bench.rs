@@ -6,9 +6,9 @@ use crate::known::{self, example_i, example_k, kr_bytes, pulltest_series, rows, 
 use crate::kr_modcomp::{kr_modcomp_test, KenwardRogerModcompData};
 use crate::marked::{self, in_range, Marking, Scaled};
 use crate::print::{bits_report, pulltest, satterthwaite_line};
-use crate::random::{kr_case, power, satt_case, Random, KR_FAMILIES, SATT_FAMILIES};
-use crate::reader::{self, Record, Series};
-use crate::{ddf, kr_vcov_adj, lme_run};
+use crate::random::{kr_case, power, satt_case, Random, KR_FAMILIES, SATT_FAMILIES, SHUFFLED};
+use crate::reader::{self, order, Record, Series};
+use crate::{ddf, known_order, kr_vcov_adj, lme_run};
 use ::reader::vectors::hex;
 use listed_algebra::Matrix;
 use ndarray::{Array1, Array2};
@@ -102,8 +102,12 @@ fn pulltest_lines() {
 /// Every known case, with what document 01 says of it.
 #[test]
 fn known_cases() {
-    let calls: [(Vec<known::Known>, fn(&[u8]) -> String); 2] =
-        [(known::kenward_roger(), pulltest), (known::satterthwaite(), satterthwaite_line)];
+    let calls: [(Vec<known::Known>, fn(&[u8]) -> String); 4] = [
+        (known::kenward_roger(), pulltest),
+        (known_order::kenward_roger(), pulltest),
+        (known::satterthwaite(), satterthwaite_line),
+        (known_order::satterthwaite(), satterthwaite_line),
+    ];
     for (cases, output) in calls {
         for (name, bytes, start) in cases {
             let text = output(&bytes).replace('\n', "|");
@@ -172,15 +176,17 @@ fn answer_bytes() {
     assert_eq!(one[16..], [2, 1, 1, 1, 0, 0, 0, 0]);
 }
 
-/// An order of the records does not change an answer.
+/// Records out of order are refused, and in order again they are accepted.
 #[test]
-fn records_in_any_order() {
+fn records_out_of_order() {
     let mut random = Random::new(5);
-    for _ in 0..20 {
-        let bytes = kr_case(&mut random, "plain");
-        let mut chunks: Vec<&[u8]> = bytes.chunks(16).collect();
-        chunks.reverse();
-        assert_eq!(pulltest(&bytes), pulltest(&chunks.concat()));
+    for _ in 0..100 {
+        let file = kr_case(&mut random, SHUFFLED);
+        assert_eq!(pulltest(&file), "refused 12\n");
+        assert!(pulltest(&order::sorted(&file)).starts_with("coef 0 "));
+        let file = satt_case(&mut random, SHUFFLED);
+        assert_eq!(satterthwaite_line(&file), "refused 12\n");
+        assert!(satterthwaite_line(&order::sorted(&file)).starts_with("test "));
     }
 }
 

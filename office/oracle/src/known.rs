@@ -2,7 +2,7 @@
 //! points at which a reading shows.
 
 use crate::random::{file, kr_records, power, satt_records};
-use crate::reader::{self, Block, Record, SattSeries, Series};
+use crate::reader::{self, order, Block, Record, SattSeries, Series};
 use listed_algebra::Matrix;
 
 /// A matrix of its rows.
@@ -85,7 +85,7 @@ pub fn satt_bytes(s: &SattSeries) -> Vec<u8> {
     file(&satt_records(s))
 }
 
-/// The example's records, one of them changed.
+/// The example's records, those of one kind changed.
 fn changed(records: &[Record], kind: u8, change: impl Fn(&mut Record)) -> Vec<u8> {
     let mut out = records.to_vec();
     out.iter_mut().filter(|r| r.kind == kind).for_each(change);
@@ -97,13 +97,14 @@ fn without(records: &[Record], kind: u8) -> Vec<u8> {
     file(&kept)
 }
 
-fn with(records: &[Record], more: Record) -> Vec<u8> {
-    let mut out = records.to_vec();
+/// With one record more in its place; a record that stood there goes.
+pub(crate) fn with(records: &[Record], more: Record) -> Vec<u8> {
+    let mut out: Vec<Record> = records.iter().filter(|r| r.key() != more.key()).copied().collect();
     out.push(more);
-    file(&out)
+    order::sorted(&file(&out))
 }
 
-fn rec(kind: u8, row: u8, column: u8, count: u32, value: f64) -> Record {
+pub(crate) fn rec(kind: u8, row: u8, column: u8, count: u32, value: f64) -> Record {
     Record { kind, row, column, zero: 0, count, bits: value.to_bits() }
 }
 
@@ -142,7 +143,7 @@ pub fn kenward_roger() -> Vec<Known> {
     out.push(("block 1 alone", changed(&k, 3, |r| r.row = 1), "refused 2|"));
     out.push(("theta 3", changed(&k, 4, |r| r.row = 3), "refused 2|"));
     out.push(("theta 1 alone", changed(&k, 4, |r| r.row = 1), "refused 2|"));
-    out.push(("β twice", with(&records, rec(8, 0, 0, 0, 6.0)), "refused 2|"));
+    out.push(("block 0 with two k's", with(&k, rec(3, 0, 2, 1, 0.0)), "refused 2|"));
     for kind in [1, 6, 7, 8] {
         out.push(("kind missing", without(&records, kind), "refused 2|"));
     }

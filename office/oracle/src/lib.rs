@@ -16,6 +16,7 @@ pub use ::reader;
 
 pub mod calls;
 pub mod known;
+pub mod known_order;
 pub mod lme_run;
 pub mod make;
 pub mod marked;

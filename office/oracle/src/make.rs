@@ -2,8 +2,8 @@
 
 use crate::known::{self, Known};
 use crate::print::{pulltest, satterthwaite_line};
-use crate::random::{kr_case, satt_case, Random, KR_FAMILIES, SATT_FAMILIES};
-use crate::trace;
+use crate::random::{kr_case, satt_case, Random, KR_FAMILIES, SATT_FAMILIES, SHUFFLED};
+use crate::{known_order, trace};
 use ::reader::vectors::{hex, unhex};
 use std::collections::BTreeMap;
 use std::fmt::Write as _;
@@ -57,77 +57,107 @@ impl Tally {
     }
 }
 
-type Case = fn(&mut Random, &str) -> Vec<u8>;
-type Output = fn(&[u8]) -> String;
+/// So many files of either call are good but for their order.
+const SHUFFLED_CASES: usize = 30;
 
-/// The known cases and all families of one call into one file, `count` random
-/// cases in all.
-#[allow(clippy::too_many_arguments)]
-fn call(
-    folder: &Path,
-    name: &str,
+/// One list of vectors.
+struct List {
+    name: &'static str,
     known: Vec<Known>,
-    families: &[&str],
-    seed: u64,
-    count: usize,
-    case: Case,
-    output: Output,
-) -> io::Result<String> {
-    let mut lines = String::new();
-    let mut tally = Tally::default();
-    trace::take();
-    for (_, bytes, _) in known {
-        let text = output(&bytes);
-        tally.add(&text);
-        lines += &line(&bytes, &text);
-    }
-    let mut summary = tally.text(name, "known");
-    for (f, family) in families.iter().enumerate() {
-        let mut random = Random::new(seed.wrapping_mul(1009).wrapping_add(f as u64));
-        let mut tally = Tally::default();
-        let share = count / families.len() + usize::from(f < count % families.len());
-        for _ in 0..share {
-            let bytes = case(&mut random, family);
-            // The making of a case runs series too: their branches do not count.
-            trace::take();
-            let text = output(&bytes);
-            tally.add(&text);
-            lines += &line(&bytes, &text);
-        }
-        summary += &tally.text(name, family);
-    }
-    fs::write(folder.join(format!("{name}.txt")), lines)?;
-    Ok(summary)
+    families: &'static [&'static str],
+    /// The order's cases made by hand.
+    known_order: Vec<Known>,
+    case: fn(&mut Random, &str) -> Vec<u8>,
+    output: fn(&[u8]) -> String,
 }
 
-/// `oracle make-vectors DIR SEED COUNT`: COUNT cases for each call.
+/// A list's lines and its part of the summary, as they come to be.
+#[derive(Default)]
+struct Written {
+    lines: String,
+    summary: String,
+}
+
+impl List {
+    /// The known cases, `count` random ones shared among all families, then the
+    /// cases of the order.
+    fn write(self, seed: u64, count: usize) -> Written {
+        let mut out = Written::default();
+        self.by_hand(&mut out, "known", &self.known);
+        let families = self.families.len();
+        for (f, family) in self.families.iter().enumerate() {
+            let share = count / families + usize::from(f < count % families);
+            self.random(&mut out, family, seed, f, share);
+        }
+        self.by_hand(&mut out, "order", &self.known_order);
+        self.random(&mut out, SHUFFLED, seed, families, SHUFFLED_CASES);
+        out
+    }
+
+    fn by_hand(&self, out: &mut Written, family: &str, cases: &[Known]) {
+        let mut tally = Tally::default();
+        for (_, bytes, _) in cases {
+            self.one(out, &mut tally, bytes);
+        }
+        out.summary += &tally.text(self.name, family);
+    }
+
+    /// The random cases of family number f.
+    fn random(&self, out: &mut Written, family: &str, seed: u64, f: usize, cases: usize) {
+        let mut random = Random::new(seed.wrapping_mul(1009).wrapping_add(f as u64));
+        let mut tally = Tally::default();
+        for _ in 0..cases {
+            let bytes = (self.case)(&mut random, family);
+            self.one(out, &mut tally, &bytes);
+        }
+        out.summary += &tally.text(self.name, family);
+    }
+
+    fn one(&self, out: &mut Written, tally: &mut Tally, bytes: &[u8]) {
+        // The making of a case runs series too: their branches do not count.
+        trace::take();
+        let text = (self.output)(bytes);
+        tally.add(&text);
+        out.lines += &line(bytes, &text);
+    }
+}
+
+fn lists() -> [List; 2] {
+    [
+        List {
+            name: "kenward-roger",
+            known: known::kenward_roger(),
+            families: &KR_FAMILIES,
+            known_order: known_order::kenward_roger(),
+            case: kr_case,
+            output: pulltest,
+        },
+        List {
+            name: "satterthwaite",
+            known: known::satterthwaite(),
+            families: &SATT_FAMILIES,
+            known_order: known_order::satterthwaite(),
+            case: satt_case,
+            output: satterthwaite_line,
+        },
+    ]
+}
+
+/// `oracle make-vectors DIR SEED COUNT`: COUNT cases for each call, and those
+/// of the order.
 pub fn make_vectors(folder: &Path, seed: u64, count: usize) -> io::Result<()> {
     fs::create_dir_all(folder)?;
-    let kr = call(
-        folder,
-        "kenward-roger",
-        known::kenward_roger(),
-        &KR_FAMILIES,
-        seed,
-        count,
-        kr_case,
-        pulltest,
-    )?;
-    let satt = call(
-        folder,
-        "satterthwaite",
-        known::satterthwaite(),
-        &SATT_FAMILIES,
-        seed,
-        count,
-        satt_case,
-        satterthwaite_line,
-    )?;
-    let head = format!(
+    let mut summary = format!(
         "# What the vectors hit\n\nMade by `oracle make-vectors DIR {seed} {count}`. Each number \
          counts the cases of the family in which it occurred.\n\n"
     );
-    fs::write(folder.join("SUMMARY.md"), head + &kr + &satt)
+    for list in lists() {
+        let path = folder.join(format!("{}.txt", list.name));
+        let written = list.write(seed, count);
+        fs::write(path, written.lines)?;
+        summary += &written.summary;
+    }
+    fs::write(folder.join("SUMMARY.md"), summary)
 }
 
 /// Checks one line of a file of vectors.

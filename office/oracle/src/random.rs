@@ -1,8 +1,8 @@
 //! Random series, by families. A family aims at branches of document 01; the
 //! seed alone decides what comes out.
 
-use crate::marked;
-use crate::reader::{self, Block, Record, SattSeries, Series};
+use crate::reader::{self, order, Block, Record, SattSeries, Series};
+use crate::{calls, marked};
 use listed_algebra::{cholesky, inverse, product, Matrix, Plain};
 
 pub use ::reader::random::Random;
@@ -45,6 +45,9 @@ pub const KR_FAMILIES: [&str; 11] = [
 /// Families for the live comparison alone, so that the stored vectors stay as
 /// they are.
 pub const MORE_KR_FAMILIES: [&str; 3] = ["sizes", "edge", "damaged-any"];
+
+/// The family of either call whose files are good but for their order.
+pub const SHUFFLED: &str = "shuffled";
 
 /// The groups of a block: each specimen in one of m, by an indicator or with
 /// effects of its own.
@@ -200,6 +203,10 @@ pub fn kr_case(r: &mut Random, family: &str) -> Vec<u8> {
     }
     if family == "damaged-any" {
         return damaged_any(r);
+    }
+    if family == SHUFFLED {
+        let family = r.pick(&["small", "slopes", "contrasts", "plain"]);
+        return out_of_order(r, |r| kr_case(r, family), |file| calls::kenward_roger(file).is_ok());
     }
     let series = random_series_of(r, family);
     kr_file(r, &series)
@@ -646,21 +653,49 @@ pub fn file(records: &[Record]) -> Vec<u8> {
     records.iter().flat_map(|r| r.to_bytes()).collect()
 }
 
-fn shuffled(r: &mut Random, mut records: Vec<Record>) -> Vec<u8> {
+/// A file of records in their order. Most are shuffled before, so that the
+/// order is the key's alone, and not the one in which they were put together.
+fn ordered(r: &mut Random, mut records: Vec<Record>) -> Vec<u8> {
     if !r.once_in(4) {
         r.shuffle(&mut records);
     }
-    file(&records)
+    order::sorted(&file(&records))
 }
 
 pub fn kr_file(r: &mut Random, s: &Series) -> Vec<u8> {
     let keep = r.once_in(3);
     let records = kr_records(s, keep);
-    shuffled(r, records)
+    ordered(r, records)
 }
 
-/// A damaged copy of a good file.
-fn damage(r: &mut Random, mut bytes: Vec<u8>, satt: bool) -> Vec<u8> {
+/// A file that is accepted, with records moved from their places.
+fn out_of_order(
+    r: &mut Random,
+    make: impl Fn(&mut Random) -> Vec<u8>,
+    accepted: impl Fn(&[u8]) -> bool,
+) -> Vec<u8> {
+    loop {
+        let good = make(r);
+        let moved = order::misplaced(r, &good);
+        // Some moves move nothing.
+        if moved != good && accepted(&good) {
+            return moved;
+        }
+    }
+}
+
+/// A damaged copy of a good file, mostly in order again.
+fn damage(r: &mut Random, bytes: Vec<u8>, satt: bool) -> Vec<u8> {
+    let damaged = damage_in_place(r, bytes, satt);
+    if r.once_in(8) {
+        damaged
+    } else {
+        order::sorted(&damaged)
+    }
+}
+
+/// A damaged copy of a good file, the records where they were.
+fn damage_in_place(r: &mut Random, mut bytes: Vec<u8>, satt: bool) -> Vec<u8> {
     let count = bytes.len() / 16;
     let at = r.below(count) * 16;
     match r.below(14) {
@@ -669,13 +704,8 @@ fn damage(r: &mut Random, mut bytes: Vec<u8>, satt: bool) -> Vec<u8> {
         1 => bytes.extend(std::iter::repeat(0).take(1 + r.below(20))),
         // A record less, or one twice.
         2 | 3 => drop(bytes.drain(at..at + 16)),
-        4 => {
-            let mut again = bytes[at..at + 16].to_vec();
-            if r.once_in(2) {
-                again[8] ^= 1;
-            }
-            bytes.extend(again);
-        }
+        4 if !satt && r.once_in(2) => bytes = order::block_twice(r, &bytes),
+        4 => bytes = order::doubled(r, &bytes),
         // Another kind, row, column, count; byte 3.
         5 => bytes[at] = r.below(40) as u8,
         6 => bytes[at + 1] = r.below(26) as u8,
@@ -786,8 +816,16 @@ pub fn satt_case(r: &mut Random, family: &str) -> Vec<u8> {
         "extreme" => extreme_satt(r, p),
         "damaged" => {
             let s = random_satt(r, 1 + p % 3, p, true);
-            let good = shuffled(r, satt_records(&s));
+            let good = ordered(r, satt_records(&s));
             return damage(r, good, true);
+        }
+        SHUFFLED => {
+            let family = r.pick(&["plain", "one-row", "equal", "cap"]);
+            return out_of_order(
+                r,
+                |r| satt_case(r, family),
+                |file| calls::satterthwaite(file).is_ok(),
+            );
         }
         _ => {
             let rows = 1 + r.below(p);
@@ -800,7 +838,7 @@ pub fn satt_case(r: &mut Random, family: &str) -> Vec<u8> {
         }
     };
     let records = satt_records(&series);
-    shuffled(r, records)
+    ordered(r, records)
 }
 
 /// Each component the same df: the Jacobian a multiple of v; sometimes moved

@@ -1,8 +1,9 @@
 //! The panel's judgement of a series of pulls, for the office application.
 //!
-//! A series is a record file, as the stand writes it. [`kenward_roger`] judges
-//! it: each coefficient alone, then the contrast if the file has one, by the
-//! very code that runs in the stand's panel, so with its bits.
+//! A series is a record file, as the stand writes it, with its records in
+//! rising order ([`Refusal::Order`] says which). [`kenward_roger`] judges it:
+//! each coefficient alone, then the contrast if the file has one, by the very
+//! code that runs in the stand's panel, so with its bits.
 //! [`satterthwaite`] tests a contrast of a file of its own kinds.
 //!
 //! ```

@@ -3,16 +3,18 @@
 use std::fmt;
 
 /// The reason for which a call gave no answer. Where several hold it is the
-/// one with the lowest number; only the late reason of [`Refusal::NotFinite`]
-/// comes after [`Refusal::Cholesky`] and [`Refusal::Pivot`] of the adjustment.
+/// one with the lowest number, but for two: [`Refusal::Order`] comes directly
+/// after the file's length, so before every other reason of
+/// [`Refusal::Records`]; and the late reason of [`Refusal::NotFinite`] comes
+/// after [`Refusal::Cholesky`] and [`Refusal::Pivot`] of the adjustment.
 #[derive(Debug, Clone, Copy, PartialEq, Eq, Hash)]
 #[non_exhaustive]
 pub enum Refusal {
     /// 1: the answer bytes lent have another length than the stated one.
     Length,
     /// 2: the file's length is not a multiple of 16, a bad kind, a nonzero
-    /// unused field, an index past a limit, a cell twice, missing or beyond
-    /// the sizes.
+    /// unused field, an index past a limit, a cell twice (a block with two
+    /// k's), missing or beyond the sizes.
     Records,
     /// 3: a size outside its limits.
     Size,
@@ -33,6 +35,10 @@ pub enum Refusal {
     /// 11: Satterthwaite: the covariance of several rows has an eigenvalue
     /// that is not finite or not above zero.
     Eigenvalue,
+    /// 12: a record that does not stand before the next one: by kind, then for
+    /// kind 31 by count, then by row, then by column. So also any other cell
+    /// twice.
+    Order,
     /// A number that this library has no name for: the panel's library is of
     /// a later delivery.
     Unlisted(u32),
@@ -41,7 +47,7 @@ pub enum Refusal {
 use Refusal::*;
 
 /// In the order of their numbers, from 1.
-const LISTED: [Refusal; 11] = [
+const LISTED: [Refusal; 12] = [
     Length,
     Records,
     Size,
@@ -53,6 +59,7 @@ const LISTED: [Refusal; 11] = [
     Cholesky,
     Pivot,
     Eigenvalue,
+    Order,
 ];
 
 impl Refusal {
@@ -85,6 +92,7 @@ impl fmt::Display for Refusal {
             Cholesky => "the covariance of the specimens is not positive definite",
             Pivot => "an elimination met a zero pivot",
             Eigenvalue => "the contrast's covariance is not positive definite",
+            Order => "the records are not in rising order",
             Unlisted(number) => return write!(out, "refused with number {number}"),
         };
         out.write_str(text)
@@ -103,7 +111,7 @@ mod tests {
             assert_eq!(Refusal::from_number(number).number(), number);
         }
         assert_eq!(Refusal::from_number(1), Length);
-        assert_eq!(Refusal::from_number(11), Eigenvalue);
-        assert_eq!(Refusal::from_number(12), Unlisted(12));
+        assert_eq!(Refusal::from_number(12), Order);
+        assert_eq!(Refusal::from_number(13), Unlisted(13));
     }
 }

@@ -28,6 +28,15 @@ static int failed(const char *what)
     return 1;
 }
 
+/* Two neighbouring records change places. */
+static void swap(uint8_t *records)
+{
+    uint8_t first[16];
+    memcpy(first, records, 16);
+    memmove(records, records + 16, 16);
+    memcpy(records + 16, first, 16);
+}
+
 /* The pulltest example of the Kenward-Roger call. */
 static int kenward_roger(void)
 {
@@ -48,6 +57,12 @@ static int kenward_roger(void)
         return failed("100 answer bytes");
     if (pull_kenward_roger(records, 95, answer, sizeof answer) != PULL_RECORDS)
         return failed("95 bytes of records");
+    swap(records + 64);
+    if (pull_kenward_roger(records, sizeof records, answer, sizeof answer) != PULL_ORDER)
+        return failed("the contrast before beta");
+    if (pull_kenward_roger(records, 95, answer, sizeof answer) != PULL_RECORDS)
+        return failed("95 bytes of records out of order");
+    swap(records + 64);
     record(records + 48, 7, 0, 0, 0.0);
     if (pull_kenward_roger(records, sizeof records, answer, sizeof answer) != PULL_SIGMA2)
         return failed("sigma2 = 0");
@@ -70,24 +85,28 @@ static int kenward_roger(void)
     return 0;
 }
 
-/* Example (i): L identity, v = diag(4, 1), one Jacobian equal to v, A 0.5, beta (4, 1). */
+/* A matrix of two rows and columns, its diagonal a and b. */
+static uint8_t *diagonal(uint8_t *to, uint8_t kind, double a, double b)
+{
+    record(to, kind, 0, 0, a);
+    record(to + 16, kind, 0, 1, 0.0);
+    record(to + 32, kind, 1, 0, 0.0);
+    record(to + 48, kind, 1, 1, b);
+    return to + 64;
+}
+
+/* Example (i): beta (4, 1), L identity, v = diag(4, 1), one Jacobian equal to v, A 0.5. */
 static int satterthwaite(void)
 {
     uint8_t records[15 * 16], answer[PULL_ENTRY_BYTES], kept[PULL_ENTRY_BYTES];
-    uint8_t *to = records, i, j;
+    uint8_t *v, *jacobian, *a, i;
 
-    for (i = 0; i < 2; i++) {
-        for (j = 0; j < 2; j++) {
-            double v = i != j ? 0.0 : i == 0 ? 4.0 : 1.0;
-            record(to, 9, i, j, i == j ? 1.0 : 0.0);
-            record(to + 16, 30, i, j, v);
-            record(to + 32, 31, i, j, v);
-            to += 48;
-        }
-    }
-    record(to, 32, 0, 0, 0.5);
-    record(to + 16, 8, 0, 0, 4.0);
-    record(to + 32, 8, 1, 0, 1.0);
+    record(records, 8, 0, 0, 4.0);
+    record(records + 16, 8, 1, 0, 1.0);
+    v = diagonal(records + 32, 9, 1.0, 1.0);
+    jacobian = diagonal(v, 30, 4.0, 1.0);
+    a = diagonal(jacobian, 31, 4.0, 1.0);
+    record(a, 32, 0, 0, 0.5);
 
     memset(answer, 0xa5, sizeof answer);
     memset(kept, 0xa5, sizeof kept);
@@ -95,17 +114,21 @@ static int satterthwaite(void)
         return failed("23 answer bytes");
     if (pull_satterthwaite(records, sizeof records - 16, answer, sizeof answer) != PULL_RECORDS)
         return failed("a record less");
-    record(to + 32, 8, 1, 0, HUGE_VAL);
+    swap(jacobian + 48);
+    if (pull_satterthwaite(records, sizeof records, answer, sizeof answer) != PULL_ORDER)
+        return failed("A before the last cell of the Jacobian");
+    swap(jacobian + 48);
+    record(records + 16, 8, 1, 0, HUGE_VAL);
     if (pull_satterthwaite(records, sizeof records, answer, sizeof answer) != PULL_NOT_FINITE)
         return failed("an infinite beta");
-    record(to + 32, 8, 1, 0, 1.0);
-    record(records + 16, 30, 0, 0, -4.0);
+    record(records + 16, 8, 1, 0, 1.0);
+    record(v, 30, 0, 0, -4.0);
     if (pull_satterthwaite(records, sizeof records, answer, sizeof answer) != PULL_EIGENVALUE)
         return failed("a negative v");
     if (memcmp(answer, kept, sizeof answer) != 0)
         return failed("a refusal has written answer bytes");
 
-    record(records + 16, 30, 0, 0, 4.0);
+    record(v, 30, 0, 0, 4.0);
     if (pull_satterthwaite(records, sizeof records, answer, sizeof answer) != PULL_ACCEPTED)
         return failed("example (i) is refused");
     if (number(answer) != 2.5 || number(answer + 8) != 4.0)

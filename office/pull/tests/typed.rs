@@ -32,10 +32,22 @@ fn refusals() {
         (changed(3, example::record(7, 0, 0, 0, 0.0)), Refusal::Sigma2),
         (changed(5, example::record(9, 0, 0, 0, 0.0)), Refusal::ZeroContrast),
         (changed(2, example::record(6, 0, 0, 0, 0.0)), Refusal::Pivot),
+        (changed(2, example::record(9, 0, 0, 0, 1.0)), Refusal::Order),
+        (changed(1, example::record(1, 0, 0, 0, 2.0)), Refusal::Order),
     ];
     for (file, refusal) in cases {
         assert_eq!(kenward_roger(&file), Err(refusal));
     }
+}
+
+/// The length, then the order, then all else.
+#[test]
+fn order_of_refusals() {
+    let falling = changed(0, example::record(99, 9, 9, 9, f64::NAN));
+    assert_eq!(kenward_roger(&falling), Err(Refusal::Order));
+    assert_eq!(kenward_roger(&falling[1..]), Err(Refusal::Records));
+    let rising = changed(5, example::record(99, 9, 9, 9, f64::NAN));
+    assert_eq!(kenward_roger(&rising), Err(Refusal::Records));
 }
 
 /// 1 comes before the records are looked at, and nothing is written.
@@ -67,19 +79,19 @@ fn threads() {
     });
 }
 
-/// Example (i) of the Satterthwaite call: L identity, v = diag(4, 1), one
-/// Jacobian equal to v, A 0.5, β (4, 1).
+/// Example (i) of the Satterthwaite call: β (4, 1), L identity, v = diag(4, 1),
+/// one Jacobian equal to v, A 0.5.
 fn example_i() -> Vec<u8> {
     let mut file = Vec::new();
-    for (i, j) in [(0, 0), (0, 1), (1, 0), (1, 1)] {
-        let v = [[4.0, 0.0], [0.0, 1.0]][i as usize][j as usize];
-        file.extend(example::record(9, i, j, 0, if i == j { 1.0 } else { 0.0 }));
-        file.extend(example::record(30, i, j, 0, v));
-        file.extend(example::record(31, i, j, 0, v));
-    }
-    file.extend(example::record(32, 0, 0, 0, 0.5));
     file.extend(example::record(8, 0, 0, 0, 4.0));
     file.extend(example::record(8, 1, 0, 0, 1.0));
+    let v = [[4.0, 0.0], [0.0, 1.0]];
+    for (kind, cells) in [(9, [[1.0, 0.0], [0.0, 1.0]]), (30, v), (31, v)] {
+        for (i, j) in [(0, 0), (0, 1), (1, 0), (1, 1)] {
+            file.extend(example::record(kind, i, j, 0, cells[i as usize][j as usize]));
+        }
+    }
+    file.extend(example::record(32, 0, 0, 0, 0.5));
     file
 }
 
@@ -89,6 +101,9 @@ fn satterthwaite() {
     assert_eq!(pull::satterthwaite(&example_i()), Ok(test));
     assert_eq!(pull::satterthwaite(&example::records()), Err(Refusal::Records));
     assert_eq!(kenward_roger(&example_i()), Err(Refusal::Records));
+    let mut last_first = example_i();
+    last_first.rotate_right(16);
+    assert_eq!(pull::satterthwaite(&last_first), Err(Refusal::Order));
     for length in [0, 1, 23, 25, 168] {
         let mut answer = vec![7; length];
         assert_eq!(pull::satterthwaite_fill(&example_i(), &mut answer), 1);

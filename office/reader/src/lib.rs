@@ -1,9 +1,11 @@
-//! The reader of record files, with the refusals 2 to 8.
+//! The reader of record files, with the refusals 2 to 8 and 12.
 //!
-//! Every reason of 2 comes before 3, 3 before 4, and so on; within 2 the order
-//! does not show. So the reading goes: records, cells, sizes, then the values.
+//! A length that is no multiple of 16 comes first (2), then records that do not
+//! rise (12), then every other reason of 2, among which the order does not
+//! show; then 3, 4, and so on. So the reading goes: length, order, records,
+//! cells, sizes, then the values.
 //!
-//! It was written from document 01 and the project's decisions, and shares
+//! It was written from documents 01 and 02 and the project's decisions, and shares
 //! nothing with the panel's reader, so that the one can be held to the other.
 //! Beside it: random numbers, random files (`tries`) and the stored vectors, for the
 //! tests that need no sources of lme-rs.
@@ -11,6 +13,7 @@
 use listed_algebra::Matrix;
 use std::collections::BTreeMap;
 
+pub mod order;
 pub mod random;
 pub mod shift;
 pub mod tries;
@@ -25,6 +28,7 @@ const SIGMA2: Refusal = 5;
 const WEIGHT: Refusal = 6;
 const BLOCKS: Refusal = 7;
 const ZERO_CONTRAST: Refusal = 8;
+const NOT_RISING: Refusal = 12;
 
 // Limits of document 01.
 const SPECIMENS: u32 = 24;
@@ -168,15 +172,16 @@ fn satt_fields(kind: u8) -> Option<(Field, Field, Field)> {
     })
 }
 
-/// Which cell a record fills: kind, number (of a Jacobian), row, column.
-type Place = (u8, u32, u8, u8);
+/// Which cell a record fills: kind, number (of a Jacobian), row, column. Only
+/// a block's cell is not its key.
+type Place = order::Key;
 
 fn place(r: &Record) -> Place {
     match r.kind {
-        // A block is told by its number; k and m are its value.
+        // A block is told by its number; k and m are its value. So a file that
+        // rises can still have a block twice, with two k's.
         BLOCK => (BLOCK, 0, r.row, 0),
-        JACOBIAN => (JACOBIAN, r.count, r.row, r.column),
-        kind => (kind, 0, r.row, r.column),
+        _ => r.key(),
     }
 }
 
@@ -192,9 +197,12 @@ impl Cells {
         if bytes.len() % 16 != 0 {
             return Err(BAD_RECORDS);
         }
+        let records: Vec<Record> = bytes.chunks(16).map(Record::from_bytes).collect();
+        if !order::rises(&records) {
+            return Err(NOT_RISING);
+        }
         let mut cells = BTreeMap::new();
-        for chunk in bytes.chunks(16) {
-            let record = Record::from_bytes(chunk);
+        for record in records {
             let (row, column, count) = rules(record.kind).ok_or(BAD_RECORDS)?;
             let value_fits = record.kind != BLOCK || record.bits == 0;
             let fits = record.zero == 0

@@ -1,10 +1,12 @@
 //! Files for trying a call with: bytes at random, records at random, small
 //! files that are right or nearly so, and stored vectors with some of their
-//! bytes changed. Most of them a call must refuse.
+//! bytes changed. Most of them a call must refuse. Most have their records in
+//! order, since a file that does not rise is refused before they are looked at.
 
+use crate::order::{block_twice, disturbed, sorted, sorted_once};
 use crate::random::Random;
 use crate::vectors;
-use crate::{read, read_satterthwaite, Record, Refusal};
+use crate::{read, read_satterthwaite, Record, Refusal, BLOCK};
 
 /// Which of the two calls.
 #[derive(Debug, Clone, Copy, PartialEq)]
@@ -22,7 +24,8 @@ pub struct Shape {
 }
 
 impl Call {
-    /// The reader's verdict: the answer's shape, or a refusal from 2 to 8.
+    /// The reader's verdict: the answer's shape, or a refusal from 2 to 8 or
+    /// 12.
     pub fn verdict(self, file: &[u8]) -> Result<Shape, Refusal> {
         match self {
             Call::KenwardRoger => read(file)
@@ -75,25 +78,26 @@ impl Tries {
     pub fn file(&self, r: &mut Random) -> Vec<u8> {
         match r.below(16) {
             0 | 1 => (0..r.below(100)).map(|_| r.bits() as u8).collect(),
-            2..=4 => self.random_records(r),
-            5..=9 => {
+            2 | 3 => self.random_records(r),
+            4..=9 => {
                 let mut file = self.small(r);
                 for _ in 0..r.below(3) {
                     self.change(r, &mut file);
                 }
-                file
+                placed(r, file)
             }
             _ => {
                 let mut file = self.stored[r.below(self.stored.len())].clone();
                 for _ in 0..r.below(5) {
                     self.change(r, &mut file);
                 }
-                file
+                placed(r, file)
             }
         }
     }
 
-    /// Records of the call's kinds with any small fields.
+    /// Records of the call's kinds with any small fields, mostly in order and
+    /// none twice.
     fn random_records(&self, r: &mut Random) -> Vec<u8> {
         let mut out = Vec::new();
         for _ in 0..r.below(12) {
@@ -101,22 +105,23 @@ impl Tries {
             let index = |r: &mut Random| if r.once_in(3) { r.below(3) as u8 } else { 0 };
             let (row, column) = (index(r), index(r));
             let count = if r.once_in(4) { r.below(3) as u32 } else { 0 };
-            let bits = if kind == crate::BLOCK { 0 } else { value(r).to_bits() };
+            let bits = if kind == BLOCK { 0 } else { value(r).to_bits() };
             out.extend(Record { kind, row, column, zero: 0, count, bits }.to_bytes());
         }
-        out
+        if r.once_in(8) {
+            out
+        } else {
+            sorted_once(&out)
+        }
     }
 
-    /// A file of few specimens and coefficients, complete but for what the
-    /// changes do to it, in any order.
+    /// A file of few specimens and coefficients, complete and in order but for
+    /// what the changes do to it.
     fn small(&self, r: &mut Random) -> Vec<u8> {
-        let mut records = match self.call {
+        let records = match self.call {
             Call::KenwardRoger => small_kenward_roger(r),
             Call::Satterthwaite => small_satterthwaite(r),
         };
-        if r.once_in(2) {
-            r.shuffle(&mut records);
-        }
         records.into_iter().flat_map(Record::to_bytes).collect()
     }
 
@@ -133,10 +138,7 @@ impl Tries {
             1 => file.extend((0..1 + r.below(33)).map(|_| r.bits() as u8)),
             2 => drop(file.drain(at..at + 16)),
             3 => file.extend_from_within(at..at + 16),
-            4 => {
-                let other = r.below(records) * 16;
-                (0..16).for_each(|i| file.swap(at + i, other + i));
-            }
+            4 => *file = block_twice(r, file),
             5 => file[at] = r.pick(self.call.kinds()),
             6 => file[at] = r.bits() as u8,
             // A field at or beside its limits.
@@ -154,6 +156,16 @@ impl Tries {
                 file[any] ^= 1 << r.below(8);
             }
         }
+    }
+}
+
+/// A changed file as it is written: mostly in order again, now and then as the
+/// changes have left it, or out of order in other ways.
+fn placed(r: &mut Random, file: Vec<u8>) -> Vec<u8> {
+    match r.below(16) {
+        0 => file,
+        1 => disturbed(r, &file),
+        _ => sorted(&file),
     }
 }
 
@@ -196,7 +208,7 @@ fn small_kenward_roger(r: &mut Random) -> Vec<Record> {
         // One block, mostly as it should be.
         let (m, k) = (1 + r.below(2), 1 + r.below(2));
         out.grid(crate::Z, n, m * k, r);
-        out.put(crate::BLOCK, 0, k, m, 0.0);
+        out.put(BLOCK, 0, k, m, 0.0);
         let thetas = if r.once_in(10) { r.below(4) } else { k * (k + 1) / 2 };
         out.grid(crate::THETA, thetas, 1, r);
     }

@@ -1,21 +1,19 @@
 -- `records_arrived::text_arrived` meets its contract.
 use Prim.Native.Nat.{_*_}
 use mathlib.Core.Path.{_≡_, sym, ap, _∙_}
-use mathlib.Core.Bool.{true, false}
 use native.Mathlib.Omega.{arith}
 use denote.Ref.{now}
 use lib.ListN.{length}
 use lib.Seq.{sets, length-take-le}
 use Rattle.arithmetic_cutoffs.specs.Cutoffs.{documentCutoffs}
 use Rattle.records_answer_text.proofs.CursorLaws.{named}
-use Rattle.records_arrived.specs.joints.ArrivedCall.{unkept}
 use Rattle.records_arrived.proofs.ArrivedLaws.{text-unkept, text-kept}
 use borrow.Author.Needs.{needs}
 use Rattle.records_arrived.proofs.text_arrived.Statement.{statement}
 use Rattle.records_arrived.proofs.text_arrived.Tie as tie
 
-unkept-requires : tie.Need-unkept-requires
-unkept-requires c κs = search needs
+unkept-number-requires : tie.Need-unkept-number-requires
+unkept-number-requires c κs = search needs
 
 no-entry-requires : tie.Need-no-entry-requires
 no-entry-requires c κs = search needs
@@ -26,8 +24,7 @@ put-run-requires c κs = search needs
 returns : tie.Need-returns
 returns c =
     let start = c .before .before .before .before .before .before .args in
-    let u : unkept (start .a) ≡ true = cc in
-    let p = named {n = 512} (c .put-run .ensures) (text-unkept documentCutoffs (start .a) (now (start .kept)) _ (cc) u) (omega arith) in
+    let p = named {n = 512} (c .put-run .ensures) (text-unkept documentCutoffs (start .a) (now (start .kept)) _ (c .before .before .before .before .unkept-number .ensures) _ (c .before .no-entry .ensures) (c .before .before .before .if1 .taken)) (omega arith) in
     let m = p .moved in
     let s = p .short in
     ((omega arith, omega arith), p .stored)
@@ -44,15 +41,14 @@ text-requires c κs = search needs
 returns-2 : tie.Need-returns-2
 returns-2 c =
     let start = c .before .before .before .before .before .before .before .args in
-    let u : unkept (start .a) ≡ false = cc in
-    let f = text-kept documentCutoffs (start .a) (now (start .kept)) u in
+    let f = text-kept documentCutoffs (start .a) (now (start .kept)) _ (c .before .before .before .before .before .unkept-number .ensures) (c .before .before .before .before .if1 .left) in
     ((c .text .ensures .0 .0 ∙ ap length f, c .text .ensures .0 .1), c .text .ensures .1 ∙ ap (sets (now (start .out)) 0) f)
 
 pub text-arrived-spec : {M : Type 1} → statement M
 text-arrived-spec =
     tie.close
     (tie.spec
-    unkept-requires
+    unkept-number-requires
     no-entry-requires
     put-run-requires
     returns

@@ -10,15 +10,15 @@ use Rattle.records.specs.Kinds.{kindsOf, satterthwaiteKinds, limits}
 use Rattle.records.specs.File.{count}
 use Rattle.records.specs.Parameters.{sizes, kinds, refusal}
 use Rattle.records_sheet.specs.joints.Sheet.{sheetAfter}
-use Rattle.records_ddf.proofs.Judged.{form-refused, value-refused, reader-accepts, AcceptedSizes, accepted-sizes}
+use Rattle.records_ddf.proofs.Judged.{file-refused, value-refused, reader-accepts, AcceptedSizes, accepted-sizes}
 use borrow.Author.Needs.{needs}
 use Rattle.records_ddf.proofs.refusal.Statement.{statement}
 use Rattle.records_ddf.proofs.refusal.Tie as tie
 
 -- src/lib.rt:35:9
-form-refusal-requires : tie.Need-form-refusal-requires
+file-refusal-requires : tie.Need-file-refusal-requires
 unfolding kindsOf satterthwaiteKinds limits
-form-refusal-requires c κs =
+file-refusal-requires c κs =
     let p = c .before .before .before .before .pre in
     (omega arith, omega arith, p .0 .0, p .0 .1)
 
@@ -28,7 +28,7 @@ same-length c = search needs
 
 -- src/lib.rt:37:9
 returns : tie.Need-returns
-returns c = (form-refused _ _ (c .before .before .before .form-refusal .ensures) (c .if1 .taken), λ e. absurd (c .if1 .taken e))
+returns c = (file-refused _ _ (c .before .before .before .file-refusal .ensures) (c .if1 .taken), λ e. absurd (c .if1 .taken e))
 
 -- src/lib.rt:39:8
 any-not-finite-requires : tie.Need-any-not-finite-requires
@@ -40,7 +40,7 @@ same-length-2 c = search needs
 
 -- src/lib.rt:40:9
 returns-2 : tie.Need-returns-2
-returns-2 c = (value-refused _ (sym (c .before .before .before .before .before .form-refusal .ensures) ∙ c .before .before .if1 .left) (sym (c .before .any-not-finite .ensures) ∙ c .if2 .taken), λ e. absurd (omega arith))
+returns-2 c = (value-refused _ (sym (c .before .before .before .before .before .file-refusal .ensures) ∙ c .before .before .if1 .left) (sym (c .before .any-not-finite .ensures) ∙ c .if2 .taken), λ e. absurd (omega arith))
 
 -- src/lib.rt:42:9
 parameter-sizes-requires : tie.Need-parameter-sizes-requires
@@ -48,7 +48,7 @@ parameter-sizes-requires c κs = search needs
 
 -- the file is not refused, so that its sizes are small and its cells have room
 accepted : (c : tie.Else2) → refusal (now (c .before .before .before .before .before .before .before .before .before .before .args .s)) ≡ 0
-accepted c = sym (reader-accepts _ (sym (c .before .before .before .before .before .form-refusal .ensures) ∙ c .before .before .if1 .left) (sym (c .before .any-not-finite .ensures) ∙ c .if2 .left))
+accepted c = sym (reader-accepts _ (sym (c .before .before .before .before .before .file-refusal .ensures) ∙ c .before .before .if1 .left) (sym (c .before .any-not-finite .ensures) ∙ c .if2 .left))
 
 sizes-at-hand : (c : tie.After-parameter-sizes) → AcceptedSizes (now (c .before .before .before .before .before .before .before .before .before .before .before .args .s)) (c .parameter-sizes .result)
 sizes-at-hand c = accepted-sizes _ _ (accepted (c .before)) (c .parameter-sizes .ensures)
@@ -87,7 +87,7 @@ pub refusal-spec : {M : Type 1} → statement M
 refusal-spec =
     tie.close
     (tie.spec
-    form-refusal-requires
+    file-refusal-requires
     same-length
     returns
     any-not-finite-requires

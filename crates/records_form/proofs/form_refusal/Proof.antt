@@ -1,5 +1,5 @@
 -- `records_form::form_refusal` meets its contract.
-use Prim.Native.Nat.{ℕ, _%_, _≤_}
+use Prim.Native.Nat.{ℕ, _≤_}
 use native.Mathlib.Omega.{arith}
 use mathlib.Core.Path.{_≡_, sym, ap, _∙_, subst}
 use mathlib.Core.Bool.{Bool, false}
@@ -14,7 +14,7 @@ use Rattle.records_sizes.specs.joints.Gathered.{sizesOf, tableOf}
 use Rattle.records.specs.Cells.{slotCount}
 use Rattle.records_sheet.specs.joints.Sheet.{Small, missingIn, flagsAfter}
 use Rattle.records_sheet.proofs.Sheets.{any-missing-read, length-flags}
-use Rattle.records_form.proofs.FormLaws.{odd-length, bad-record, cell-again, cell-missing, cell-beyond, well-formed, sizes-small, sizes-fit}
+use Rattle.records_form.proofs.FormLaws.{bad-record, cell-again, cell-missing, cell-beyond, well-formed, sizes-small, sizes-fit}
 use borrow.Author.Needs.{needs}
 use Rattle.records_form.proofs.form_refusal.Statement.{statement}
 use Rattle.records_form.proofs.form_refusal.Tie as tie
@@ -28,103 +28,84 @@ use Rattle.records_sheet.proofs.first_slots.Reads as first-slots-reads
 use Rattle.records_sheet.proofs.mark_cells.Reads as mark-cells-reads
 use Rattle.records_sizes.proofs.sizes_of.Reads as sizes-of-reads
 
--- src/lib.rt:24:9
-returns : tie.Need-returns
-returns c =
-    let a = c .before .before .before .args in
-    odd-length (kindsOf (a .call) (limits (a .w))) (tableOf (a .call) (now (a .s))) (now (a .s)) (c .if1 .taken)
-
--- src/lib.rt:26:22
 limits-requires : tie.Need-limits-requires
 limits-requires c κs = search needs
 
--- src/lib.rt:26:8
 any-bad-requires : tie.Need-any-bad-requires
 any-bad-requires c κs = search needs
 
--- src/lib.rt:27:9
-returns-2 : tie.Need-returns-2
-returns-2 c =
-    let a = c .before .before .before .before .before .before .args in
+returns : tie.Need-returns
+returns c =
+    let a = c .before .before .before .before .before .args in
     let e = c .before .before .limits .ensures in
-    bad-record (kindsOf (a .call) (limits (a .w))) (tableOf (a .call) (now (a .s))) (now (a .s)) (ap (λ (z : Sizes). any (count (now (a .s))) (badRecord (kindsOf (a .call) z) (now (a .s)))) (sym e) ∙ sym (c .before .any-bad .ensures) ∙ c .if2 .taken)
+    bad-record (kindsOf (a .call) (limits (a .w))) (tableOf (a .call) (now (a .s))) (now (a .s)) (ap (λ (z : Sizes). any (count (now (a .s))) (badRecord (kindsOf (a .call) z) (now (a .s)))) (sym e) ∙ sym (c .before .any-bad .ensures) ∙ c .if1 .taken)
 
--- src/lib.rt:29:9
 sizes-of-requires : tie.Need-sizes-of-requires
 sizes-of-requires c κs = search needs
 
--- src/lib.rt:30:8
 any-beyond-requires : tie.Need-any-beyond-requires
 any-beyond-requires c κs = search needs
 
--- src/lib.rt:31:9
-returns-3 : tie.Need-returns-3
-returns-3 c =
-    let a = c .before .before .before .before .before .before .before .before .before .args in
+returns-2 : tie.Need-returns-2
+returns-2 c =
+    let a = c .before .before .before .before .before .before .before .before .args in
     let e = c .before .before .sizes-of .ensures in
-    cell-beyond (kindsOf (a .call) (limits (a .w))) (tableOf (a .call) (now (a .s))) (now (a .s)) (ap (λ (z : Sizes). any (count (now (a .s))) (beyond (kindsOf (a .call) z) (now (a .s)))) (sym e) ∙ sym (c .before .any-beyond .ensures) ∙ c .if3 .taken)
+    cell-beyond (kindsOf (a .call) (limits (a .w))) (tableOf (a .call) (now (a .s))) (now (a .s)) (ap (λ (z : Sizes). any (count (now (a .s))) (beyond (kindsOf (a .call) z) (now (a .s)))) (sym e) ∙ sym (c .before .any-beyond .ensures) ∙ c .if2 .taken)
 
--- src/lib.rt:33:18
 -- no record is bad, so that the sizes at hand are small and their cells have room
 record Sound (call : ℕ) (w : ℕ) (s : List ℕ) (z : Sizes) : Type 0 where
   sized : z ≡ sizesOf call s
-  whole : length s % 16 ≡ 0
   good : any (count s) (badRecord (kindsOf call (limits w)) s) ≡ false
   within : any (count s) (beyond (kindsOf call z) s) ≡ false
   small : Small z
   fit : slotCount (kindsOf call z) ≤ slotCount (kindsOf call (limits w))
 
-sound-of : (call w : ℕ) (s : List ℕ) (z l : Sizes) (bad far : Bool) → 1 ≤ w → w ≤ 256 → length s % 16 ≡ 0 → l ≡ limits w → bad ≡ any (count s) (badRecord (kindsOf call l) s) → bad ≡ false → z ≡ sizesOf call s → far ≡ any (count s) (beyond (kindsOf call z) s) → far ≡ false → Sound call w s z
-sound-of call w s z l bad far h1 h2 hl el eb fb ez ef ff =
+sound-of : (call w : ℕ) (s : List ℕ) (z l : Sizes) (bad far : Bool) → 1 ≤ w → w ≤ 256 → l ≡ limits w → bad ≡ any (count s) (badRecord (kindsOf call l) s) → bad ≡ false → z ≡ sizesOf call s → far ≡ any (count s) (beyond (kindsOf call z) s) → far ≡ false → Sound call w s z
+sound-of call w s z l bad far h1 h2 el eb fb ez ef ff =
     let g : any (count s) (badRecord (kindsOf call (limits w)) s) ≡ false = ap (λ (y : Sizes). any (count s) (badRecord (kindsOf call y) s)) (sym el) ∙ sym eb ∙ fb in
     record {
       sized = ez;
-      whole = hl;
       good = g;
       within = sym ef ∙ ff;
       small = subst Small (sym ez) (sizes-small call w h1 s g h2);
       fit = subst (λ (y : Sizes). slotCount (kindsOf call y) ≤ slotCount (kindsOf call (limits w))) (sym ez) (sizes-fit call w h1 s g);
     }
 
-sound : (c : tie.Else3) → Sound (c .before .before .before .before .before .before .before .before .before .args .call) (c .before .before .before .before .before .before .before .before .before .args .w) (now (c .before .before .before .before .before .before .before .before .before .args .s)) (c .before .before .sizes-of .result)
+sound : (c : tie.Else2) → Sound (c .before .before .before .before .before .before .before .before .args .call) (c .before .before .before .before .before .before .before .before .args .w) (now (c .before .before .before .before .before .before .before .before .args .s)) (c .before .before .sizes-of .result)
 sound c =
-    let p = c .before .before .before .before .before .before .before .before .before .pre in
-    sound-of (c .before .before .before .before .before .before .before .before .before .args .call) (c .before .before .before .before .before .before .before .before .before .args .w) (now (c .before .before .before .before .before .before .before .before .before .args .s)) _ _ _ _ (p .0) (p .1) (c .before .before .before .before .before .before .if1 .left) (c .before .before .before .before .before .limits .ensures) (c .before .before .before .before .any-bad .ensures) (c .before .before .before .if2 .left) (c .before .before .sizes-of .ensures) (c .before .any-beyond .ensures) (c .if3 .left)
+    let p = c .before .before .before .before .before .before .before .before .pre in
+    sound-of (c .before .before .before .before .before .before .before .before .args .call) (c .before .before .before .before .before .before .before .before .args .w) (now (c .before .before .before .before .before .before .before .before .args .s)) _ _ _ _ (p .0) (p .1) (c .before .before .before .before .before .limits .ensures) (c .before .before .before .before .any-bad .ensures) (c .before .before .before .if1 .left) (c .before .before .sizes-of .ensures) (c .before .any-beyond .ensures) (c .if2 .left)
 
 first-slots-requires : tie.Need-first-slots-requires
 first-slots-requires c κs = sound c .small
 
--- src/lib.rt:34:8
 mark-cells-requires : tie.Need-mark-cells-requires
 mark-cells-requires c κs =
     let d = c .before .before .before in
     let h = sound d in
-    let p = d .before .before .before .before .before .before .before .before .before .pre in
+    let p = d .before .before .before .before .before .before .before .before .pre in
     let f = h .fit in
     ((h .small, c .before .before .first-slots .ensures, h .within), (p .2, omega arith))
 
--- src/lib.rt:35:9
 same-length : tie.Need-same-length
 same-length c = search needs
 
--- src/lib.rt:35:9
-returns-4 : tie.Need-returns-4
-returns-4 c =
+returns-3 : tie.Need-returns-3
+returns-3 c =
     let d = c .before .before .before .before .before .before .before in
     let h = sound d in
-    let a = c .before .before .before .before .before .before .before .before .before .before .before .before .before .before .before .before .args in
+    let a = c .before .before .before .before .before .before .before .before .before .before .before .before .before .before .before .args in
     let e = h .sized in
-    cell-again (kindsOf (a .call) (limits (a .w))) (tableOf (a .call) (now (a .s))) (now (a .s)) (ap (λ (z : Sizes). any (count (now (a .s))) (again (kindsOf (a .call) z) (now (a .s)))) (sym e) ∙ sym (c .before .before .before .mark-cells .ensures .0) ∙ c .if4 .taken)
+    cell-again (kindsOf (a .call) (limits (a .w))) (tableOf (a .call) (now (a .s))) (now (a .s)) (ap (λ (z : Sizes). any (count (now (a .s))) (again (kindsOf (a .call) z) (now (a .s)))) (sym e) ∙ sym (c .before .before .before .mark-cells .ensures .0) ∙ c .if3 .taken)
 
--- src/lib.rt:37:8
 any-missing-requires : tie.Need-any-missing-requires
 any-missing-requires c κs =
     let d = c .before .before .before .before .before .before .before .before .before in
     let h = sound d in
-    let p = d .before .before .before .before .before .before .before .before .before .pre in
-    let a = d .before .before .before .before .before .before .before .before .before .args in
+    let p = d .before .before .before .before .before .before .before .before .pre in
+    let a = d .before .before .before .before .before .before .before .before .args in
     let f = h .fit in
-    let e = ap length (c .before .before .before .before .before .mark-cells .ensures .1 (c .before .before .if4 .left)) ∙ length-flags (length (now (a .flags))) (kindsOf (a .call) (d .before .before .sizes-of .result)) (now (a .s)) (count (now (a .s))) in
+    let e = ap length (c .before .before .before .before .before .mark-cells .ensures .1 (c .before .before .if3 .left)) ∙ length-flags (length (now (a .flags))) (kindsOf (a .call) (d .before .before .sizes-of .result)) (now (a .s)) (count (now (a .s))) in
     (h .small, c .before .before .before .before .before .before .before .before .first-slots .ensures, omega arith)
 
 -- what the flags say is missing is what the file misses
@@ -137,55 +118,50 @@ absent call w s z r N fs h l ef er =
     ∙ any-missing-read call z s (h .within) N m
     ∙ ap (λ (y : Sizes). any kindNumbers (missing (kindsOf call y) s)) (h .sized)
 
--- src/lib.rt:38:9
 same-length-2 : tie.Need-same-length-2
 same-length-2 c = search needs
 
--- src/lib.rt:38:9
+returns-4 : tie.Need-returns-4
+returns-4 c =
+    let d = c .before .before .before .before .before .before .before .before .before .before .before in
+    let h = sound d in
+    let a = d .before .before .before .before .before .before .before .before .args in
+    let p = d .before .before .before .before .before .before .before .before .pre in
+    let m = absent (a .call) (a .w) (now (a .s)) _ _ (length (now (a .flags))) _ h (p .3) (c .before .before .before .before .before .before .before .mark-cells .ensures .1 (c .before .before .before .before .if3 .left)) (c .before .any-missing .ensures) in
+    cell-missing (kindsOf (a .call) (limits (a .w))) (tableOf (a .call) (now (a .s))) (now (a .s)) (sym m ∙ c .if4 .taken)
+
+same-length-3 : tie.Need-same-length-3
+same-length-3 c = search needs
+
 returns-5 : tie.Need-returns-5
 returns-5 c =
     let d = c .before .before .before .before .before .before .before .before .before .before .before in
     let h = sound d in
-    let a = d .before .before .before .before .before .before .before .before .before .args in
-    let p = d .before .before .before .before .before .before .before .before .before .pre in
-    let m = absent (a .call) (a .w) (now (a .s)) _ _ (length (now (a .flags))) _ h (p .3) (c .before .before .before .before .before .before .before .mark-cells .ensures .1 (c .before .before .before .before .if4 .left)) (c .before .any-missing .ensures) in
-    cell-missing (kindsOf (a .call) (limits (a .w))) (tableOf (a .call) (now (a .s))) (now (a .s)) (sym m ∙ c .if5 .taken)
-
--- src/lib.rt:19:1
-same-length-3 : tie.Need-same-length-3
-same-length-3 c = search needs
-
--- src/lib.rt:19:1
-returns-6 : tie.Need-returns-6
-returns-6 c =
-    let d = c .before .before .before .before .before .before .before .before .before .before .before in
-    let h = sound d in
-    let a = d .before .before .before .before .before .before .before .before .before .args in
-    let p = d .before .before .before .before .before .before .before .before .before .pre in
-    let m = absent (a .call) (a .w) (now (a .s)) _ _ (length (now (a .flags))) _ h (p .3) (c .before .before .before .before .before .before .before .mark-cells .ensures .1 (c .before .before .before .before .if4 .left)) (c .before .any-missing .ensures) in
+    let a = d .before .before .before .before .before .before .before .before .args in
+    let p = d .before .before .before .before .before .before .before .before .pre in
+    let m = absent (a .call) (a .w) (now (a .s)) _ _ (length (now (a .flags))) _ h (p .3) (c .before .before .before .before .before .before .before .mark-cells .ensures .1 (c .before .before .before .before .if3 .left)) (c .before .any-missing .ensures) in
     let e = h .sized in
-    well-formed (kindsOf (a .call) (limits (a .w))) (tableOf (a .call) (now (a .s))) (now (a .s)) (h .whole) (h .good)
-    (ap (λ (z : Sizes). any (count (now (a .s))) (again (kindsOf (a .call) z) (now (a .s)))) (sym e) ∙ sym (c .before .before .before .before .before .before .before .mark-cells .ensures .0) ∙ c .before .before .before .before .if4 .left)
-    (sym m ∙ c .if5 .left)
+    well-formed (kindsOf (a .call) (limits (a .w))) (tableOf (a .call) (now (a .s))) (now (a .s)) (h .good)
+    (ap (λ (z : Sizes). any (count (now (a .s))) (again (kindsOf (a .call) z) (now (a .s)))) (sym e) ∙ sym (c .before .before .before .before .before .before .before .mark-cells .ensures .0) ∙ c .before .before .before .before .if3 .left)
+    (sym m ∙ c .if4 .left)
     (ap (λ (z : Sizes). any (count (now (a .s))) (beyond (kindsOf (a .call) z) (now (a .s)))) (sym e) ∙ h .within)
 
 pub form-refusal-spec : {M : Type 1} → statement M
 form-refusal-spec =
     tie.close
     (tie.spec
-    returns
     limits-requires
     any-bad-requires
-    returns-2
+    returns
     sizes-of-requires
     any-beyond-requires
-    returns-3
+    returns-2
     first-slots-requires
     mark-cells-requires
     same-length
-    returns-4
+    returns-3
     any-missing-requires
     same-length-2
-    returns-5
+    returns-4
     same-length-3
-    returns-6)
+    returns-5)

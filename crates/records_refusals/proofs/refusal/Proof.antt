@@ -9,7 +9,7 @@ use Rattle.records.specs.File.{count}
 use Rattle.records.specs.Series.{sizes}
 use Rattle.records_sheet.specs.joints.Sheet.{sheetAfter}
 use Rattle.records_sheet.proofs.Sheets.{length-sheet}
-use Rattle.records_refusals.proofs.RefusalLaws.{Sound, sound-of, form-refuses, size-is, size-refuses, value-refuses, sheet-refuses}
+use Rattle.records_refusals.proofs.RefusalLaws.{Sound, sound-of, file-refuses, size-is, size-refuses, value-refuses, sheet-refuses}
 use borrow.Author.Needs.{needs}
 use Rattle.records_refusals.proofs.refusal.Statement.{statement}
 use Rattle.records_refusals.proofs.refusal.Tie as tie
@@ -17,16 +17,16 @@ use Rattle.records_refusals.proofs.refusal.Reads as reads
 use Rattle.records_refusals.proofs.refusal.Lts as lts
 use Rattle.records_block_limits.proofs.bad_size.Reads as bad-size-reads
 use Rattle.records_file.proofs.any_not_finite.Reads as any-not-finite-reads
-use Rattle.records_form.proofs.form_refusal.Reads as form-refusal-reads
+use Rattle.records_form.proofs.file_refusal.Reads as file-refusal-reads
 use Rattle.records_refusals.proofs.sheet_refusal.Reads as sheet-refusal-reads
 use Rattle.records_series.proofs.blocks_of.Reads as blocks-of-reads
 use Rattle.records_sheet.proofs.fill_sheet.Reads as fill-sheet-reads
 use Rattle.records_sheet.proofs.first_slots.Reads as first-slots-reads
 use Rattle.records_sizes.proofs.series_sizes.Reads as series-sizes-reads
 
-form-refusal-requires : tie.Need-form-refusal-requires
+file-refusal-requires : tie.Need-file-refusal-requires
 unfolding kindsOf
-form-refusal-requires c κs = let p = c .before .before .before .before .pre in (p .some, p .most, p .clear, p .flagged)
+file-refusal-requires c κs = let p = c .before .before .before .before .pre in (p .some, p .most, p .clear, p .flagged)
 
 same-length : tie.Need-same-length
 same-length c = search needs
@@ -34,17 +34,17 @@ same-length c = search needs
 returns : tie.Need-returns
 returns c =
     let a = c .before .before .before .before .before .before .before .before .args in
-    (form-refuses (a .w) (now (a .s)) _ (c .before .before .before .form-refusal .ensures) (c .if1 .taken), λ q. absurd (c .if1 .taken q))
+    (file-refuses (a .w) (now (a .s)) _ (c .before .before .before .file-refusal .ensures) (c .if1 .taken), λ q. absurd (c .if1 .taken q))
 
 series-sizes-requires : tie.Need-series-sizes-requires
 series-sizes-requires c κs = search needs
 
--- its form does not refuse the file
+-- neither its length nor its order nor its form refuses the file
 sound : (c : tie.Else1) (z : Sizes) → z ≡ sizes (now (c .before .before .before .before .before .before .before .before .args .s)) → Sound (c .before .before .before .before .before .before .before .before .args .w) (now (c .before .before .before .before .before .before .before .before .args .s)) z
 sound c z e =
     let a = c .before .before .before .before .before .before .before .before .args in
     let p = c .before .before .before .before .before .before .before .before .pre in
-    sound-of (a .w) (now (a .s)) z _ (p .some) (p .most) (c .before .before .before .form-refusal .ensures) (c .if1 .left) e
+    sound-of (a .w) (now (a .s)) z _ (p .some) (p .most) (c .before .before .before .file-refusal .ensures) (c .if1 .left) e
 
 blocks-of-requires : tie.Need-blocks-of-requires
 blocks-of-requires c κs = sound (c .before) _ (c .series-sizes .ensures) .few
@@ -120,7 +120,7 @@ pub refusal-spec : {M : Type 1} → statement M
 refusal-spec =
     tie.close
     (tie.spec
-    form-refusal-requires
+    file-refusal-requires
     same-length
     returns
     series-sizes-requires

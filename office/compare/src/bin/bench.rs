@@ -80,7 +80,7 @@ fn marked_run(file: &[u8]) {
 
 const RUNS: [fn(&[u8]); 3] = [panel, lme_rs, marked_run];
 
-/// Accepted files of a size, the records in a random order.
+/// Accepted files of a size.
 fn files(size: &Size) -> Vec<Vec<u8>> {
     let mut random = Random::new(1000 * size.n as u64 + 10 * size.p as u64 + size.rows as u64);
     let mut out = Vec::new();

@@ -1,0 +1,47 @@
+-- Document 02, "Req 01": "A sorted file keeps its answers". What each call returned, wrote and printed by document 01's list of reasons, which has no 12 and takes records "in any order"; and the statement.
+use Prim.Native.Nat.{ℕ}
+use mathlib.Core.Path.{_≡_}
+use mathlib.Core.Bool.{Bool, false, not, cond}
+use mathlib.Core.List.{List, _∷_, _++_}
+use lib.Dec.{eqb}
+use lib.ListN.{length}
+use Rattle.arithmetic_cutoffs.specs.declared.Cutoffs.{Cutoffs}
+use Rattle.algebra.specs.Reasons.{first}
+use Rattle.adjustment.specs.Adjusted.{adjustmentReasons}
+use Rattle.records.specs.Order.{falls}
+use Rattle.records.specs.Layout.{answerBytes, entryBytes}
+use Rattle.records.specs.Text.{textOf}
+use Rattle.records.specs.Series.{design, phi, sigma2, anyOrderReasons}
+use Rattle.records.specs.Parameters.{anyOrderReasons as parametersInAnyOrder}
+use Rattle.records.specs.KenwardRogerCall.{run, testReasons, number, entries, returned, written}
+use Rattle.records.specs.SatterthwaiteCall.{outcome, testReasons as satterthwaiteTestReasons, returned as satterthwaiteReturned, written as satterthwaiteWritten}
+
+-- ---- the Kenward–Roger call, and the program
+module _ (w : ℕ) (c : Cutoffs) (s : List ℕ) where
+  unfoldable pub anyOrderList : List (ℕ × Bool)
+  anyOrderList = anyOrderReasons w s ++ (adjustmentReasons c (design s) (phi s) (sigma2 s) ++ testReasons c s)
+
+  unfoldable pub anyOrderReturned : List ℕ → ℕ
+  anyOrderReturned answer = first ((1, not (eqb (length answer) 168)) ∷ anyOrderList)
+
+  unfoldable pub anyOrderWritten : List ℕ → List ℕ
+  anyOrderWritten answer = cond (eqb (anyOrderReturned answer) 0) (answerBytes (run c s .entries)) answer
+
+  unfoldable pub anyOrderText : List ℕ
+  anyOrderText = textOf (first anyOrderList) (run c s .entries)
+
+-- ---- the Satterthwaite call
+module _ (c : Cutoffs) (s answer : List ℕ) where
+  unfoldable pub satterthwaiteInAnyOrder : ℕ
+  satterthwaiteInAnyOrder = first ((1, not (eqb (length answer) 24)) ∷ (parametersInAnyOrder s ++ satterthwaiteTestReasons c s))
+
+  unfoldable pub satterthwaiteWrittenInAnyOrder : List ℕ
+  satterthwaiteWrittenInAnyOrder = cond (eqb satterthwaiteInAnyOrder 0) (entryBytes (outcome c s .entry)) answer
+
+-- A SORTED FILE KEEPS ITS ANSWERS: for every limit of specimens, cutoffs, file that rises and lent bytes, what is returned, what the lent bytes then hold, and the program's text
+pub record SortedKeeps : Type 0 where
+  pub sameNumber : (w : ℕ) (c : Cutoffs) (s answer : List ℕ) → falls s ≡ false → returned w c s answer ≡ anyOrderReturned w c s answer
+  pub sameBytes : (w : ℕ) (c : Cutoffs) (s answer : List ℕ) → falls s ≡ false → written w c s answer ≡ anyOrderWritten w c s answer
+  pub sameText : (w : ℕ) (c : Cutoffs) (s : List ℕ) → falls s ≡ false → textOf (number w c s) (entries w c s) ≡ anyOrderText w c s
+  pub sameTestNumber : (c : Cutoffs) (s answer : List ℕ) → falls s ≡ false → satterthwaiteReturned c s answer ≡ satterthwaiteInAnyOrder c s answer
+  pub sameTestBytes : (c : Cutoffs) (s answer : List ℕ) → falls s ≡ false → satterthwaiteWritten c s answer ≡ satterthwaiteWrittenInAnyOrder c s answer

@@ -1,0 +1,54 @@
+//! The order of the records by the reader: long files, and how often the files
+//! for trying a call reach each refusal.
+
+use reader::order;
+use reader::random::Random;
+use reader::tries::{Call, Tries};
+use reader::Record;
+use std::collections::BTreeMap;
+
+const CALLS: [Call; 2] = [Call::KenwardRoger, Call::Satterthwaite];
+
+fn refused(file: &[u8]) -> u32 {
+    let [a, b] = CALLS.map(|call| call.verdict(file).expect_err("no call has these kinds"));
+    assert_eq!(a, b);
+    a
+}
+
+/// Far more records than there are cells: the last pair counts, and the length
+/// comes before it.
+#[test]
+fn long_files() {
+    for count in [2, 836, 1024, 1025, 20_000] {
+        let bytes =
+            |records: &[Record]| -> Vec<u8> { records.iter().flat_map(|r| r.to_bytes()).collect() };
+        let mut records = order::rising(count);
+        assert_eq!(refused(&bytes(&records)), 2);
+        records.swap(count - 2, count - 1);
+        let falling = bytes(&records);
+        assert_eq!(refused(&falling), 12);
+        assert_eq!(refused(&falling[..falling.len() - 1]), 2);
+        records[count - 1] = records[count - 2];
+        assert_eq!(refused(&bytes(&records)), 12);
+    }
+}
+
+/// Of 100,000 files each refusal of the reader is met at least 100 times, 12 at
+/// least 10,000 times, and as many are accepted.
+#[test]
+fn tries_reach_each_refusal() {
+    for (call, few) in CALLS.into_iter().zip([&[3, 4, 5, 6, 7, 8][..], &[4]]) {
+        let tries = Tries::new(call);
+        let mut met: BTreeMap<u32, usize> = BTreeMap::new();
+        for seed in 0..100_000 {
+            let file = tries.file(&mut Random::new(seed));
+            *met.entry(call.verdict(&file).err().unwrap_or(0)).or_default() += 1;
+        }
+        let least = |number: u32, times: usize| {
+            let count = met.get(&number).copied().unwrap_or(0);
+            assert!(count >= times, "{call:?}: number {number} was met {count} times");
+        };
+        few.iter().for_each(|&number| least(number, 100));
+        [0, 2, 12].into_iter().for_each(|number| least(number, 10_000));
+    }
+}
