@@ -48,14 +48,15 @@ kinds s = satterthwaiteKinds (sizes s)
 unfoldable pub valueReasons : List ℕ → List (ℕ × Bool)
 valueReasons s = (4, any (count s) (notFinite s)) ∷ []
 
+-- all but the length: what the records say
 abbrev pub contentReasons : List ℕ → List (ℕ × Bool)
 contentReasons s = formReasons satterthwaite (kinds s) s ++ valueReasons s
 
--- document 01's list, for records "in any order"
+-- document 01's list, for records "in any order": "length not a multiple of 16", then the rest
 unfoldable pub anyOrderReasons : List ℕ → List (ℕ × Bool)
 anyOrderReasons s = lengthReasons s ++ contentReasons s
 
--- document 02's: the order is "checked directly after the multiple-of-16 test of 2 and before 2's other reasons"
+-- document 02's, "Req 01": the order is "checked directly after the multiple-of-16 test of 2 and before 2's other reasons"
 unfoldable pub reasons : List ℕ → List (ℕ × Bool)
 reasons s = lengthReasons s ++ (orderReasons s ++ contentReasons s)
 

@@ -107,14 +107,15 @@ valueReasons s =
     ∷ (8, zeroContrast s)
     ∷ []
 
+-- all but the length: what the records say
 abbrev pub contentReasons : ℕ → List ℕ → List (ℕ × Bool)
 contentReasons w s = formReasons (kenwardRoger w) (kinds s) s ++ (sizeReasons s ++ valueReasons s)
 
--- document 01's list, for records "in any order"
+-- document 01's list, for records "in any order": "length not a multiple of 16", then the rest
 unfoldable pub anyOrderReasons : ℕ → List ℕ → List (ℕ × Bool)
 anyOrderReasons w s = lengthReasons s ++ contentReasons w s
 
--- document 02's: the order is "checked directly after the multiple-of-16 test of 2 and before 2's other reasons"
+-- document 02's, "Req 01": the order is "checked directly after the multiple-of-16 test of 2 and before 2's other reasons"
 unfoldable pub reasons : ℕ → List ℕ → List (ℕ × Bool)
 reasons w s = lengthReasons s ++ (orderReasons s ++ contentReasons w s)
 
