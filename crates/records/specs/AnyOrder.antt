@@ -18,19 +18,23 @@ use Rattle.records.specs.SatterthwaiteCall.{outcome, testReasons as satt
 
 -- ---- the Kenward–Roger call, and the program
 module _ (w : ℕ) (c : Cutoffs) (s : List ℕ) where
+  -- document 01's "Refusals" from 2 on, as in KenwardRogerCall but for 12
   unfoldable pub anyOrderList : List (ℕ × Bool)
   anyOrderList = anyOrderReasons w s ++ (adjustmentReasons c (design s) (phi s) (sigma2 s) ++ testReasons c s)
 
+  -- what was returned for the lent bytes: 1 comes first
   unfoldable pub anyOrderReturned : List ℕ → ℕ
   anyOrderReturned answer = first ((1, not (eqb (length answer) 168)) ∷ anyOrderList)
 
+  -- what they held then: "lent answer bytes keep their contents" where it refused
   unfoldable pub anyOrderWritten : List ℕ → List ℕ
   anyOrderWritten answer = cond (eqb (anyOrderReturned answer) 0) (answerBytes (run c s .entries)) answer
 
+  -- what `pulltest` printed
   unfoldable pub anyOrderText : List ℕ
   anyOrderText = textOf (first anyOrderList) (run c s .entries)
 
--- ---- the Satterthwaite call
+-- ---- the Satterthwaite call: what it returned for the lent bytes, and what they held then
 module _ (c : Cutoffs) (s answer : List ℕ) where
   unfoldable pub satterthwaiteInAnyOrder : ℕ
   satterthwaiteInAnyOrder = first ((1, not (eqb (length answer) 24)) ∷ (parametersInAnyOrder s ++ satterthwaiteTestReasons c s))
