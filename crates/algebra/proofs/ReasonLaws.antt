@@ -153,3 +153,23 @@ first-alone a b n c z h k l = record { to = λ e. to (eqb (first a) 0) refl c (s
     to true q true e = (eqb-true (first a) 0 q, refl)
     to true q false e = absurd (first-lacks n b z l e)
     to false q d e = absurd (first-lacks n a z k e)
+
+-- ---- a list of one number
+-- every line has the number n
+abbrev pub only : ℕ → List Line → Bool
+only n [] = true
+only n (c ∷ cs) = eqb (c .0) n && only n cs
+
+rest-only : (z b : Bool) → z && b ≡ true → (z ≡ true) × (b ≡ true)
+rest-only true b e = (refl, e)
+rest-only false b e = absurd (false≢true e)
+
+-- what such a list refuses it refuses with n
+pub first-only : (n : ℕ) (l : List Line) → only n l ≡ true → (first l ≡ 0 → ⊥) → first l ≡ n
+unfolding first
+first-only n [] h f = absurd (f refl)
+first-only n (x ∷ l) h f = let m = rest-only (eqb (x .0) n) (only n l) h in go (x .1) (m .0) (first-only n l (m .1)) f
+  where
+    go : (c : Bool) → eqb (x .0) n ≡ true → ((first l ≡ 0 → ⊥) → first l ≡ n) → (cond c (x .0) (first l) ≡ 0 → ⊥) → cond c (x .0) (first l) ≡ n
+    go true m k f = eqb-true (x .0) n m
+    go false m k f = k f

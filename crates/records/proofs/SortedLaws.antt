@@ -1,15 +1,12 @@
 -- A sorted file keeps its answers: the number and the bytes that document 01's list gives, of both calls, and the program's text.
 use Prim.Native.Nat.{ℕ}
-use mathlib.Core.Path.{_≡_, refl, sym, ap, ap₂, _∙_}
+use mathlib.Core.Path.{_≡_, refl}
 use mathlib.Core.Bool.{Bool, true, false, cond}
 use mathlib.Core.List.{List}
-use native.Mathlib.Omega.{arith}
 use lib.Dec.{eqb}
 use lib.ListN.{length, replicate}
-use borrow.Author.Tests.{eqb-true}
 use Rattle.arithmetic_cutoffs.specs.declared.Cutoffs.{Cutoffs}
 use Rattle.algebra.specs.Reasons.{first}
-use Rattle.tests.specs.declared.Entry.{Entry}
 use Rattle.tests.specs.Answer.{noEntry}
 use Rattle.records.specs.File.{lengthReasons}
 use Rattle.records.specs.Order.{falls, orderReasons}
@@ -22,7 +19,7 @@ use Rattle.records.specs.SatterthwaiteCall.{outcome, allReasons as satte
 use Rattle.records.specs.AnyOrder.{anyOrderList, anyOrderReturned, anyOrderWritten, anyOrderText, satterthwaiteInAnyOrder, satterthwaiteWrittenInAnyOrder, SortedKeeps}
 use Rattle.records.proofs.CallLaws.{returned-is, satterthwaite-returned-is}
 
--- what is filled-once-accepted where a call returns 0, though the answer is chosen by the file's number: a call that returns 0 has lent bytes of the stated length, and the file's number is 0
+-- what is filled in where a call returns 0, though the answer is chosen by the file's number: a call that returns 0 has lent bytes of the stated length, and the file's number is 0
 filled-once-accepted : {A : Type 0} (stated : Bool) (n : ℕ) (full bare : A) (fill : A → List ℕ) (kept : List ℕ)
     → cond (eqb (cond stated n 1) 0) (fill (cond (eqb n 0) full bare)) kept ≡ cond (eqb (cond stated n 1) 0) (fill full) kept
 filled-once-accepted false n full bare fill kept = refl

@@ -1,13 +1,14 @@
 -- The number of a file's form and of the file, by which of their conditions holds; and the sizes of a file with no bad record, for either call.
-use Prim.Native.Nat.{ℕ, _%_, _≤_}
+use Prim.Native.Nat.{ℕ, _%_, _<_, _≤_}
 use native.Mathlib.Omega.{arith}
 use mathlib.Core.Path.{_≡_, refl, sym, _∙_}
-use mathlib.Core.Bool.{Bool, true, false, not, cond}
-use mathlib.Core.List.{List, [], _∷_, _++_}
-use lib.Dec.{eqb}
+use mathlib.Core.Bool.{Bool, true, false, cond, true≢false}
+use mathlib.Core.List.{List, _++_}
+use lib.Dec.{eqb, lit<}
 use lib.ListN.{length}
 use borrow.Author.Tests.{eq-eqb, ne-eqb}
 use Rattle.algebra.specs.Reasons.{first}
+use Rattle.algebra.proofs.ReasonLaws.{line, first-none, first-only}
 use Rattle.records.specs.Scan.{any}
 use Rattle.records.specs.Kinds.{Table, kindsOf, kindNumbers, kenwardRogerKinds, satterthwaiteKinds, limits}
 use Rattle.records.specs.Cells.{slotCount}
@@ -21,47 +22,35 @@ use Rattle.records_sheet.specs.joints.Sheet.{Small}
 use Rattle.records_sheet.proofs.Sheets.{below-small}
 
 -- ---- four conditions with one number
-four : (a b c d : Bool) → first ((2, a) ∷ (2, b) ∷ (2, c) ∷ (2, d) ∷ []) ≡ cond a 2 (cond b 2 (cond c 2 (cond d 2 0)))
-unfolding first
-four a b c d = refl
-
 module _ (limit sized : Table) (s : List ℕ) where
   abbrev formNumber : ℕ
   formNumber = first (formReasons limit sized s)
 
-  cases : formNumber ≡ cond (any (count s) (badRecord limit s)) 2 (cond (any (count s) (again sized s)) 2 (cond (any kindNumbers (missing sized s)) 2 (cond (any (count s) (beyond sized s)) 2 0)))
+  -- whichever of them holds
+  form-refuses : (i : ℕ) → i < 4 → line (formReasons limit sized s) i .1 ≡ true → 2 ≡ formNumber
   unfolding formReasons
-  cases = four _ _ _ _
+  form-refuses i l h =
+      sym (first-only 2 (formReasons limit sized s) refl (λ e. true≢false (sym h ∙ first-none (formReasons limit sized s) refl e i l)))
 
   pub bad-record : any (count s) (badRecord limit s) ≡ true → 2 ≡ formNumber
-  bad-record h = sym (cases ∙ rw h)
+  unfolding formReasons
+  bad-record h = form-refuses 0 (lit< tt) h
 
   pub cell-again : any (count s) (again sized s) ≡ true → 2 ≡ formNumber
-  cell-again h = sym (cases ∙ rw h (go (any (count s) (badRecord limit s))))
-    where
-      go : (a : Bool) → _≡_ {A = ℕ} (cond a 2 2) 2
-      go true = refl
-      go false = refl
+  unfolding formReasons
+  cell-again h = form-refuses 1 (lit< tt) h
 
   pub cell-missing : any kindNumbers (missing sized s) ≡ true → 2 ≡ formNumber
-  cell-missing h = sym (cases ∙ rw h (go (any (count s) (badRecord limit s)) (any (count s) (again sized s))))
-    where
-      go : (a b : Bool) → _≡_ {A = ℕ} (cond a 2 (cond b 2 2)) 2
-      go true b = refl
-      go false true = refl
-      go false false = refl
+  unfolding formReasons
+  cell-missing h = form-refuses 2 (lit< tt) h
 
   pub cell-beyond : any (count s) (beyond sized s) ≡ true → 2 ≡ formNumber
-  cell-beyond h = sym (cases ∙ rw h (go (any (count s) (badRecord limit s)) (any (count s) (again sized s)) (any kindNumbers (missing sized s))))
-    where
-      go : (a b c : Bool) → _≡_ {A = ℕ} (cond a 2 (cond b 2 (cond c 2 2))) 2
-      go true b c = refl
-      go false true c = refl
-      go false false true = refl
-      go false false false = refl
+  unfolding formReasons
+  cell-beyond h = form-refuses 3 (lit< tt) h
 
   pub well-formed : any (count s) (badRecord limit s) ≡ false → any (count s) (again sized s) ≡ false → any kindNumbers (missing sized s) ≡ false → any (count s) (beyond sized s) ≡ false → 0 ≡ formNumber
-  well-formed a b c d = sym (cases ∙ rw (a, b, c, d))
+  unfolding formReasons first
+  well-formed a b c d = rw (a, b, c, d)
 
   -- ---- with the length and the order before it
   abbrev pub rawNumberBy : ℕ

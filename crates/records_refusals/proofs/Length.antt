@@ -3,21 +3,22 @@ use Prim.Native.Nat.{ℕ, _*_, _<_, _≤_}
 use native.Mathlib.Omega.{arith}
 use mathlib.Core.Path.{_≡_, refl, sym, _∙_}
 use mathlib.Core.Bool.{Bool, true, false, cond, false≢true}
-use mathlib.Core.List.{List, [], _∷_}
+use mathlib.Core.List.{List, _++_}
 use lib.Dec.{eqb}
 use lib.ListN.{length}
 use borrow.Author.Tests.{eq-eqb, eqb-true, eqb-false}
 use Rattle.algebra.specs.Reasons.{first}
+use Rattle.algebra.proofs.ReasonLaws.{Line, first-only}
 use Rattle.records.specs.declared.Sizes.{Sizes}
 use Rattle.records.specs.Scan.{any}
-use Rattle.records.specs.Kinds.{Table, kindsOf, kenwardRoger}
+use Rattle.records.specs.Kinds.{Table, kindsOf, limits, kenwardRoger}
 use Rattle.records.specs.Cells.{slotCount}
 use Rattle.records.specs.File.{count, kindOf, cellRow, cellColumn, cellCount, isCell, again, beyond, lengthReasons, formReasons}
 use Rattle.records.specs.Order.{falls, orderReasons}
 use Rattle.records.specs.Series.{sizes, refusal}
 use Rattle.records.proofs.ScanLaws.{any-none}
 use Rattle.records.proofs.Slots.{sized-inside, slot-cell}
-use Rattle.records_sizes.specs.joints.Gathered.{sizesOf}
+use Rattle.records_sizes.specs.joints.Gathered.{sizesOf, tableOf}
 use Rattle.records_sheet.specs.joints.Sheet.{slotOf}
 use Rattle.records_sheet.proofs.Sheets.{slot-of-fits}
 use Rattle.records_form.proofs.FormLaws.{sizes-fit}
@@ -49,19 +50,17 @@ few-records call z s within once = pigeons (slotCount t) (count s) (slotOf t s) 
         let c = slot-cell t s (kindOf s j) (cellCount t s j) (cellRow t s j) (cellColumn t s j) i (sized i (omega arith)) (sized-inside t s j (sized j h)) in
         false≢true (sym (none i j l h) ∙ sym c ∙ eq-eqb (slotOf t s i) (slotOf t s j) e)
 
--- what length and form refuse they refuse with 2
-two : (a b c d e : Bool) → (first ((2, a) ∷ (12, false) ∷ (2, b) ∷ (2, c) ∷ (2, d) ∷ (2, e) ∷ []) ≡ 0 → ⊥) → first ((2, a) ∷ (12, false) ∷ (2, b) ∷ (2, c) ∷ (2, d) ∷ (2, e) ∷ []) ≡ 2
-unfolding first
-two true b c d e h = refl
-two false true c d e h = refl
-two false false true d e h = refl
-two false false false true e h = refl
-two false false false false true h = refl
-two false false false false false h = absurd (h refl)
-
+-- what refuses a rising file by its length or its form refuses it with 2
 raw-two : (w : ℕ) (s : List ℕ) → falls s ≡ false → (rawNumber w s ≡ 0 → ⊥) → rawNumber w s ≡ 2
-unfolding lengthReasons orderReasons formReasons
-raw-two w s r = rw r (two _ _ _ _ _)
+unfolding lengthReasons orderReasons formReasons first
+raw-two w s r h = without ∙ first-only 2 asked refl (λ e. h (without ∙ e))
+  where
+    -- its list but for the order
+    asked : List Line
+    asked = lengthReasons s ++ formReasons (kindsOf 0 (limits w)) (tableOf 0 s) s
+
+    without : rawNumber w s ≡ first asked
+    without = rw r
 
 pub too-long : (w : ℕ) → 1 ≤ w → (s : List ℕ) → 16 * slotCount (kenwardRoger w) < length s → falls s ≡ false → refusal w s ≡ 2
 unfolding kindsOf sizesOf
