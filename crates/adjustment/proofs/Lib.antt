@@ -3,3 +3,4 @@ pub mod PackedLaws
 pub mod InformationLaws
 pub mod AdjustedLaws
 pub mod AlikeScaling
+pub mod WrittenLaws

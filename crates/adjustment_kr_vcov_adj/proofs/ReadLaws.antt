@@ -20,6 +20,7 @@ use Rattle.algebra.specs.Small.{Rows}
 use Rattle.adjustment.specs.Covariance.{Design, matrices, gRows}
 use Rattle.adjustment.specs.Information.{hRows, oRows, pRows, qRows, packed, kCell, ieCell, mirror}
 use Rattle.adjustment.specs.Adjusted.{Stack, matrixAt, stack, qStack, hStack, oStack, pStack, qStackOf, ieRows}
+use Rattle.adjustment.proofs.WrittenLaws.{stack-ext}
 use Rattle.adjustment_work.specs.joints.Work.{square, part, putStack, withHs}
 use Rattle.adjustment_kr_vcov_adj.specs.joints.Parts.{psOf, qsOf, ieOf}
 use Rattle.adjustment_work.specs.joints.Steps.{sAt, hAt, sxAt, oAt, ieAt}
@@ -31,11 +32,6 @@ unfolding product
 shape-product r n c a b = shape-table plusZero r c (cell floats n a b)
 
 -- stacks whose matrices agree
-pub stack-ext : (K k : ℕ) (f g : ℕ → Rows) → ((r : ℕ) → r < k → f r ≡ g r) → stack K k f ≡ stack K k g
-unfolding stack
-stack-ext K k f g h =
-    fold-ext 0 k (λ r st. set st r (f r)) (λ r st. set st r (g r)) (replicate K (blank plusZero 6 6)) (λ r lo hr st. ap (λ (m : Rows). set st r m) (h r hr))
-
 pub q-stack-ext : (N : ℕ) (f g : ℕ → ℕ → Rows) → ((r t : ℕ) → r < N → t < N → f r t ≡ g r t) → qStack N f ≡ qStack N g
 unfolding qStack
 q-stack-ext N f g h =

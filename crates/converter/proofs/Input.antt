@@ -19,13 +19,13 @@ use Rattle.records.specs.File.{count, cell, rows, present, beyond}
 use Rattle.records.specs.Series.{coefficients, contrastRows, sizes, kinds, cellValue, sigma2, beta, betaH, contrast, reasons}
 use Rattle.records.proofs.Slots.{Inside}
 use Rattle.records.proofs.AcceptedSeries.{AcceptedSeries}
+use Rattle.records.proofs.SeriesInput.{series-sized, beta-at, betaH-at, contrast-at}
 use Rattle.converter.specs.Converted.{kenwardRogerShift, kenwardRogerChange, rewritten, converted}
 use Rattle.converter.specs.ReadAlike.{Exact, ReadAlike}
 use Rattle.converter.proofs.Among.{among}
 use Rattle.converter.proofs.ReadAlike.{exact-cells}
 use Rattle.converter.proofs.Series.{series-numbered, series-alike, kinds-same}
 use Rattle.converter.proofs.Refusals.{reasons-same}
-use Rattle.converter.proofs.SameSizes.{sized, beta-at, betaH-at, contrast-at}
 
 -- sigma2, the cells of β and those of the contrast are, scaled, f64 numbers again; so are those of β_H where there is a contrast
 pub record InputExact (k : ℤ) (m : ℕ → ℤ) (s : List ℕ) : Type 0 where
@@ -55,7 +55,7 @@ none n h = omega arith
 
 module _ (w : ℕ) (k : ℤ) (m : ℕ → ℤ) (s : List ℕ) (c : AcceptedSeries w s) (h : InputExact k m s) where
   p6 : coefficients s ≤ 6
-  p6 = sized w s c .coefficients
+  p6 = series-sized w s c .coefficients
 
   -- cell (n, r, j) of a kind, scaled by what the change does to it, is an f64 number
   abbrev Again : ℕ → Type 0
@@ -74,7 +74,7 @@ module _ (w : ℕ) (k : ℤ) (m : ℕ → ℤ) (s : List ℕ) (c : AcceptedSerie
   unfolding kindAt kenwardRogerKinds width sizes kenwardRogerShift
   lines-again n r j i =
       rw (none n (i .number))
-      (subst (λ (x : Float). T (fits binary64 (scale (m r) x))) (contrast-at s p6 (sized w s c .contrast) r j (i .row) (i .column)) (h .lines r j (i .row) (i .column)))
+      (subst (λ (x : Float). T (fits binary64 (scale (m r) x))) (contrast-at s p6 (series-sized w s c .contrast) r j (i .row) (i .column)) (h .lines r j (i .row) (i .column)))
 
   hypotheses-again : Again 10
   unfolding kindAt kenwardRogerKinds width sizes kenwardRogerShift

@@ -8,7 +8,6 @@ pub mod ReadAlike
 pub mod Among
 pub mod Series
 pub mod Refusals
-pub mod SameSizes
 pub mod Input
 pub mod Satterthwaite
 pub mod Examples

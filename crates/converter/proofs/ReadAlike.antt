@@ -14,12 +14,13 @@ use Rattle.records.specs.Kinds.{Table, kindAt, valueHolds}
 use Rattle.records.specs.File.{count, kindOf, rowOf, columnOf, countOf, bitsOf, valueOf, cellCount, cellRow, cellColumn, isCell, cell, again, beyond, notFinite}
 use Rattle.records.proofs.ScanLaws.{any-none, any-same, last-both}
 use Rattle.records.proofs.Slots.{Inside, sized-inside, Names, cell-names}
+use Rattle.records.proofs.CellLaws.{own-cell}
 use Rattle.converter.specs.Converted.{Change, rewritten, converted}
 use Rattle.converter.specs.ReadAlike.{moves, movesRecord, Exact, OnFloats, Alike, numbered, ConvertedReadsAlike}
 use Rattle.converter.proofs.Rewritten.{rewritten-zero, rewritten-scales}
 use Rattle.converter.proofs.Fields.{converted-alike, bits-other, value-other, value-new}
 use Rattle.converter.proofs.SameFile.{count-same, rows-same, columns-same, present-same, isCell-same, length-same, falls-same, form-same}
-use Rattle.converter.proofs.Cells.{own-fields, value-is-cell}
+use Rattle.converter.proofs.Cells.{own-fields}
 
 module _ (g : Change) (s : List ℕ) where
   abbrev s' : List ℕ
@@ -108,7 +109,7 @@ exact-cells g sized s once within f h = record { again = go }
         let b = any-none (count s) (beyond sized s) i l within in
         let o = own-fields sized s i b (f (kindOf s i) e) in
         let x : T (fits binary64 (scale (moves g (kindOf s i) (cellCount sized s i) (cellRow sized s i) (cellColumn sized s i)) (valueOf s i))) =
-        subst (λ (y : Float). T (fits binary64 (scale (moves g (kindOf s i) (cellCount sized s i) (cellRow sized s i) (cellColumn sized s i)) y))) (value-is-cell sized s once i l)
+        subst (λ (y : Float). T (fits binary64 (scale (moves g (kindOf s i) (cellCount sized s i) (cellRow sized s i) (cellColumn sized s i)) y))) (own-cell sized s i l once)
         (h (kindOf s i) (cellCount sized s i) (cellRow sized s i) (cellColumn sized s i) e (sized-inside sized s i b)) in
         let u : moves g (kindOf s i) (cellCount sized s i) (cellRow sized s i) (cellColumn sized s i) ≡ movesRecord g s i = rw (o .number, o .row, o .column) in
         subst (λ (z : ℤ). T (fits binary64 (scale z (valueOf s i)))) u x

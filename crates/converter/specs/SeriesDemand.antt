@@ -12,6 +12,9 @@ use Rattle.arithmetic_cutoffs.specs.declared.Cutoffs.{Cutoffs}
 use Rattle.tests.specs.Answer.{noEntry}
 use Rattle.records.specs.Series.{coefficients, contrastRows}
 use Rattle.records.specs.KenwardRogerCall.{number, entries, returned, written}
+use Rattle.records.specs.Archive.{archiveBytes}
+use Rattle.records.specs.SecondFile.{ownTests}
+use Rattle.records.specs.ArchiveCall.{seriesArchive, testingReturned, testingWritten}
 use Rattle.tests.specs.Verdict.{verdict}
 use Rattle.converter.specs.Converted.{kenwardRogerChange, converted}
 use Rattle.converter.specs.AnswerBytes.{SameAnswer}
@@ -66,6 +69,14 @@ KenwardRogerDemand = EverySeries SameVerdicts
 
 abbrev pub KenwardRogerAnswer : Type 0
 KenwardRogerAnswer = EverySeries SameAnswers
+
+-- and for a test from the series' archive with the series' own records of kinds 8 to 10 (document 02, "Req 02"): the archive and the second file of the converted series answer as those of the series
+abbrev pub SameArchiveAnswers : ℕ → Cutoffs → List ℕ → List ℕ → Type 0
+SameArchiveAnswers w c s s' =
+    SameAnswer 168 (testingWritten c (archiveBytes (seriesArchive c s)) (ownTests s)) (testingReturned c (archiveBytes (seriesArchive c s')) (ownTests s')) (testingWritten c (archiveBytes (seriesArchive c s')) (ownTests s'))
+
+abbrev pub ArchiveAnswer : Type 0
+ArchiveAnswer = EverySeries SameArchiveAnswers
 
 -- and at the panel, "specimens n 1–24"
 abbrev pub PanelDemand : Type 0

@@ -1,48 +1,20 @@
 -- A whole series: the adjustment's own number, and the run on what it gives.
-use Prim.Native.Nat.{ℕ, _*_, _≤_, _<_}
-use native.Mathlib.Omega.{arith}
+use Prim.Native.Nat.{ℕ, _*_, _≤_}
 use mathlib.Core.Path.{ap}
 use mathlib.Core.Bool.{Bool}
 use mathlib.Core.List.{[], _∷_}
 use lib.IntN.{ℤ, natAbs}
-use lib.ListN.{replicate, length-replicate}
-use lib.Ieee.{nan, binary64, mul}
-use lib.Ieee.Fits.{add-fits, mul-fits}
-use Rattle.arithmetic.specs.Numbers.{plusZero, minusOne}
-use Rattle.algebra.specs.Table.{blank}
-use Rattle.algebra.specs.Kind.{floats}
-use Rattle.algebra.specs.Product.{at, product, transpose, plusCells}
-use Rattle.algebra.proofs.FoldLaws.{span-at}
-use Rattle.algebra.proofs.TableLaws.{table-at}
 use Rattle.arithmetic_cutoffs.specs.declared.Cutoffs.{Cutoffs}
 use Rattle.adjustment.specs.Covariance.{Design, matrices, sigmaRows, cholesky, notDefinite, inverseFactorRefused}
-use Rattle.adjustment.specs.Information.{oRows, pRows}
-use Rattle.adjustment.specs.Adjusted.{Stack, matrixAt, stack, phiARows, pStack, fromPrecision, precisionOf, informationRefused, adjustment, adjustmentReasons, adjustmentRefusal}
+use Rattle.adjustment.specs.Adjusted.{fromPrecision, precisionOf, informationRefused, adjustment, adjustmentReasons, adjustmentRefusal}
+use Rattle.adjustment.proofs.WrittenLaws.{phiA-written, ps-written}
 use Rattle.algebra.specs.Reasons.{first}
 use Rattle.algebra.specs.Small.{Rows}
 use Rattle.tests.specs.Verdict.{RunBears}
 use Rattle.converter_run.specs.joints.ConvertedInput.{Input, runOn, ConvertedInput, RunSizes, WrittenCells, Written, WrittenUnits, SeriesSurvives}
 use Rattle.converter_run.proofs.MovingRun.{run-survives, finite-survives}
 
--- ---- what the adjustment gives are f64 numbers: sums and products
-phiA-written : (p : ℕ) (phi u : Rows) → p ≤ 6 → WrittenCells p p (phiARows p phi u)
-unfolding phiARows plusCells
-phiA-written p phi u hp i j h l =
-    rw (table-at plusZero 6 6 p p _ i j nan h l hp hp) (add-fits binary64 _ _)
-
-p-written : (n p : ℕ) (o sx : Rows) → p ≤ 6 → WrittenCells p p (pRows n p o sx)
-unfolding pRows
-p-written n p o sx hp i j h l =
-    let m : Rows = product floats 6 6 p n p (transpose floats p n n p o) sx in
-    rw (table-at plusZero 6 6 p p (λ a b. mul binary64 minusOne (at floats m a b)) i j nan h l hp hp) (mul-fits binary64 minusOne (at floats m i j))
-
-ps-written : (d : Design) (os : Stack) (s : Rows) → d .p ≤ 6 → matrices d ≤ 4 → (r : ℕ) → r < matrices d → WrittenCells (d .p) (d .p) (matrixAt (pStack d os s) r)
-unfolding pStack stack
-ps-written d os s hp hN r h =
-    let sx : Rows = oRows (d .n) (d .p) s (d .x) in
-    rw (span-at 0 (matrices d) (λ r. pRows (d .n) (d .p) (matrixAt os r) sx) (replicate 4 (blank plusZero 6 6)) r [] (omega arith) h (omega (arith, length-replicate 4 (blank plusZero 6 6), hN)))
-    (p-written (d .n) (d .p) (matrixAt os r) sx hp)
-
+-- ---- what the adjustment gives are f64 numbers
 pub adjustment-written : (c : Cutoffs) (d : Design) (phi : Rows) → d .p ≤ 6 → matrices d ≤ 4 → WrittenCells (d .p) (d .p) phi
     → WrittenUnits (d .p) (matrices d) phi (adjustment c d phi)
 unfolding fromPrecision

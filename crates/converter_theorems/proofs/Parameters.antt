@@ -18,7 +18,7 @@ use Rattle.tests.proofs.SatterthwaiteSurvives.{InputSizes}
 use Rattle.records.specs.Parameters.{coefficients, contrastRows, parameters, sizes, kinds, cellValue, jacobians, inputs}
 use Rattle.records.proofs.AcceptedParameters.{AcceptedParameters}
 use Rattle.records.proofs.Limits.{parameters-below}
-use Rattle.converter.proofs.Cells.{cell-fits}
+use Rattle.records.proofs.CellLaws.{cell-fits}
 use Rattle.converter_theorems.proofs.Operands.{Written}
 
 positive : (x : ℕ) → 0 < max 1 x

@@ -30,10 +30,10 @@ use Rattle.converter_run.proofs.MovingInput.{multiplied-is-converted}
 use Rattle.converter_run.proofs.MovingSeries.{series-survives}
 use Rattle.converter.specs.Converted.{kenwardRogerChange, converted}
 use Rattle.records.proofs.AcceptedSeries.{AcceptedSeries, accepted-series}
+use Rattle.records.proofs.SeriesInput.{series-sized, matrices-bound, beta-fits, betaH-fits, contrast-fits, phi-fits, sigma2-fits}
 use Rattle.records.proofs.CallLaws.{number-is as call-number, other-way}
 use Rattle.algebra.proofs.ReasonLaws.{first-append, first-front}
 use Rattle.converter.proofs.Series.{design-same, phi-same}
-use Rattle.converter.proofs.SameSizes.{sized, matrices-bound, beta-fits, betaH-fits, contrast-fits, phi-fits, sigma2-fits}
 use Rattle.converter.proofs.Input.{InputExact, r-same, sigma2-product, beta-product, betaH-product, contrast-product, reasons-converted}
 use Rattle.converter.specs.SeriesDemand.{AllBear, SameVerdicts}
 
@@ -82,13 +82,13 @@ module _ {t : ℕ} (w : ℕ) (c : Cutoffs) (s : List ℕ) (k : ℤ) (m : ℕ →
   taken = accepted-series w s (not-refused c s w e)
 
   hp : coefficients s ≤ 6
-  hp = sized w s taken .coefficients
+  hp = series-sized w s taken .coefficients
 
   hr : contrastRows s ≤ 6
-  hr = sized w s taken .contrast
+  hr = series-sized w s taken .contrast
 
   sizes : RunSizes (coefficients s) (matrices (design s)) (contrastRows s)
-  sizes = record { some = sized w s taken .some; coefficients = hp; matrices = matrices-bound w s taken; contrast = hr }
+  sizes = record { some = series-sized w s taken .some; coefficients = hp; matrices = matrices-bound w s taken; contrast = hr }
 
   cells-written : WrittenCells (coefficients s) (coefficients s) (phi s)
   cells-written = phi-fits s hp

@@ -12,9 +12,11 @@ use Rattle.arithmetic.proofs.MarkLaws.{inside-bears}
 use Rattle.records.specs.Layout.{entryBytes, answerBytes}
 use Rattle.records.specs.KenwardRogerCall as kenwardRoger
 use Rattle.records.specs.SatterthwaiteCall as satterthwaite
+use Rattle.records.specs.ArchiveCall.{seriesRefusal}
 use Rattle.records.proofs.CallLaws.{returned-is, satterthwaite-returned-is}
+use Rattle.records.proofs.ArchiveKeeps.{answered-archived, archive-keeps}
 use Rattle.converter.specs.Converted.{kenwardRogerChange, satterthwaiteChange, converted}
-use Rattle.converter.specs.SeriesDemand.{AllInside, AllBear, KenwardRogerBorne, KenwardRogerBorneAnswer, KenwardRogerDemand, KenwardRogerAnswer, PanelDemand, PanelAnswer, SameVerdicts, SameAnswers}
+use Rattle.converter.specs.SeriesDemand.{AllInside, AllBear, KenwardRogerBorne, KenwardRogerBorneAnswer, KenwardRogerDemand, KenwardRogerAnswer, ArchiveAnswer, PanelDemand, PanelAnswer, SameVerdicts, SameAnswers}
 use Rattle.converter.specs.ParametersDemand.{ParametersWith, SameEntryBytes, SatterthwaiteBorne, SatterthwaiteBorneAnswer, SatterthwaiteDemand, SatterthwaiteAnswer, SameVerdict}
 use Rattle.converter.proofs.AnswerBytes.{entry-same, answer-same, same-answer}
 use Rattle.converter_theorems.proofs.SeriesCall.{series-same}
@@ -85,6 +87,18 @@ borne-answer-satterthwaite c rotation t s k near e bears =
 pub answer-kenward-roger : KenwardRogerAnswer
 answer-kenward-roger w c s k m near nears e inside =
     series-answer c w s (converted (kenwardRogerChange k m) s) e (converter-kenward-roger w c s k m near nears e inside)
+
+-- So does a test from its archive with its own records of kinds 8 to 10, since that is the call's answer.
+pub answer-archive : ArchiveAnswer
+answer-archive w c s k m near nears e inside =
+    let s' = converted (kenwardRogerChange k m) s in
+    let a = answer-kenward-roger w c s k m near nears e inside in
+    let h : seriesRefusal w c s ≡ 0 = answered-archived w c s e in
+    let h' : seriesRefusal w c s' ≡ 0 = answered-archived w c s' (converter-kenward-roger w c s k m near nears e inside .accepted) in
+    record {
+      returns = λ answer l. archive-keeps .sameNumber w c s' answer h' ∙ a .returns answer l;
+      writes = λ answer l. rw (archive-keeps .sameBytes w c s answer h, archive-keeps .sameBytes w c s' answer h') (a .writes answer l);
+    }
 
 pub answer-panel : PanelAnswer
 answer-panel = answer-kenward-roger 24

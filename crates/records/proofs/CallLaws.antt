@@ -7,7 +7,7 @@ use lib.Dec.{eqb}
 use lib.ListN.{length}
 use Rattle.arithmetic_cutoffs.specs.declared.Cutoffs.{Cutoffs}
 use Rattle.algebra.specs.Reasons.{first}
-use Rattle.algebra.proofs.ReasonLaws.{first-append}
+use Rattle.algebra.proofs.ReasonLaws.{Line, named, first-append}
 use Rattle.adjustment.specs.Adjusted.{adjustmentReasons, adjustmentRefusal}
 use Rattle.records.specs.File.{lengthReasons, formReasons}
 use Rattle.records.specs.Order.{orderReasons}
@@ -20,6 +20,10 @@ use Rattle.records.specs.SatterthwaiteCall.{outcome, testReasons as satt
 pub other-way : (b : Bool) (x y : ℕ) → cond (not b) x y ≡ cond b y x
 other-way true x y = refl
 other-way false x y = refl
+
+-- a list that gives nothing leaves it to the next
+pub first-next : (a b : List Line) → named a ≡ true → first a ≡ 0 → first (a ++ b) ≡ first b
+first-next a b h e = first-append a b h ∙ ap (λ (n : ℕ). cond (eqb n 0) (first b) n) e
 
 module _ (c : Cutoffs) (s : List ℕ) where
   -- the adjustment's number, 0 where it does not refuse

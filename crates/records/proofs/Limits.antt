@@ -1,53 +1,68 @@
 -- A file with no bad record keeps within its call's limits, and what its sizes leave a kind lies within what the limits leave it.
 use Prim.Native.Nat.{ℕ, _+_, _<_, _≤_}
 use mathlib.Core.Path.{_≡_, refl, ap, sym, _∙_}
-use mathlib.Core.Bool.{Bool, true, false, cond}
+use mathlib.Core.Bool.{Bool, true, false, _&&_, cond}
 use mathlib.Core.List.{List, [], _∷_}
 use native.Mathlib.Nat.{mul-le-mul}
 use native.Mathlib.Omega.{arith}
 use native.Mathlib.Decide.{decLt}
-use lib.Dec.{eqb, lit<}
-use borrow.Author.Tests.{eqb-true, ne-eqb, ltb-true}
+use lib.Dec.{eqb, ltb}
+use borrow.Author.Tests.{eqb-true, eq-eqb, ne-eqb, ltb-true}
 use Rattle.records.specs.declared.Field.{Field}
 use Rattle.records.specs.declared.Field.the-variants.{Index}
 use Rattle.records.specs.declared.Kind.{Kind}
 use Rattle.records.specs.declared.Sizes.{Sizes}
-use Rattle.records.specs.Scan.{any, total}
-use Rattle.records.specs.Kinds.{holds, width, Table, kindAt, kindNumbers, unread, kenwardRogerKinds, satterthwaiteKinds, kindsOf, limits, kenwardRoger, satterthwaite}
+use Rattle.records.specs.Scan.{any, most, total}
+use Rattle.records.specs.Kinds.{holds, width, Table, kindAt, kindNumbers, byRowAndColumn, byCount, unread, kenwardRogerKinds, satterthwaiteKinds, archiveKinds, testKinds, kindsOf, limits, kenwardRoger, satterthwaite, archiveTable, testTable}
 use Rattle.records.specs.Cells.{slots, firstSlot, slotCount}
-use Rattle.records.specs.File.{count, kindOf, rowOf, columnOf, badRecord, rows, columns}
+use Rattle.records.specs.File.{count, kindOf, rowOf, columnOf, outOf, badRecord, rows, columns}
 use Rattle.records.specs.Series as series
 use Rattle.records.specs.Parameters as parameters
-use Rattle.records.proofs.ScanLaws.{any-none, most-le, total-grows}
-use Rattle.records.proofs.Slots.{Inside, within, good-within}
+use Rattle.records.specs.Archive as archive
+use Rattle.records.specs.SecondFile as second
+use Rattle.records.proofs.ScanLaws.{and-true, any-none, most-le, le-most, total-grows}
+use Rattle.records.proofs.Slots.{Inside, Within, within, good-within}
 
--- ---- the largest indices of a file with no bad record
-holds-below : (f : Field) (x limit : ℕ) → f ≡ Index limit → holds f x ≡ true → x < limit
+-- ---- the largest indices of a file: one more than the largest number in a field of a kind's records
+-- a number that a field with a limit holds is below it
+pub holds-below : (f : Field) (x limit : ℕ) → f ≡ Index limit → holds f x ≡ true → x < limit
 unfolding holds
 holds-below f x limit e h = ltb-true x limit (ap (λ (g : Field). holds g x) (sym e) ∙ h)
 
-module _ (t : Table) (s : List ℕ) (good : any (count s) (badRecord t s) ≡ false) where
-  pub rows-within : (k limit : ℕ) → kindAt t k .row ≡ Index limit → rows s k ≤ limit
-  unfolding rows
-  rows-within k limit e = most-le (count s) (λ i. cond (eqb (kindOf s i) k) (rowOf s i + 1) 0) limit (λ i l. go i l (eqb (kindOf s i) k) refl)
+-- each record's is below the most
+pub field-below-most : (s : List ℕ) (k : ℕ) (field : ℕ → ℕ) (j : ℕ) → j < count s → kindOf s j ≡ k → field j < most (count s) (λ i. cond (eqb (kindOf s i) k) (field i + 1) 0)
+field-below-most s k field j l e =
+    let z : field j + 1 ≤ most (count s) (λ i. cond (eqb (kindOf s i) k) (field i + 1) 0) = rw (eq-eqb (kindOf s j) k e) at (le-most (count s) (λ i. cond (eqb (kindOf s i) k) (field i + 1) 0) j l) in
+    omega arith
+
+-- and where each record lies within what its kind has the most is within the kind's limit
+module _ (t : Table) (s : List ℕ) (inside : (i : ℕ) → i < count s → outOf (kindAt t (kindOf s i)) s i ≡ false) where
+  most-within : (part : Kind → Field) (field : ℕ → ℕ) → ((z : Kind) (i : ℕ) → Within z s i → holds (part z) (field i) ≡ true) → (k limit : ℕ) → part (kindAt t k) ≡ Index limit
+      → most (count s) (λ i. cond (eqb (kindOf s i) k) (field i + 1) 0) ≤ limit
+  most-within part field held k limit e = most-le (count s) (λ i. cond (eqb (kindOf s i) k) (field i + 1) 0) limit (λ i l. go i l (eqb (kindOf s i) k) refl)
     where
-      go : (i : ℕ) → i < count s → (b : Bool) → eqb (kindOf s i) k ≡ b → cond b (rowOf s i + 1) 0 ≤ limit
+      go : (i : ℕ) → i < count s → (b : Bool) → eqb (kindOf s i) k ≡ b → cond b (field i + 1) 0 ≤ limit
       go i l false q = omega arith
       go i l true q =
-          let w = within (kindAt t (kindOf s i)) s i (good-within t s i (any-none (count s) (badRecord t s) i l good)) in
-          let h = holds-below (kindAt t (kindOf s i) .row) (rowOf s i) limit (ap (λ (j : ℕ). kindAt t j .row) (eqb-true (kindOf s i) k q) ∙ e) (w .row) in
+          let z = kindAt t (kindOf s i) in
+          let h = holds-below (part z) (field i) limit (ap (λ (j : ℕ). part (kindAt t j)) (eqb-true (kindOf s i) k q) ∙ e) (held z i (within z s i (inside i l))) in
           omega arith
 
-  pub columns-within : (k limit : ℕ) → kindAt t k .column ≡ Index limit → columns s k ≤ limit
+  pub rows-inside : (k limit : ℕ) → kindAt t k .row ≡ Index limit → rows s k ≤ limit
+  unfolding rows
+  rows-inside k limit e = most-within (λ (z : Kind). z .row) (rowOf s) (λ z i w. w .row) k limit e
+
+  pub columns-inside : (k limit : ℕ) → kindAt t k .column ≡ Index limit → columns s k ≤ limit
   unfolding columns
-  columns-within k limit e = most-le (count s) (λ i. cond (eqb (kindOf s i) k) (columnOf s i + 1) 0) limit (λ i l. go i l (eqb (kindOf s i) k) refl)
-    where
-      go : (i : ℕ) → i < count s → (b : Bool) → eqb (kindOf s i) k ≡ b → cond b (columnOf s i + 1) 0 ≤ limit
-      go i l false q = omega arith
-      go i l true q =
-          let w = within (kindAt t (kindOf s i)) s i (good-within t s i (any-none (count s) (badRecord t s) i l good)) in
-          let h = holds-below (kindAt t (kindOf s i) .column) (columnOf s i) limit (ap (λ (j : ℕ). kindAt t j .column) (eqb-true (kindOf s i) k q) ∙ e) (w .column) in
-          omega arith
+  columns-inside k limit e = most-within (λ (z : Kind). z .column) (columnOf s) (λ z i w. w .column) k limit e
+
+-- so in a file with no bad record
+module _ (t : Table) (s : List ℕ) (good : any (count s) (badRecord t s) ≡ false) where
+  pub rows-within : (k limit : ℕ) → kindAt t k .row ≡ Index limit → rows s k ≤ limit
+  rows-within = rows-inside t s (λ i l. good-within t s i (any-none (count s) (badRecord t s) i l good))
+
+  pub columns-within : (k limit : ℕ) → kindAt t k .column ≡ Index limit → columns s k ≤ limit
+  columns-within = columns-inside t s (λ i l. good-within t s i (any-none (count s) (badRecord t s) i l good))
 
 -- ---- sizes below sizes
 pub record Below (a b : Sizes) : Type 0 where
@@ -97,6 +112,72 @@ parameters-below s g =
       weighted = λ _. refl;
       hypothesis = λ _. refl;
     }
+
+pub archive-sizes-below : (p N : ℕ) → p ≤ 6 → N ≤ 4 → Below (archive.sizesAt p N) (limits 0)
+unfolding archive.sizesAt limits
+archive-sizes-below p N few fewer =
+    record {
+      specimens = omega arith;
+      coefficients = few;
+      columns = omega arith;
+      blocks = omega arith;
+      thetas = omega arith;
+      contrasts = omega arith;
+      parameters = fewer;
+      weighted = λ _. refl;
+      hypothesis = λ _. refl;
+    }
+
+pub archive-below : (s : List ℕ) → any (count s) (badRecord archiveTable s) ≡ false → Below (archive.sizes s) (limits 0)
+unfolding archive.sizes kindAt archiveKinds limits
+archive-below s g =
+    let a = rows-within archiveTable s g 11 6 refl in
+    let b = columns-within archiveTable s g 11 6 refl in
+    let c = rows-within archiveTable s g 14 4 refl in
+    let d = columns-within archiveTable s g 14 4 refl in
+    archive-sizes-below (archive.coefficients s) (archive.parameters s) (omega arith) (omega arith)
+
+pub second-below : (s : List ℕ) → any (count s) (badRecord testTable s) ≡ false → Below (second.sizes s) (limits 0)
+unfolding second.sizes kindAt testKinds limits
+second-below s g =
+    let a = rows-within testTable s g 8 6 refl in
+    let b = rows-within testTable s g 9 6 refl in
+    record {
+      specimens = omega arith;
+      coefficients = omega arith;
+      columns = omega arith;
+      blocks = omega arith;
+      thetas = omega arith;
+      contrasts = omega arith;
+      parameters = omega arith;
+      weighted = λ _. refl;
+      hypothesis = λ _. refl;
+    }
+
+-- ---- what holds of each number and kind that a table lists, and of a kind that it does not list, holds of each kind by its number
+abbrev pub AllNumbered : Table → (ℕ → Kind → Type 0) → Type 0
+AllNumbered [] Q = Unit {0}
+AllNumbered (e ∷ t) Q = Q (e .0) (e .1) × AllNumbered t Q
+
+pub each-numbered : (t : Table) (Q : ℕ → Kind → Type 0) → AllNumbered t Q → (k : ℕ) → Q k unread → Q k (kindAt t k)
+unfolding kindAt
+each-numbered [] Q h k u = u
+each-numbered (e ∷ t) Q h k u = go (eqb k (e .0)) refl (each-numbered t Q (h .1) k u)
+  where
+    go : (b : Bool) → eqb k (e .0) ≡ b → Q k (kindAt t k) → Q k (cond b (e .1) (kindAt t k))
+    go true q x = rw (eqb-true k (e .0) q) (h .0)
+    go false q x = x
+
+-- ---- what holds of the table of each kind of file holds of the table of any
+pub each-file : (P : (Sizes → Table) → Type 0) → P kenwardRogerKinds → P satterthwaiteKinds → P archiveKinds → P testKinds → (call : ℕ) → P (λ z. kindsOf call z)
+unfolding kindsOf
+each-file P series parameters archive second call = go (eqb call 0) (eqb call 1) (eqb call 2)
+  where
+    go : (x y v : Bool) → P (λ z. cond x (kenwardRogerKinds z) (cond y (satterthwaiteKinds z) (cond v (archiveKinds z) (testKinds z))))
+    go true y v = series
+    go false true v = parameters
+    go false false true = archive
+    go false false false = second
 
 -- ---- so that they leave each kind no more cells
 pub record Narrower (a b : Kind) : Type 0 where
@@ -195,37 +276,58 @@ module _ (a b : Sizes) (h : Below a b) where
         ),
       )
 
+  archive-narrowers : Narrowers (archiveKinds a) (archiveKinds b)
+  unfolding archiveKinds width
+  archive-narrowers =
+      let same : 1 ≤ 1 = omega arith in
+      let square : Narrower (byRowAndColumn (a .coefficients) (a .coefficients)) (byRowAndColumn (b .coefficients) (b .coefficients)) = record { number = same; row = h .coefficients; column = h .coefficients } in
+      let squares : Narrower (byCount (a .parameters) (a .coefficients) (a .coefficients)) (byCount (b .parameters) (b .coefficients) (b .coefficients)) = record { number = h .parameters; row = h .coefficients; column = h .coefficients } in
+      (refl, square, (refl, square, (refl, squares, (refl, record { number = same; row = h .parameters; column = h .parameters }, (refl, square, (refl, square, (refl, squares, (refl, record { number = same; row = same; column = same }, tt))))))))
+
+  second-narrowers : Narrowers (testKinds a) (testKinds b)
+  unfolding testKinds width
+  second-narrowers =
+      let same : 1 ≤ 1 = omega arith in
+      let y = guarded (a .hypothesis) (b .hypothesis) (a .coefficients) (b .coefficients) (h .hypothesis) (h .coefficients) in
+      (refl, record { number = same; row = h .coefficients; column = same }, (refl, record { number = same; row = h .contrasts; column = h .coefficients }, (refl, record { number = same; row = y; column = same }, tt)))
+
   pub narrower : (call k : ℕ) → Narrower (kindAt (kindsOf call a) k) (kindAt (kindsOf call b) k)
-  unfolding kindsOf
-  narrower call k = go (eqb call 0)
-    where
-      go : (x : Bool) → Narrower (kindAt (cond x (kenwardRogerKinds a) (satterthwaiteKinds a)) k) (kindAt (cond x (kenwardRogerKinds b) (satterthwaiteKinds b)) k)
-      go true = narrower-at (kenwardRogerKinds a) (kenwardRogerKinds b) series-narrowers k
-      go false = narrower-at (satterthwaiteKinds a) (satterthwaiteKinds b) parameters-narrowers k
+  narrower call k =
+      each-file (λ T. Narrower (kindAt (T a) k) (kindAt (T b) k))
+      (narrower-at (kenwardRogerKinds a) (kenwardRogerKinds b) series-narrowers k)
+      (narrower-at (satterthwaiteKinds a) (satterthwaiteKinds b) parameters-narrowers k)
+      (narrower-at (archiveKinds a) (archiveKinds b) archive-narrowers k)
+      (narrower-at (testKinds a) (testKinds b) second-narrowers k)
+      call
 
   pub fewer-slots : (call k : ℕ) → firstSlot (kindsOf call a) k ≤ firstSlot (kindsOf call b) k
   unfolding firstSlot slots
   fewer-slots call k = total-grows k _ _ (λ j _. let n = narrower call j in mul-le-mul (mul-le-mul (n .number) (n .row)) (n .column))
 
--- ---- no call reads a kind past the kinds' numbers
-unread-from : (z : Sizes) (k : ℕ) → kindNumbers ≤ k → (kindAt (kenwardRogerKinds z) k ≡ unread) × (kindAt (satterthwaiteKinds z) k ≡ unread)
-unfolding kindAt kenwardRogerKinds satterthwaiteKinds
-unread-from z k l = (rw (off 1 (lit< tt), off 2 (lit< tt), off 3 (lit< tt), off 4 (lit< tt), off 5 (lit< tt), off 6 (lit< tt), off 7 (lit< tt), off 8 (lit< tt), off 9 (lit< tt), off 10 (lit< tt)), rw (off 8 (lit< tt), off 9 (lit< tt), off 10 (lit< tt), off 30 (lit< tt), off 31 (lit< tt), off 32 (lit< tt)))
-  where
-    off : (n : ℕ) → n < 33 → eqb k n ≡ false
-    off n h = ne-eqb k n (λ e. absurd (omega arith))
+-- ---- no file has a kind past the kinds' numbers
+abbrev allBelow : Table → Bool
+allBelow [] = true
+allBelow (e ∷ t) = ltb (e .0) kindNumbers && allBelow t
+
+unread-from : (t : Table) (k : ℕ) → kindNumbers ≤ k → allBelow t ≡ true → kindAt t k ≡ unread
+unfolding kindAt
+unread-from [] k l h = refl
+unread-from (e ∷ t) k l h =
+    let p = and-true (ltb (e .0) kindNumbers) (allBelow t) h in
+    rw (ne-eqb k (e .0) (λ q. absurd (omega (arith, ltb-true (e .0) kindNumbers (p .0))))) (unread-from t k l (p .1))
 
 pub kind-below : (call : ℕ) (z : Sizes) (k n r c : ℕ) → Inside (kindAt (kindsOf call z) k) n r c → k < kindNumbers
-unfolding kindsOf width
+unfolding width kenwardRogerKinds satterthwaiteKinds archiveKinds testKinds
 kind-below call z k n r c w = go (decLt k kindNumbers)
   where
-    none : (x : Bool) → kindNumbers ≤ k → Inside (kindAt (cond x (kenwardRogerKinds z) (satterthwaiteKinds z)) k) n r c → ⊥
-    none true l w = let e = ap (λ (y : Kind). width (y .row)) (unread-from z k l .0) in let h = w .row in omega arith
-    none false l w = let e = ap (λ (y : Kind). width (y .row)) (unread-from z k l .1) in let h = w .row in omega arith
-
     go : Dec (k < kindNumbers) → k < kindNumbers
     go (yes l) = l
-    go (no l) = absurd (none (eqb call 0) (omega arith) w)
+    go (no l) =
+        let h : kindNumbers ≤ k = omega arith in
+        let e = each-file (λ T. kindAt (T z) k ≡ unread) (unread-from (kenwardRogerKinds z) k h refl) (unread-from (satterthwaiteKinds z) k h refl) (unread-from (archiveKinds z) k h refl) (unread-from (testKinds z) k h refl) call in
+        let f = ap (λ (y : Kind). width (y .row)) e in
+        let g = w .row in
+        absurd (omega arith)
 
 -- every cell that the panel's limits allow: w² + 7w + 91 at w = 24
 pub panel-slots : slotCount (kenwardRoger 24) ≡ 835

@@ -3,7 +3,7 @@
 use Prim.Native.Nat.{ℕ, _+_, _*_, _^_, _<_, _≤_}
 use mathlib.Core.Path.{_≡_, refl, ap, sym, _∙_}
 use mathlib.Core.List.{List}
-use mathlib.Core.Bool.{Bool, true, false, not, _&&_}
+use mathlib.Core.Bool.{Bool, true, false, not, _&&_, and-false}
 use native.Mathlib.Omega.{arith}
 use lib.Dec.{eqb}
 use lib.Ieee.{binary64, ofBits}
@@ -15,7 +15,7 @@ use Rattle.records.specs.Kinds.{holds, width, indexOf, Table, kindAt, ki
 use Rattle.records.specs.Cells.{slots, firstSlot, slotCount, offset, slot}
 use Rattle.records.specs.File.{count, kindOf, valueOf, cellRow, cellColumn, cellCount, outOf, beyond, isCell, again, has, cell, missing}
 use Rattle.records.specs.Written.{Content, fieldOf, fileOf}
-use Rattle.records.proofs.ScanLaws.{any-hit, none-any, last-at, Falls, total-falls, total-constant}
+use Rattle.records.proofs.ScanLaws.{any-hit, none-any, none-any-cells, last-at, Falls, total-falls, total-constant}
 use Rattle.records.proofs.Slots.{Inside, sized-inside, Names, names-cell, slot-below, slot-cell}
 use Rattle.records.proofs.WrittenLaws.{RecordIs, count-file, record-file}
 
@@ -142,12 +142,8 @@ module _ (t : Table) (f : ℕ → ℕ → ℕ → ℕ → Content) (fit : Fittin
   unfolding missing
   file-missing k l =
       let z = kindAt t k in
-      let none = none-any (width (z .count)) _ (λ n ln. none-any (width (z .row)) _ (λ r lr. none-any (width (z .column)) _ (λ c lc. ap not (file-has k n r c l (record { number = ln; row = lr; column = lc }))))) in
+      let none = none-any-cells (width (z .count)) (width (z .row)) (width (z .column)) (λ n r c. not (has t (fileOf t f) k n r c)) (λ n r c ln lr lc. ap not (file-has k n r c l (record { number = ln; row = lr; column = lc }))) in
       ap (λ (b : Bool). not (z .sparse) && b) none ∙ and-false (not (z .sparse))
-    where
-      and-false : (b : Bool) → b && false ≡ false
-      and-false true = refl
-      and-false false = refl
 
   -- and each cell has its number
   pub file-cell : (k n r c : ℕ) → k < kindNumbers → Inside (kindAt t k) n r c → cell t (fileOf t f) k n r c ≡ ofBits binary64 (f k n r c .bits)

@@ -1,9 +1,9 @@
--- Laws of the questions of specs/Scan.antt: at n + 1 as a loop counts, of what they say of each number below n, and of two questions that agree below n.
+-- Laws of the questions of specs/Scan.antt: at n + 1 as a loop counts, at m + n, of what they say of each number below n, and of two questions that agree below n.
 use Prim.Native.Nat.{ℕ, zero, suc, _+_, _-_, _*_, _<_, _≤_, max}
 use mathlib.Core.Path.{_≡_, refl, ap, ap₂, sym, _∙_}
-use mathlib.Core.Bool.{Bool, true, false, _||_, _&&_, cond, false≢true}
+use mathlib.Core.Bool.{Bool, true, false, _||_, _&&_, cond, false≢true, or-assoc, or-false as or-none}
 use mathlib.Core.Logic.{⊎-elim}
-use native.Mathlib.Nat.{not-suc-le-zero, le-of-suc-le-suc, eq-or-lt-of-le}
+use native.Mathlib.Nat.{not-suc-le-zero, le-of-suc-le-suc, eq-or-lt-of-le, add-zero, add-suc}
 use native.Mathlib.Numerals.{add-one}
 use native.Mathlib.Omega.{arith}
 use native.Mathlib.Decide.{decLt}
@@ -64,6 +64,19 @@ unfolding any
 any-same zero p q h = refl
 any-same (suc n) p q h = ap₂ _||_ (any-same n p q (λ i l. h i (omega arith))) (h n (omega arith))
 
+-- what those below m say, and then those from m on
+pub any-split : (m n : ℕ) (p : ℕ → Bool) → any (m + n) p ≡ any m p || any n (λ i. p (m + i))
+unfolding any
+any-split m zero p = ap (λ (k : ℕ). any k p) (add-zero m) ∙ sym (or-none (any m p))
+any-split m (suc n) p = ap (λ (k : ℕ). any k p) (add-suc m n) ∙ ap (λ (x : Bool). x || p (m + n)) (any-split m n p) ∙ or-assoc (any m p) (any n (λ i. p (m + i))) (p (m + n))
+
+-- by count, row and column: none of the cells passes, so this one does not; and none passes where each is known to fail
+pub any-none-cells : (a b c : ℕ) (p : ℕ → ℕ → ℕ → Bool) → any a (λ i. any b (λ j. any c (p i j))) ≡ false → (i j k : ℕ) → i < a → j < b → k < c → p i j k ≡ false
+any-none-cells a b c p e i j k l m n = any-none c (p i j) k n (any-none b (λ j. any c (p i j)) j m (any-none a (λ i. any b (λ j. any c (p i j))) i l e))
+
+pub none-any-cells : (a b c : ℕ) (p : ℕ → ℕ → ℕ → Bool) → ((i j k : ℕ) → i < a → j < b → k < c → p i j k ≡ false) → any a (λ i. any b (λ j. any c (p i j))) ≡ false
+none-any-cells a b c p h = none-any a (λ i. any b (λ j. any c (p i j))) (λ i l. none-any b (λ j. any c (p i j)) (λ j m. none-any c (p i j) (λ k n. h i j k l m n)))
+
 -- one that passes, where some one does
 pub record Found (n : ℕ) (p : ℕ → Bool) : Type 0 where
   pub index : ℕ
@@ -100,6 +113,17 @@ unfolding most
 most-same zero f g h = refl
 most-same (suc n) f g h = ap₂ max (most-same n f g (λ i l. h i (omega arith))) (h n (omega arith))
 
+pub most-split : (m n : ℕ) (f : ℕ → ℕ) → most (m + n) f ≡ max (most m f) (most n (λ i. f (m + i)))
+unfolding most
+most-split m zero f = ap (λ (k : ℕ). most k f) (add-zero m) ∙ omega arith
+most-split m (suc n) f = ap (λ (k : ℕ). most k f) (add-suc m n) ∙ (let z = most-split m n f in omega arith)
+
+-- nothing is the largest of nothings
+pub most-zero : (m : ℕ) (f : ℕ → ℕ) → ((i : ℕ) → i < m → f i ≡ 0) → most m f ≡ 0
+unfolding most
+most-zero zero f h = refl
+most-zero (suc m) f h = rw (most-zero m f (λ i l. h i (omega arith)), h m (omega arith))
+
 -- ---- the last that passes
 pub last-more {ℓ} : {A : Type ℓ} (n : ℕ) (p : ℕ → Bool) (f : ℕ → A) (d : A) → last (n + 1) p f d ≡ cond (p n) (f n) (last n p f d)
 unfolding last
@@ -127,6 +151,17 @@ unfolding last
 last-at zero p f d i l e h = absurd (not-suc-le-zero l)
 last-at (suc n) p f d i l e h =
     ⊎-elim (λ q. rw (← q, e)) (λ q. rw (h n q (omega arith)) (last-at n p f d i q e (λ j a b. h j a (omega arith)))) (eq-or-lt-of-le (le-of-suc-le-suc l))
+
+pub last-split {ℓ} : {A : Type ℓ} (m n : ℕ) (p : ℕ → Bool) (f : ℕ → A) (d : A) → last (m + n) p f d ≡ last n (λ i. p (m + i)) (λ i. f (m + i)) (last m p f d)
+unfolding last
+last-split m zero p f d = ap (λ (k : ℕ). last k p f d) (add-zero m)
+last-split m (suc n) p f d = ap (λ (k : ℕ). last k p f d) (add-suc m n) ∙ ap (cond (p (m + n)) (f (m + n))) (last-split m n p f d)
+
+-- where none passes it is the default
+pub last-none {ℓ} : {A : Type ℓ} (m : ℕ) (p : ℕ → Bool) (f : ℕ → A) (d : A) → ((i : ℕ) → i < m → p i ≡ false) → last m p f d ≡ d
+unfolding last
+last-none zero p f d h = refl
+last-none (suc m) p f d h = rw (h m (omega arith)) (last-none m p f d (λ i l. h i (omega arith)))
 
 -- what holds of every answer holds of the last
 pub last-holds {ℓ κ} : {A : Type ℓ} (P : A → Type κ) (n : ℕ) (p : ℕ → Bool) (f : ℕ → A) (d : A) → P d → ((i : ℕ) → i < n → p i ≡ true → P (f i)) → P (last n p f d)
@@ -187,3 +222,18 @@ pub fold-total : (n : ℕ) (f : ℕ → ℕ) → fold 0 n (λ i x. x + f i) 0 �
 unfolding fold total
 fold-total zero f = refl
 fold-total (suc n) f = rw (le-leb 0 n (omega arith)) (ap (λ (x : ℕ). x + f n) (fold-total n f))
+
+-- a search that a fold goes on with
+pub fold-any : (n : ℕ) (q : ℕ → Bool) (z : Bool) → fold 0 n (λ k y. y || q k) z ≡ z || any n q
+unfolding fold any
+fold-any zero q z = sym (or-none z)
+fold-any (suc n) q z = rw (le-leb 0 n (omega arith)) (ap (λ (y : Bool). y || q n) (fold-any n q z) ∙ or-assoc z (any n q) (q n))
+
+-- ---- a function that falls nowhere keeps the order of its arguments
+pub climbs : (n : ℕ) (f : ℕ → ℕ) → ((i : ℕ) → i + 1 < n → f i ≤ f (i + 1)) → (i j : ℕ) → i ≤ j → j < n → f i ≤ f j
+climbs n f h i zero l m = let e : i ≡ 0 = omega arith in let g = ap f e in omega arith
+climbs n f h i (suc j) l m = go (decLt i (suc j)) (λ k. climbs n f h i j (omega arith) (omega arith)) (h j (omega arith))
+  where
+    go : Dec (i < suc j) → (i < suc j → f i ≤ f j) → f j ≤ f (j + 1) → f i ≤ f (suc j)
+    go (yes k) a b = let x = a k in let e : j + 1 ≡ suc j = omega arith in let g = ap f e in omega arith
+    go (no k) a b = let e : i ≡ suc j = omega arith in let g = ap f e in omega arith

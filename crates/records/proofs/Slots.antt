@@ -1,6 +1,6 @@
 -- Each cell has a slot of its own, for any table of kinds.
 use Prim.Native.Nat.{ℕ, zero, suc, _+_, _*_, _<_, _≤_}
-use mathlib.Core.Path.{_≡_, refl, ap, sym, _∙_}
+use mathlib.Core.Path.{_≡_, ap, sym, _∙_}
 use mathlib.Core.Bool.{Bool, true, false, not, _||_, _&&_}
 use mathlib.Core.List.{List}
 use native.Mathlib.Nat.{mul-le-mul}
@@ -15,7 +15,7 @@ use Rattle.records.specs.Scan.{any}
 use Rattle.records.specs.Kinds.{holds, width, indexOf, Table, kindAt}
 use Rattle.records.specs.Cells.{slots, firstSlot, offset, slot}
 use Rattle.records.specs.File.{kindOf, rowOf, columnOf, countOf, outOf, badRecord, beyond, cellRow, cellColumn, cellCount, isCell}
-use Rattle.records.proofs.ScanLaws.{and-true, or-false, same-truth, total-more, total-le}
+use Rattle.records.proofs.ScanLaws.{and-true, or-false, same-truth, any-split, total-more, total-le}
 
 -- ---- a field
 -- what it holds names a cell that it tells apart
@@ -160,25 +160,10 @@ any-flat zero b p = ap (λ (n : ℕ). any n p) (none b)
   where
     none : (b : ℕ) → 0 * b ≡ 0
     none b = omega arith
-any-flat (suc a) b p = ap (λ (n : ℕ). any n p) (more a b) ∙ any-join (a * b) b p ∙ ap (λ (x : Bool). x || any b (λ j. p (a * b + j))) (any-flat a b p)
+any-flat (suc a) b p = ap (λ (n : ℕ). any n p) (more a b) ∙ any-split (a * b) b p ∙ ap (λ (x : Bool). x || any b (λ j. p (a * b + j))) (any-flat a b p)
   where
     more : (a b : ℕ) → suc a * b ≡ a * b + b
     more a b = omega arith
-
-    any-join : (m n : ℕ) (p : ℕ → Bool) → any (m + n) p ≡ any m p || any n (λ j. p (m + j))
-    any-join m zero p = ap (λ (k : ℕ). any k p) (native.Mathlib.Nat.add-zero m) ∙ sym (or-none (any m p))
-      where
-        or-none : (b : Bool) → b || false ≡ b
-        or-none true = refl
-        or-none false = refl
-    any-join m (suc n) p = ap (λ (k : ℕ). any k p) (up m n) ∙ ap (λ (x : Bool). x || p (m + n)) (any-join m n p) ∙ assoc (any m p) (any n (λ j. p (m + j))) (p (m + n))
-      where
-        up : (m n : ℕ) → m + suc n ≡ suc (m + n)
-        up m n = omega arith
-
-        assoc : (x y z : Bool) → (x || y) || z ≡ x || (y || z)
-        assoc true y z = refl
-        assoc false y z = refl
 
 pub any-cells : (z : Kind) (p : ℕ → Bool) → any (slots z) p ≡ any (width (z .count)) (λ n. any (width (z .row)) (λ r. any (width (z .column)) (λ c. p (offset z n r c))))
 unfolding slots offset

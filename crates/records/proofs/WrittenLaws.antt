@@ -4,7 +4,7 @@ use Prim.Native.Nat.{ℕ, zero, suc, _+_, _*_, _%_, _^_, _<_}
 use mathlib.Core.Path.{_≡_, refl, ap, sym, _∙_}
 use mathlib.Core.List.{List, _++_}
 use mathlib.Core.Logic.{⊎-elim}
-use native.Mathlib.Nat.{add-zero, zero-add, le-of-suc-le-suc, eq-or-lt-of-le}
+use native.Mathlib.Nat.{add-zero, le-of-suc-le-suc, eq-or-lt-of-le}
 use native.Mathlib.Omega.{arith}
 use lib.Dec.{lit<}
 use lib.ListN.{length, length-append, List·getD-append}
@@ -47,10 +47,6 @@ long-same s s' a b h =
     on a o = omega arith
 
 -- ---- one record
-pub length-record : (k r c n b : ℕ) → length (recordOf k r c n b) ≡ 16
-unfolding bytesOf
-length-record k r c n b = refl
-
 -- what the fields of record i are
 pub record RecordIs (s : List ℕ) (i k r c n b : ℕ) : Type 0 where
   pub kind : kindOf s i ≡ k
@@ -75,10 +71,6 @@ record-is s i k r c n b h l m =
   where
     on : (i a o : ℕ) → 16 * i + a + o ≡ 16 * i + (a + o)
     on i a o = omega arith
-
--- so a record by itself
-pub record-alone : (k r c n b : ℕ) → n < 2 ^ 32 → b < 2 ^ 64 → RecordIs (recordOf k r c n b) 0 k r c n b
-record-alone k r c n b l m = record-is (recordOf k r c n b) 0 k r c n b (λ o q. ap (byte (recordOf k r c n b)) (zero-add o)) l m
 
 -- ---- pieces one after another
 pub sequence-length : (n : ℕ) (f : ℕ → List ℕ) → length (sequence n f) ≡ total n (λ j. length (f j))
@@ -165,9 +157,13 @@ module _ (t : Table) (f : ℕ → ℕ → ℕ → ℕ → Content) where
   unfolding firstSlot
   length-kinds m = total-same m (λ k. length (kindFile t f k)) (λ k. 16 * slots (kindAt t k)) (λ k l. length-kind k) ∙ total-scaled m 16 (λ k. slots (kindAt t k))
 
+  -- the kinds below m, and all
+  pub length-front : (m : ℕ) → length (sequence m (kindFile t f)) ≡ 16 * firstSlot t m
+  length-front m = sequence-length m (kindFile t f) ∙ length-kinds m
+
   pub length-file : length (fileOf t f) ≡ 16 * slotCount t
   unfolding fileOf
-  length-file = sequence-length kindNumbers (kindFile t f) ∙ length-kinds kindNumbers
+  length-file = length-front kindNumbers
 
   -- so a file has a record for each cell, and no bytes besides
   pub count-file : count (fileOf t f) ≡ slotCount t

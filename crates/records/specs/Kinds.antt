@@ -1,6 +1,6 @@
 -- Document 01: "Kinds: 1 X; 2 Z (absent is 0); 3 block (row its number, column k, count m, bits 0); 4 theta; 5 weight; 6 Φ; 7 sigma2; 8 β; 9 contrast; 10 β_H. Kinds 1, 2, 6, 9 use
 -- row and column; 4, 5, 8, 10 the row; indices start at 0 and unused fields are 0." "The Satterthwaite call reads kinds 8, 9, 10, 30 v, 31 Jacobian (count its number, from 0) and 32 A, the
--- last three by row and column". "Kinds of the other call are bad."
+-- last three by row and column". "Kinds of the other call are bad." And document 02, "Req 02": the kinds of an archive, and of the second file that is lent with it.
 use Prim.Native.Nat.{ℕ}
 use mathlib.Core.Bool.{Bool, true, false, cond}
 use mathlib.Core.List.{List, [], _∷_}
@@ -99,9 +99,30 @@ satterthwaiteKinds z =
     ∷ (32, byRowAndColumn (z .parameters) (z .parameters))
     ∷ []
 
--- The calls have numbers: 0 is Kenward and Roger's, any other Satterthwaite's.
+-- Document 02, "Req 02": "kind 11 Φ, 12 Φ_A, 13 P (the count field is its index), 14 W", in response units; "Φ, Φ_A and P in residual units and sigma2 follow as kinds 15 to 18". There is a P for each variance parameter.
+unfoldable pub archiveKinds : Sizes → Table
+archiveKinds z =
+    (11, byRowAndColumn (z .coefficients) (z .coefficients))
+    ∷ (12, byRowAndColumn (z .coefficients) (z .coefficients))
+    ∷ (13, byCount (z .parameters) (z .coefficients) (z .coefficients))
+    ∷ (14, byRowAndColumn (z .parameters) (z .parameters))
+    ∷ (15, byRowAndColumn (z .coefficients) (z .coefficients))
+    ∷ (16, byRowAndColumn (z .coefficients) (z .coefficients))
+    ∷ (17, byCount (z .parameters) (z .coefficients) (z .coefficients))
+    ∷ (18, alone)
+    ∷ []
+
+-- "the series' kinds 8 to 10 lent as a second file": β, contrast, β_H
+unfoldable pub testKinds : Sizes → Table
+testKinds z =
+    (8, byRow (z .coefficients))
+    ∷ (9, byRowAndColumn (z .contrasts) (z .coefficients))
+    ∷ (10, byRow (cond (z .hypothesis) (z .coefficients) 0))
+    ∷ []
+
+-- The files have numbers: 0 is a Kenward and Roger series, 1 a Satterthwaite test, 2 an archive, any other the second file that is lent with an archive.
 unfoldable pub kindsOf : ℕ → Sizes → Table
-kindsOf call z = cond (eqb call 0) (kenwardRogerKinds z) (satterthwaiteKinds z)
+kindsOf call z = cond (eqb call 0) (kenwardRogerKinds z) (cond (eqb call 1) (satterthwaiteKinds z) (cond (eqb call 2) (archiveKinds z) (testKinds z)))
 
 -- Document 01, "Limits": "specimens n 1–24; coefficients p 1–6; random columns 0–24; blocks 0–3 .. block parameters at most 3 over all blocks; contrast rows 1–6; Satterthwaite parameters
 -- 1–4". The limit of specimens and of random columns is w, 24 at the panel. Limits are sizes: the largest that a file may have.
@@ -112,6 +133,12 @@ limits w = record { specimens = w; coefficients = 6; columns = w; blocks = 3; th
 abbrev pub kenwardRoger : ℕ → Table
 kenwardRoger w = kenwardRogerKinds (limits w)
 
--- no kind of this call names specimens, so that their limit is of no account
+-- no kind of these names specimens, so that their limit is of no account
 abbrev pub satterthwaite : Table
 satterthwaite = satterthwaiteKinds (limits 0)
+
+abbrev pub archiveTable : Table
+archiveTable = archiveKinds (limits 0)
+
+abbrev pub testTable : Table
+testTable = testKinds (limits 0)

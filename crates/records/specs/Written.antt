@@ -1,12 +1,15 @@
 -- Document 01: "Input: 16-byte records, no header .. Byte 0 kind; 1 row; 2 column; 3 zero; 4–7 count (little-endian); 8–15 f64 bits, little-endian." A record and a file as values: the bytes that
 -- say what is given.
-use Prim.Native.Nat.{ℕ, zero, suc}
+use Prim.Native.Nat.{ℕ, zero, suc, _*_}
+use mathlib.Core.Bool.{Bool, cond}
 use mathlib.Core.List.{List, [], _∷_, _++_}
+use lib.ListN.{take, drop}
 use Rattle.records.specs.declared.Field.{Field}
 use Rattle.records.specs.declared.Field.the-variants.{Index, Number, Unused}
 use Rattle.records.specs.declared.Kind.{Kind}
 use Rattle.records.specs.Bytes.{bytesOf}
 use Rattle.records.specs.Kinds.{Table, kindAt, kindNumbers, width}
+use Rattle.records.specs.File.{count, kindOf}
 
 -- one record: kind, row, column, count and f64 bits
 abbrev pub recordOf : ℕ → ℕ → ℕ → ℕ → ℕ → List ℕ
@@ -33,6 +36,13 @@ cellRecord z k n r c v = recordOf k (fieldOf (z .row) r (v .row)) (fieldOf (z .c
 unfoldable pub sequence : ℕ → (ℕ → List ℕ) → List ℕ
 sequence zero f = []
 sequence (suc n) f = sequence n f ++ f n
+
+-- the records of a file whose kind passes, in their order, and record i of a file
+abbrev pub recordAt : List ℕ → ℕ → List ℕ
+recordAt s i = take 16 (drop (16 * i) s)
+
+unfoldable pub recordsOf : (ℕ → Bool) → List ℕ → List ℕ
+recordsOf passes s = sequence (count s) (λ i. cond (passes (kindOf s i)) (recordAt s i) [])
 
 -- all cells of a kind in order, count before row before column; and a file: the table's cells, kind after kind. What each cell says is given by kind, count, row and column.
 unfoldable pub kindFile : Table → (ℕ → ℕ → ℕ → ℕ → Content) → ℕ → List ℕ

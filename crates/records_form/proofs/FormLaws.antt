@@ -1,4 +1,4 @@
--- The number of a file's form and of the file, by which of their conditions holds; and the sizes of a file with no bad record, for either call.
+-- The number of a file's form and of the file, by which of their conditions holds; and the sizes of a file with no bad record, for any of the calls' files.
 use Prim.Native.Nat.{ℕ, _%_, _<_, _≤_}
 use native.Mathlib.Omega.{arith}
 use mathlib.Core.Path.{_≡_, refl, sym, _∙_}
@@ -10,13 +10,16 @@ use borrow.Author.Tests.{eq-eqb, ne-eqb}
 use Rattle.algebra.specs.Reasons.{first}
 use Rattle.algebra.proofs.ReasonLaws.{line, first-none, first-only}
 use Rattle.records.specs.Scan.{any}
-use Rattle.records.specs.Kinds.{Table, kindsOf, kindNumbers, kenwardRogerKinds, satterthwaiteKinds, limits}
+use Rattle.records.specs.declared.Sizes.{Sizes}
+use Rattle.records.specs.Kinds.{Table, kindsOf, kindNumbers, kenwardRogerKinds, satterthwaiteKinds, archiveKinds, testKinds, limits}
 use Rattle.records.specs.Cells.{slotCount}
 use Rattle.records.specs.File.{count, badRecord, again, missing, beyond, lengthReasons, formReasons}
 use Rattle.records.specs.Order.{falls, orderReasons}
 use Rattle.records.specs.Series.{sizes as seriesSizes}
 use Rattle.records.specs.Parameters.{sizes as parameterSizes}
-use Rattle.records.proofs.Limits.{Below, series-below, parameters-below, fewer-slots}
+use Rattle.records.specs.Archive.{sizesAt, sizes as archiveSizes}
+use Rattle.records.specs.SecondFile.{sizes as secondSizes}
+use Rattle.records.proofs.Limits.{Below, series-below, parameters-below, archive-below, second-below, fewer-slots}
 use Rattle.records_sizes.specs.joints.Gathered.{sizesOf}
 use Rattle.records_sheet.specs.joints.Sheet.{Small}
 use Rattle.records_sheet.proofs.Sheets.{below-small}
@@ -72,25 +75,30 @@ module _ (limit sized : Table) (s : List ℕ) where
 -- ---- the sizes of a file with no bad record are below the limits
 module _ (call w : ℕ) (some : 1 ≤ w) (s : List ℕ) (good : any (count s) (badRecord (kindsOf call (limits w)) s) ≡ false) where
   pub sizes-below : Below (sizesOf call s) (limits w)
-  unfolding sizesOf kindsOf satterthwaiteKinds limits parameterSizes
-  sizes-below = go (eqb call 0) good
+  unfolding sizesOf kindsOf satterthwaiteKinds archiveKinds testKinds limits parameterSizes archiveSizes secondSizes sizesAt
+  sizes-below = go (eqb call 0) (eqb call 1) (eqb call 2) good
     where
-      wider : Below (parameterSizes s) (limits 0) → Below (parameterSizes s) (limits w)
-      wider b = record {
+      -- specimens are of no account in a file other than a series, so that it has none
+      wider : (z : Sizes) → z .specimens ≡ 0 → z .columns ≡ 0 → Below z (limits 0) → Below z (limits w)
+      wider z n m b = record {
         specimens = omega arith;
         coefficients = b .coefficients;
         columns = omega arith;
-        blocks = omega arith;
-        thetas = omega arith;
+        blocks = b .blocks;
+        thetas = b .thetas;
         contrasts = b .contrasts;
         parameters = b .parameters;
         weighted = λ _. refl;
         hypothesis = λ _. refl;
       }
 
-      go : (b : Bool) → any (count s) (badRecord (cond b (kenwardRogerKinds (limits w)) (satterthwaiteKinds (limits w))) s) ≡ false → Below (cond b (seriesSizes s) (parameterSizes s)) (limits w)
-      go true g = series-below w some s g
-      go false g = wider (parameters-below s g)
+      go : (x y v : Bool)
+          → any (count s) (badRecord (cond x (kenwardRogerKinds (limits w)) (cond y (satterthwaiteKinds (limits w)) (cond v (archiveKinds (limits w)) (testKinds (limits w))))) s) ≡ false
+          → Below (cond x (seriesSizes s) (cond y (parameterSizes s) (cond v (archiveSizes s) (secondSizes s)))) (limits w)
+      go true y v g = series-below w some s g
+      go false true v g = wider (parameterSizes s) refl refl (parameters-below s g)
+      go false false true g = wider (archiveSizes s) refl refl (archive-below s g)
+      go false false false g = wider (secondSizes s) refl refl (second-below s g)
 
   pub sizes-small : w ≤ 256 → Small (sizesOf call s)
   sizes-small h = below-small (sizesOf call s) w h sizes-below

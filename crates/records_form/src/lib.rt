@@ -1,5 +1,5 @@
-// Whether a file is a rising list of records that its call reads: a length, the order, a kind, an unused field, an index, a cell twice, missing or beyond the sizes. Call 0 is Kenward and Roger's, any other
-// Satterthwaite's.
+// Whether a file is a rising list of records that its call reads: a length, the order, a kind, an unused field, an index, a cell twice, missing or beyond the sizes. File 0 is a Kenward and Roger series, 1 a
+// Satterthwaite test, 2 an archive, any other the second file that is lent with one.
 ghost use mathlib.Core.Path.{_≡_};
 ghost use mathlib.Core.Bool.{false};
 ghost use mathlib.Core.List.{_++_};

@@ -336,6 +336,18 @@ module _ (w : ℕ) (s : List ℕ) (z : Sizes) (fs : List ℕ) (xs : List Float) 
   unfolding sizes
   holds-is = rw (h .sized) (own-holds w s fs xs read)
 
+  -- the coefficients, Φ and sigma2 are the file's
+  pub coefficients-read : z .coefficients ≡ coefficients s
+  unfolding sizes
+  coefficients-read = ap (λ (y : Sizes). y .coefficients) (h .sized)
+
+  pub phi-read : cellsAt xs (getD fs 6 0) (z .coefficients) (z .coefficients) ≡ phi s
+  unfolding sizes
+  phi-read = rw (h .sized) (phi-lent w s fs xs read)
+
+  pub sigma2-read : getD xs (getD fs 7 0) nan ≡ sigma2 s
+  sigma2-read = sigma2-lent w s fs xs read
+
   module _ (blocks : List Block) (eb : blocks ≡ row noBlock 3 (z .blocks) (blockOf s)) where
     pub lent-sound : Sound blocks (z .blocks)
     unfolding sizes
@@ -363,13 +375,12 @@ module _ (w : ℕ) (s : List ℕ) (z : Sizes) (fs : List ℕ) (xs : List Float) 
       design-is = rw (eb, et, h .sized) (own w s fs xs read)
 
       phi-is : m ≡ phi s
-      unfolding sizes
-      phi-is = em ∙ rw (h .sized) (phi-lent w s fs xs read)
+      phi-is = em ∙ phi-read
 
       pub number-is-own : (v : Float) → v ≡ getD xs (getD fs 7 0) nan → adjustmentRefusal c lent m v ≡ adjustmentRefusal c (design s) (phi s) (sigma2 s)
       number-is-own v ev =
           ap (λ (d : Design). adjustmentRefusal c d m v) design-is
-          ∙ ap₂ (λ (k : Rows) (x : Float). adjustmentRefusal c (design s) k x) phi-is (ev ∙ sigma2-lent w s fs xs read)
+          ∙ ap₂ (λ (k : Rows) (x : Float). adjustmentRefusal c (design s) k x) phi-is (ev ∙ sigma2-read)
 
       pub adjusted-is : adjustment c lent m ≡ adjusted c s
       unfolding adjusted

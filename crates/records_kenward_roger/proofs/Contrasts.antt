@@ -4,35 +4,22 @@ use mathlib.Core.Path.{_≡_, refl, sym, ap, _∙_, subst}
 use mathlib.Core.Bool.{Bool, true, false, not, true≢false, _&&_}
 use mathlib.Core.List.{List}
 use lib.Dec.{T, eqb}
-use lib.Ieee.{Float, nan, binary64, fits}
-use lib.Ieee.Bits.{ofBits-fits}
-use borrow.Author.Tests.{ne-eqb, not-false}
-use Rattle.arithmetic.specs.Numbers.{plusZero, isZero, isFinite}
+use borrow.Author.Tests.{ne-eqb}
+use Rattle.arithmetic.specs.Numbers.{isZero, isFinite}
 use Rattle.algebra.specs.Kind.{floats}
 use Rattle.algebra.specs.Product.{at}
-use Rattle.algebra.proofs.TableLaws.{table-at}
 use Rattle.tests_basis.proofs.RankStart.{Contrast}
 use Rattle.records.specs.Scan.{any}
-use Rattle.records.specs.File.{count, valueOf, isCell, cell, notFinite}
 use Rattle.records.specs.Series.{coefficients, contrastRows, kinds, cellValue, zeroContrast, contrast}
-use Rattle.records.proofs.ScanLaws.{any-none, any-found, last-holds}
+use Rattle.records.proofs.ScanLaws.{any-found}
+use Rattle.records.proofs.CellLaws.{cell-finite}
 use Rattle.records.proofs.AcceptedSeries.{AcceptedSeries}
+use Rattle.records.proofs.SeriesInput.{contrast-at, contrast-fits}
 use Rattle.records_series.proofs.Accepted.{limits}
 
 module _ (w : ℕ) (some : 1 ≤ w) (s : List ℕ) (facts : AcceptedSeries w s) where
-  cell-finite : (k r c : ℕ) → T (isFinite (cellValue s k r c))
-  unfolding cell notFinite isFinite
-  cell-finite k r c =
-      last-holds (λ (x : Float). T (isFinite x)) (count s) (isCell (kinds s) s k 0 r c) (valueOf s) plusZero tt
-      (λ i l _. subst (λ (b : Bool). T b) (sym (not-false (isFinite (valueOf s i)) (any-none (count s) (notFinite s) i l (facts .finite)))) tt)
-
-  cell-fits : (k r c : ℕ) → T (fits binary64 (cellValue s k r c))
-  unfolding cell fits
-  cell-fits k r c = last-holds (λ (x : Float). T (fits binary64 x)) (count s) (isCell (kinds s) s k 0 r c) (valueOf s) plusZero tt (λ i l _. ofBits-fits binary64 _)
-
   contrast-cell : (i j : ℕ) → i < contrastRows s → j < coefficients s → at floats (contrast s) i j ≡ cellValue s 9 i j
-  unfolding contrast
-  contrast-cell i j h l = table-at plusZero 6 6 (contrastRows s) (coefficients s) (cellValue s 9) i j nan h l (limits w some s facts .contrasts) (limits w some s facts .coefficients)
+  contrast-cell = contrast-at s (limits w some s facts .coefficients) (limits w some s facts .contrasts)
 
   some-cell : (contrastRows s ≡ 0 → ⊥) → any (contrastRows s) (λ r. any (coefficients s) (λ c. not (isZero (cellValue s 9 r c)))) ≡ true
   unfolding zeroContrast
@@ -48,8 +35,8 @@ module _ (w : ℕ) (some : 1 ≤ w) (s : List ℕ) (facts : AcceptedSeries w s) 
       let r = any-found (contrastRows s) (λ r. any (coefficients s) (λ c. not (isZero (cellValue s 9 r c)))) (some-cell h) in
       let k = any-found (coefficients s) (λ c. not (isZero (cellValue s 9 (r .index) c))) (r .passes) in
       record {
-        finite = λ i j a b. subst (λ (x : Float). T (isFinite x)) (sym (contrast-cell i j a b)) (cell-finite 9 i j);
-        fine = λ i j a b. subst (λ (x : Float). T (fits binary64 x)) (sym (contrast-cell i j a b)) (cell-fits 9 i j);
+        finite = λ i j a b. subst (λ (x : Bool). T x) (sym (ap isFinite (contrast-cell i j a b) ∙ cell-finite (kinds s) s 9 0 i j (facts .finite))) tt;
+        fine = contrast-fits s (limits w some s facts .coefficients) (limits w some s facts .contrasts);
         i = r .index;
         j = k .index;
         inRows = r .below;

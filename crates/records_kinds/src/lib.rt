@@ -1,7 +1,7 @@
-// The table of kinds of each call, as code: what sizes leave each kind, and what a field may hold. Call 0 is Kenward and Roger's, any other Satterthwaite's.
+// The tables of kinds, as code: what sizes leave each kind, and what a field may hold. File 0 is a Kenward and Roger series, 1 a Satterthwaite test, 2 an archive, any other the second file that is lent with one.
 ghost use mathlib.Core.Path.{_≡_};
 ghost use mathlib.Core.Bool.{cond};
-ghost use Rattle.records.specs.Kinds.{holds, width, indexOf, valueHolds, byRowAndColumn, byRow, byCount, alone, absentIsZero, blockKind, unread, kindAt, kenwardRogerKinds, satterthwaiteKinds, kindsOf, limits};
+ghost use Rattle.records.specs.Kinds.{holds, width, indexOf, valueHolds, byRowAndColumn, byRow, byCount, alone, absentIsZero, blockKind, unread, kindAt, kenwardRogerKinds, satterthwaiteKinds, archiveKinds, testKinds, kindsOf, limits};
 use records::Field;
 use records::Kind;
 use records::Sizes;
@@ -185,14 +185,52 @@ fn satterthwaite_kind(z: Sizes, kind: u8) -> Kind
     }
 }
 
-// What the sizes leave a kind of the call.
+// An archive's: Φ, Φ_A, each P and W in response units; Φ, Φ_A and each P in residual units, sigma2.
+fn archive_kind(z: Sizes, kind: u8) -> Kind
+    ensures { λ r. ⌜ r ≡ kindAt (archiveKinds z) kind ⌝ }
+{
+    let p = z.coefficients;
+    let n = z.parameters;
+    match kind {
+        11 => by_row_and_column(p, p),
+        12 => by_row_and_column(p, p),
+        13 => by_count(n, p, p),
+        14 => by_row_and_column(n, n),
+        15 => by_row_and_column(p, p),
+        16 => by_row_and_column(p, p),
+        17 => by_count(n, p, p),
+        18 => alone(),
+        _ => unread(),
+    }
+}
+
+// The second file's: β, contrast, β_H.
+fn test_kind(z: Sizes, kind: u8) -> Kind
+    ensures { λ r. ⌜ r ≡ kindAt (testKinds z) kind ⌝ }
+{
+    let p = z.coefficients;
+    match kind {
+        8 => by_row(p),
+        9 => by_row_and_column(z.contrasts, p),
+        10 => by_row(given(z.hypothesis, p)),
+        _ => unread(),
+    }
+}
+
+// What the sizes leave a kind of the file.
 pub fn kind_of(call: usize, z: Sizes, kind: u8) -> Kind
     ensures { λ r. ⌜ r ≡ kindAt (kindsOf call z) kind ⌝ }
 {
     if call == 0 {
         return kenward_roger_kind(z, kind);
     }
-    satterthwaite_kind(z, kind)
+    if call == 1 {
+        return satterthwaite_kind(z, kind);
+    }
+    if call == 2 {
+        return archive_kind(z, kind);
+    }
+    test_kind(z, kind)
 }
 
 // The largest sizes that a file may have, w being the limit of specimens and of random columns.

@@ -1,6 +1,5 @@
 -- Keys stand in the order of the records, and a file falls where one of its records has a key that is not above the last.
 use Prim.Native.Nat.{ℕ, zero, suc, _+_, _-_, _*_, _<_, _≤_}
-use native.Mathlib.Nat.{mul-le-mul-right}
 use native.Mathlib.Numerals.{add-one}
 use native.Mathlib.Omega.{arith}
 use native.Mathlib.Decide.{decLt}
@@ -8,29 +7,13 @@ use mathlib.Core.Path.{_≡_, refl, sym, ap, ap₂, _∙_}
 use mathlib.Core.Bool.{Bool, true, false, not, _||_, cond}
 use mathlib.Core.List.{List}
 use lib.Dec.{ltb}
-use borrow.Author.Tests.{lt-ltb, le-ltb, eq-eqb, ne-eqb}
+use borrow.Author.Tests.{lt-ltb, le-ltb}
 use Rattle.records.specs.Bytes.{byte, word}
 use Rattle.records.specs.Scan.{any}
 use Rattle.records.specs.File.{count, kindOf, rowOf, columnOf, countOf}
-use Rattle.records.specs.Order.{numbersMatrix, matrixOf, thenBy, standsBefore, falls}
+use Rattle.records.specs.Order.{numbersMatrix, matrixOf, standsBefore, falls}
+use Rattle.records.proofs.InOrder.{by-digits}
 use Rattle.records_order.specs.joints.Keys.{keyOf, leastKey, fallsAt}
-
--- ---- digits
--- of two numbers a w + x and b w + y, with x and y below w, the first digits decide, and the second where they are the same
-pub by-digits : (w a b x y : ℕ) → x < w → y < w → thenBy a b (ltb x y) ≡ ltb (a * w + x) (b * w + y)
-by-digits w a b x y hx hy = go (decLt a b) (decLt b a)
-  where
-    go : Dec (a < b) → Dec (b < a) → thenBy a b (ltb x y) ≡ ltb (a * w + x) (b * w + y)
-    go (yes h) d = rw (lt-ltb a b h) (sym (lt-ltb (a * w + x) (b * w + y) (omega (arith, mul-le-mul-right w h))))
-    go (no h) (yes k) =
-        rw (le-ltb a b (omega arith), ne-eqb a b (λ e. omega arith)) (sym (le-ltb (a * w + x) (b * w + y) (omega (arith, mul-le-mul-right w k))))
-    go (no h) (no k) =
-        let e : a ≡ b = omega arith in
-        rw (e, le-ltb b b (omega arith), eq-eqb b b refl) (same (decLt x y))
-      where
-        same : Dec (x < y) → ltb x y ≡ ltb (b * w + x) (b * w + y)
-        same (yes l) = lt-ltb x y l ∙ sym (lt-ltb (b * w + x) (b * w + y) (omega arith))
-        same (no l) = le-ltb x y (omega arith) ∙ sym (le-ltb (b * w + x) (b * w + y) (omega arith))
 
 -- ---- a pass over the records, with the key of the record at hand and the least that it may have
 module _ (s : List ℕ) (i key least : ℕ) (k : key ≡ keyOf s i) (l : least ≡ leastKey s i) where

@@ -13,7 +13,7 @@ use records_file::row_at;
 fn numbers_matrix(kind: usize) -> bool
     ensures { λ r. ⌜ r ≡ numbersMatrix kind ⌝ }
 {
-    kind == 31
+    (kind == 31) | (kind == 13) | (kind == 17)
 }
 
 // The number of record i's matrix, 0 where its count numbers none.

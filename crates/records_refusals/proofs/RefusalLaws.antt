@@ -2,13 +2,13 @@
 use Prim.Native.Nat.{ℕ, _+_, _*_, _%_, _<_, _≤_}
 use native.Mathlib.Omega.{arith}
 use mathlib.Core.Path.{_≡_, refl, sym, ap, _∙_, subst}
-use mathlib.Core.Bool.{Bool, true, false, not, _&&_, cond}
+use mathlib.Core.Bool.{Bool, true, false, _&&_, cond}
 use mathlib.Core.List.{List, _++_}
 use lib.Dec.{eqb, lit≤}
 use lib.ListN.{length, getD}
 use lib.Ieee.{Float, nan, le}
 use borrow.Author.Tests.{eqb-true, eq-eqb, ne-eqb, not-false}
-use Rattle.arithmetic.specs.Numbers.{plusZero, isZero}
+use Rattle.arithmetic.specs.Numbers.{plusZero}
 use Rattle.algebra.specs.Table.{row}
 use Rattle.algebra.specs.Reasons.{first}
 use Rattle.algebra.proofs.ReasonLaws.{Line, NoneHolds, first-none, first-append}
@@ -22,16 +22,17 @@ use Rattle.records.specs.File.{count, badRecord, again, beyond, notFinite, pres
 use Rattle.records.specs.Order.{orderReasons}
 use Rattle.records.specs.Series.{specimens, coefficients, blockCount, contrastRows, sizes, kinds, cellValue, sigma2, blockOf, badSize, badWeight, misfit, zeroContrast, sizeReasons, valueReasons, reasons, refusal}
 use Rattle.records.proofs.ScanLaws.{any-same}
-use Rattle.records.proofs.Slots.{any-flat}
 use Rattle.records.proofs.Limits.{Below}
 use Rattle.records_sizes.specs.joints.Gathered.{sizesOf, tableOf}
 use Rattle.records_sheet.specs.joints.Sheet.{Small, firstSlots, sheetAfter}
 use Rattle.records_sheet.proofs.Sheets.{firsts-at, ends-within, below-small}
-use Rattle.records_sheet_parts.proofs.Read.{Flat, flat-slots, flat-cell, line-cell, alone-cell}
+use Rattle.records_sheet_parts.proofs.Read.{Flat, flat-slots, line-cell, alone-cell}
 use Rattle.records_form.proofs.FormLaws.{rawNumberBy, sizes-below, sizes-fit}
 use Rattle.records_block_limits.specs.joints.Checks.{badSizeIn, misfitIn}
 use Rattle.records_block_limits.proofs.BlockLaws.{size-read, misfit-read}
-use Rattle.records_refusals.specs.joints.Checks.{nonzeros, notPositive, badWeightIn, zeroContrastIn, sheetRefusal}
+use Rattle.records_contrast.specs.joints.Contrast.{zeroContrastIn}
+use Rattle.records_contrast.proofs.ContrastLaws.{contrast-read}
+use Rattle.records_refusals.specs.joints.Checks.{notPositive, badWeightIn, sheetRefusal}
 
 -- ---- where the weights, sigma2 and the contrast stand
 module _ (z : Sizes) where
@@ -95,26 +96,13 @@ module _ (s : List ℕ) (within : any (count s) (beyond (kindsOf 0 (sizes s)) s)
       and-same (present s 5) (any (specimens s) (λ i. le (getD sheet (firstSlot u 5 + i) nan) plusZero)) (any (specimens s) (λ i. le (cellValue s 5 i 0) plusZero))
       (λ h. any-same (specimens s) (λ i. le (getD sheet (firstSlot u 5 + i) nan) plusZero) (λ i. le (cellValue s 5 i 0) plusZero) (λ i l. ap (λ (x : Float). le x plusZero) (line-cell 0 (sizes s) s within N room 5 (specimens s) i (weighted-flat h) l)))
 
-  contrast-cell : (i j : ℕ) → i < contrastRows s → j < coefficients s → getD sheet (firstSlot u 9 + (i * coefficients s + j)) nan ≡ cellValue s 9 i j
-  unfolding kindsOf sizes
-  contrast-cell i j l m =
-      ap (λ (x : ℕ). getD sheet x nan) (place (firstSlot u 9) i (coefficients s) j)
-      ∙ flat-cell 0 (sizes s) s within N room 9 (contrastRows s) (coefficients s) i j (contrast-flat (sizes s)) l m
-    where
-      place : (f i c j : ℕ) → f + (i * c + j) ≡ f + i * c + j
-      place f i c j = omega arith
-
-  contrast-read : zeroContrastIn (sizes s) sheet (firstSlot u 9) ≡ zeroContrast s
-  unfolding zeroContrastIn zeroContrast nonzeros sizes
-  contrast-read =
-      ap (λ (b : Bool). present s 9 && not b)
-      (any-flat (contrastRows s) (coefficients s) (λ j. not (isZero (getD sheet (firstSlot u 9 + j) nan)))
-      ∙ any-same (contrastRows s) (λ r. any (coefficients s) (λ c. not (isZero (getD sheet (firstSlot u 9 + (r * coefficients s + c)) nan)))) (λ r. any (coefficients s) (λ c. not (isZero (cellValue s 9 r c))))
-      (λ r l. any-same (coefficients s) (λ c. not (isZero (getD sheet (firstSlot u 9 + (r * coefficients s + c)) nan))) (λ c. not (isZero (cellValue s 9 r c))) (λ c m. ap (λ (x : Float). not (isZero x)) (contrast-cell r c l m))))
+  zero-read : zeroContrastIn (sizes s) sheet (firstSlot u 9) ≡ zeroContrast s
+  unfolding zeroContrast kindsOf sizes
+  zero-read = contrast-read 0 (sizes s) s within N room (contrast-flat (sizes s))
 
   sheet-read : blockCount s ≤ 3 → sheetRefusal (sizes s) (row noBlock 3 (blockCount s) (blockOf s)) sheet ≡ cond (le (sigma2 s) plusZero) 5 (cond (badWeight s) 6 (cond (misfit s) 7 (cond (zeroContrast s) 8 0)))
   unfolding sheetRefusal first
-  sheet-read few = rw (variance-read, weight-read, misfit-read s few, contrast-read)
+  sheet-read few = rw (variance-read, weight-read, misfit-read s few, zero-read)
 
 -- ---- the number of a file, by its length, order and form, and by what comes after them
 abbrev pub rawNumber : ℕ → List ℕ → ℕ

@@ -9,28 +9,14 @@ ghost use Rattle.records.specs.Cells.{slotCount};
 ghost use Rattle.records.specs.File.{count};
 ghost use Rattle.records.specs.Series.{kinds, refusal};
 ghost use Rattle.records_sheet.specs.joints.Sheet.{Small, firstSlots, sheetAfter};
-ghost use Rattle.records_refusals.specs.joints.Checks.{nonzeros, notPositive, badWeightIn, zeroContrastIn, sheetRefusal};
+ghost use Rattle.records_refusals.specs.joints.Checks.{notPositive, badWeightIn, sheetRefusal};
 ghost use Rattle.records_refusals.specs.joints.Room.{Room};
 use records::Sizes;
 use records_block_limits::bad_size;
 use records_block_limits::misfit;
 use records_series::blocks_of;
 
-// One of the m numbers from `at` on is not zero; and is not above zero.
-fn any_nonzero(sheet: &[f64], at: usize, m: usize) -> bool
-    requires { ⌜ at + m ≤ length (now sheet) ⌝ }
-    ensures { λ b. ⌜ b ≡ nonzeros (now (sheet .entry)) at m ⌝ }
-{
-    let mut j = 0;
-    while j < m {
-        if !arithmetic::plain::is_zero(sheet[at + j]) {
-            return true;
-        }
-        j += 1;
-    }
-    false
-}
-
+// One of the m numbers from `at` on is not above zero.
 fn any_not_positive(sheet: &[f64], at: usize, m: usize) -> bool
     requires { ⌜ at + m ≤ length (now sheet) ⌝ }
     ensures { λ b. ⌜ b ≡ notPositive (now (sheet .entry)) at m ⌝ }
@@ -56,18 +42,6 @@ fn bad_weight(z: Sizes, sheet: &[f64], at: usize) -> bool
     false
 }
 
-// A contrast whose every cell is zero: number 8. The contrast starts at `at`.
-fn zero_contrast(z: Sizes, sheet: &[f64], at: usize) -> bool
-    requires { ⌜ Small z × (at + z .contrasts * z .coefficients ≤ length (now sheet)) ⌝ }
-    ensures { λ r. ⌜ r ≡ zeroContrastIn z (now (sheet .entry)) at ⌝ }
-{
-    let rows = z.contrasts;
-    if rows == 0 {
-        return false;
-    }
-    !any_nonzero(sheet, at, rows * z.coefficients)
-}
-
 // Numbers 5 to 8.
 fn sheet_refusal(
     z: Sizes,
@@ -91,7 +65,7 @@ fn sheet_refusal(
     if misfit(z, blocks) {
         return 7;
     }
-    if zero_contrast(z, sheet, contrast) {
+    if records_contrast::zero_contrast(z, sheet, contrast) {
         return 8;
     }
     0

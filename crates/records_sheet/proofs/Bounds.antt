@@ -4,8 +4,7 @@ use native.Mathlib.Nat.{mul-le-mul}
 use native.Mathlib.Omega.{arith}
 use mathlib.Core.Path.{_≡_, refl, sym, ap₂, _∙_}
 use mathlib.Core.Bool.{Bool, true, false, cond}
-use mathlib.Core.List.{List, [], _∷_}
-use lib.Dec.{eqb}
+use mathlib.Core.List.{List}
 use lib.ListN.{set, replicate}
 use Rattle.algebra.specs.Fold.{fold}
 use Rattle.algebra.specs.Table.{row}
@@ -13,9 +12,10 @@ use Rattle.algebra.proofs.FoldLaws.{fold-more}
 use Rattle.records.specs.declared.Kind.{Kind}
 use Rattle.records.specs.declared.Sizes.{Sizes}
 use Rattle.records.specs.Scan.{total}
-use Rattle.records.specs.Kinds.{width, Table, kindAt, kindsOf, kenwardRogerKinds, satterthwaiteKinds}
+use Rattle.records.specs.Kinds.{width, Table, kindAt, byRowAndColumn, byCount, kindsOf, kenwardRogerKinds, satterthwaiteKinds, archiveKinds, testKinds}
 use Rattle.records.specs.Cells.{slots, firstSlot}
 use Rattle.records.proofs.ScanLaws.{total-more}
+use Rattle.records.proofs.Limits.{AllNumbered, each-numbered, each-file}
 use Rattle.records_sheet.specs.joints.Sheet.{Small}
 
 pub record Widths (y : Kind) : Type 0 where
@@ -24,17 +24,11 @@ pub record Widths (y : Kind) : Type 0 where
   pub column : width (y .column) ≤ 256
 
 abbrev AllWidths : Table → Type 0
-AllWidths [] = Unit {0}
-AllWidths (e ∷ t) = Widths (e .1) × AllWidths t
+AllWidths t = AllNumbered t (λ k y. Widths y)
 
 widths-at : (t : Table) → AllWidths t → (k : ℕ) → Widths (kindAt t k)
-unfolding kindAt width
-widths-at [] h k = record { number = omega arith; row = omega arith; column = omega arith }
-widths-at (e ∷ t) h k = go (eqb k (e .0)) (widths-at t (h .1) k)
-  where
-    go : (b : Bool) → Widths (kindAt t k) → Widths (cond b (e .1) (kindAt t k))
-    go true n = h .0
-    go false n = n
+unfolding width
+widths-at t h k = each-numbered t (λ k y. Widths y) h k (record { number = omega arith; row = omega arith; column = omega arith })
 
 -- what may be absent wholly
 pub cond-le : (b : Bool) (n m : ℕ) → n ≤ m → cond b n 0 ≤ m
@@ -101,13 +95,29 @@ module _ (z : Sizes) (h : Small z) where
     ),
   )
 
+  archive-widths : AllWidths (archiveKinds z)
+  unfolding archiveKinds width
+  archive-widths =
+      let square : Widths (byRowAndColumn (z .coefficients) (z .coefficients)) = record { number = one; row = h .coefficients; column = h .coefficients } in
+      let squares : Widths (byCount (z .parameters) (z .coefficients) (z .coefficients)) = record { number = h .parameters; row = h .coefficients; column = h .coefficients } in
+      (square, (square, (squares, (record { number = one; row = h .parameters; column = h .parameters }, (square, (square, (squares, (record { number = one; row = one; column = one }, tt))))))))
+
+  second-widths : AllWidths (testKinds z)
+  unfolding testKinds width
+  second-widths = (
+    record { number = one; row = h .coefficients; column = one },
+    (
+      record { number = one; row = h .contrasts; column = h .coefficients },
+      (
+        record { number = one; row = cond-le (z .hypothesis) (z .coefficients) 256 (h .coefficients); column = one },
+        tt,
+      ),
+    ),
+  )
+
   pub widths : (call k : ℕ) → Widths (kindAt (kindsOf call z) k)
-  unfolding kindsOf
-  widths call k = go (eqb call 0)
-    where
-      go : (b : Bool) → Widths (kindAt (cond b (kenwardRogerKinds z) (satterthwaiteKinds z)) k)
-      go true = widths-at (kenwardRogerKinds z) series-widths k
-      go false = widths-at (satterthwaiteKinds z) parameter-widths k
+  widths call k =
+      each-file (λ T. Widths (kindAt (T z) k)) (widths-at (kenwardRogerKinds z) series-widths k) (widths-at (satterthwaiteKinds z) parameter-widths k) (widths-at (archiveKinds z) archive-widths k) (widths-at (testKinds z) second-widths k) call
 
 -- ---- products of small numbers
 pub two-widths : (a b : ℕ) → a ≤ 256 → b ≤ 256 → a * b ≤ 65536

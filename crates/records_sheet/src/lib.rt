@@ -1,5 +1,5 @@
-// A slot for each cell that a file's sizes leave its kinds: the cells that a file names twice, those that it names and those that it misses, and the number in each. Call 0 is Kenward and Roger's, any
-// other Satterthwaite's.
+// A slot for each cell that a file's sizes leave its kinds: the cells that a file names twice, those that it names and those that it misses, and the number in each. File 0 is a Kenward and Roger series, 1 a Satterthwaite
+// test, 2 an archive, any other the second file that is lent with one.
 ghost use mathlib.Core.Path.{_≡_};
 ghost use mathlib.Core.Bool.{false};
 ghost use Prim.Native.Nat.{_+_, _≤_, _<_};

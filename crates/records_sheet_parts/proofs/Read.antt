@@ -1,4 +1,4 @@
--- What is read off the sheet at the first slot of a kind is what the file has in the cells of that kind, for either call.
+-- What is read off the sheet at the first slot of a kind is what the file has in the cells of that kind, for any file.
 use Prim.Native.Nat.{ℕ, zero, suc, _+_, _*_, _<_, _≤_}
 use native.Mathlib.Omega.{arith}
 use mathlib.Core.Path.{_≡_, refl, ap, ap₂, sym, _∙_}
@@ -21,8 +21,8 @@ use Rattle.records.specs.File.{count, valueOf, beyond, isCell, cell}
 use Rattle.records.proofs.ScanLaws.{any-none, last-holds}
 use Rattle.records.proofs.Slots.{Inside, sized-inside, cell-names, packed}
 use Rattle.algebra_large.specs.joints.Slab.{rowsAt}
-use Rattle.records_sheet.specs.joints.Sheet.{sheetAfter}
-use Rattle.records_sheet.proofs.Sheets.{cell-value, length-sheet, ends-within}
+use Rattle.records_sheet.specs.joints.Sheet.{firstSlots, sheetAfter}
+use Rattle.records_sheet.proofs.Sheets.{cell-value, length-sheet, firsts-at, ends-within}
 use Rattle.records_sheet_parts.specs.joints.Parts.{numbersAt, cellsAt, stackAt}
 
 -- ---- rows and tables
@@ -84,6 +84,18 @@ stack-slots y n r c f = rw (f .number, f .row, f .column) (whole n r c)
   where
     whole : (n r c : ℕ) → n * r * c ≡ n * (r * c)
     whole n r c = omega arith
+
+-- where a kind of a table starts, from the first slots as the code has them, and that it ends within a sheet of L numbers
+module _ (y : Table) (fs : List ℕ) (e : fs ≡ firstSlots y) where
+  pub kind-starts : (k : ℕ) → k < kindNumbers → getD fs k 0 ≡ firstSlot y k
+  kind-starts k l = ap (λ (x : List ℕ). getD x k 0) e ∙ firsts-at y k (omega arith)
+
+  module _ (L : ℕ) (room : slotCount y ≤ L) (k : ℕ) (l : k < kindNumbers) where
+    pub kind-on : (m : ℕ) → slots (kindAt y k) ≡ m → getD fs k 0 + m ≤ L
+    kind-on m q = let a = kind-starts k l in let b = ends-within y k l in omega arith
+
+    pub kind-fits : (r c : ℕ) → Flat (kindAt y k) r c → getD fs k 0 + r * c ≤ L
+    kind-fits r c f = kind-on (r * c) (flat-slots (kindAt y k) r c f)
 
 -- ---- a file within the sizes z of a call, on a sheet of N numbers
 module _ (call : ℕ) (z : Sizes) (s : List ℕ) (sized : any (count s) (beyond (kindsOf call z) s) ≡ false) (N : ℕ) (room : slotCount (kindsOf call z) ≤ N) where

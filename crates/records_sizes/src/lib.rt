@@ -1,4 +1,4 @@
-// The sizes of a file, from the largest indices of its records, by the number of its call: 0 is Kenward and Roger's, any other Satterthwaite's.
+// The sizes of a file, from the largest indices of its records, by its number: 0 is a Kenward and Roger series, 1 a Satterthwaite test, 2 an archive, any other the second file that is lent with one.
 ghost use mathlib.Core.Path.{_≡_};
 ghost use Prim.Native.Nat.{max};
 ghost use Rattle.algebra.specs.Table.{row};
@@ -6,6 +6,8 @@ ghost use Rattle.records.specs.Kinds.{kindNumbers};
 ghost use Rattle.records.specs.File.{rows, columns};
 ghost use Rattle.records.specs.Series.{sizes as seriesSizes};
 ghost use Rattle.records.specs.Parameters.{sizes as parameterSizes};
+ghost use Rattle.records.specs.Archive.{sizes as archiveSizes};
+ghost use Rattle.records.specs.SecondFile.{sizes as secondSizes};
 ghost use Rattle.records_sizes.specs.joints.Gathered.{sizesOf};
 use records::Sizes;
 use records_file::column_at;
@@ -19,7 +21,7 @@ fn larger(a: usize, b: usize) -> usize
     if a < b { b } else { a }
 }
 
-// A series has a specimen and a coefficient; a test has a coefficient, a contrast row and a parameter.
+// A series has a specimen and a coefficient; a test has a coefficient, a contrast row and a parameter; an archive a coefficient and a parameter.
 fn at_least_one(n: usize) -> usize
     ensures { λ r. ⌜ r ≡ max 1 n ⌝ }
 {
@@ -99,11 +101,58 @@ pub fn parameter_sizes(s: &[u8]) -> Sizes
     }
 }
 
+// The sizes of an archive.
+pub fn archive_sizes(s: &[u8]) -> Sizes
+    ensures { λ r. ⌜ r ≡ archiveSizes (now (s .entry)) ⌝ }
+{
+    let rows = rows_of(s);
+    let columns = columns_of(s);
+    let coefficients = larger(rows[11], columns[11]);
+    let parameters = larger(rows[14], columns[14]);
+    Sizes {
+        specimens: 0,
+        coefficients: at_least_one(coefficients),
+        columns: 0,
+        blocks: 0,
+        thetas: 0,
+        contrasts: 0,
+        parameters: at_least_one(parameters),
+        weighted: false,
+        hypothesis: false,
+    }
+}
+
+// The sizes of the second file.
+pub fn second_sizes(s: &[u8]) -> Sizes
+    ensures { λ r. ⌜ r ≡ secondSizes (now (s .entry)) ⌝ }
+{
+    let rows = rows_of(s);
+    let contrasts = rows[9];
+    let hypotheses = rows[10];
+    Sizes {
+        specimens: 0,
+        coefficients: at_least_one(rows[8]),
+        columns: 0,
+        blocks: 0,
+        thetas: 0,
+        contrasts: contrasts,
+        parameters: 0,
+        weighted: false,
+        hypothesis: (hypotheses != 0) & (contrasts != 0),
+    }
+}
+
 pub fn sizes_of(call: usize, s: &[u8]) -> Sizes
     ensures { λ r. ⌜ r ≡ sizesOf call (now (s .entry)) ⌝ }
 {
     if call == 0 {
         return series_sizes(s);
     }
-    parameter_sizes(s)
+    if call == 1 {
+        return parameter_sizes(s);
+    }
+    if call == 2 {
+        return archive_sizes(s);
+    }
+    second_sizes(s)
 }

@@ -14,7 +14,7 @@ use Rattle.records_refusals.proofs.sheet_refusal.Reads as reads
 use Rattle.records_refusals.proofs.sheet_refusal.Lts as lts
 use Rattle.records_block_limits.proofs.misfit.Reads as misfit-reads
 use Rattle.records_refusals.proofs.bad_weight.Reads as bad-weight-reads
-use Rattle.records_refusals.proofs.zero_contrast.Reads as zero-contrast-reads
+use Rattle.records_contrast.proofs.zero_contrast.Reads as zero-contrast-reads
 
 element-copy-out-variance : tie.Need-element-copy-out-variance
 element-copy-out-variance c = search needs

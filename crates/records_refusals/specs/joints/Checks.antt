@@ -1,12 +1,11 @@
 -- Not needed to check document 01: names that join the code to its definitions.
 -- The refusals 5 to 8 as the code makes them, on the sheet of crates/records_sheet/specs/joints/Sheet.antt and on an array of blocks.
-use Prim.Native.Nat.{ℕ, _+_, _*_}
-use mathlib.Core.Bool.{Bool, not, _&&_}
+use Prim.Native.Nat.{ℕ, _+_}
+use mathlib.Core.Bool.{Bool, _&&_}
 use mathlib.Core.List.{List, [], _∷_}
-use lib.Dec.{eqb}
 use lib.ListN.{getD}
 use lib.Ieee.{Float, nan, le}
-use Rattle.arithmetic.specs.Numbers.{plusZero, isZero}
+use Rattle.arithmetic.specs.Numbers.{plusZero}
 use Rattle.adjustment.specs.declared.Block.{Block}
 use Rattle.algebra.specs.Reasons.{first}
 use Rattle.records.specs.declared.Sizes.{Sizes}
@@ -14,20 +13,15 @@ use Rattle.records.specs.Scan.{any}
 use Rattle.records.specs.Kinds.{Table, kindsOf}
 use Rattle.records.specs.Cells.{firstSlot}
 use Rattle.records_block_limits.specs.joints.Checks.{misfitIn}
+use Rattle.records_contrast.specs.joints.Contrast.{zeroContrastIn}
 
--- one of the m numbers from a place on is not zero; and is not above zero
-unfoldable pub nonzeros : List Float → ℕ → ℕ → Bool
-nonzeros sheet at m = any m (λ j. not (isZero (getD sheet (at + j) nan)))
-
+-- one of the m numbers from a place on is not above zero
 unfoldable pub notPositive : List Float → ℕ → ℕ → Bool
 notPositive sheet at m = any m (λ j. le (getD sheet (at + j) nan) plusZero)
 
--- refusals 6 and 8, by where the weights start and where the contrast does
+-- refusal 6, by where the weights start
 unfoldable pub badWeightIn : Sizes → List Float → ℕ → Bool
 badWeightIn z sheet at = z .weighted && notPositive sheet at (z .specimens)
-
-unfoldable pub zeroContrastIn : Sizes → List Float → ℕ → Bool
-zeroContrastIn z sheet at = not (eqb (z .contrasts) 0) && not (nonzeros sheet at (z .contrasts * z .coefficients))
 
 -- refusals 5 to 8, lowest number first: sigma2 is kind 7, the weights 5 and the contrast 9
 unfoldable pub sheetRefusal : Sizes → List Block → List Float → ℕ

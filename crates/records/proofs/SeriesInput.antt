@@ -1,5 +1,5 @@
 -- What a Kenward–Roger file that is not refused gives to the run: sizes within document 01's limits, whatever the limit of specimens, and f64 numbers in the cells that the run reads.
-use Prim.Native.Nat.{ℕ, _+_, _<_, _≤_, max}
+use Prim.Native.Nat.{ℕ, _+_, _<_, _≤_}
 use native.Mathlib.Omega.{arith}
 use mathlib.Core.Path.{_≡_, refl, sym, ap, _∙_, subst}
 use mathlib.Core.Bool.{not, _||_}
@@ -17,36 +17,26 @@ use Rattle.algebra.proofs.TableLaws.{row-at, table-at}
 use Rattle.adjustment.specs.declared.Block.{Block}
 use Rattle.adjustment.specs.Blocks.{noBlock, blockAt, places, placesBefore}
 use Rattle.adjustment.specs.Covariance.{matrices}
 use Rattle.records.specs.Scan.{any, total}
 use Rattle.records.specs.Kinds.{kindAt, kenwardRogerKinds, limits, kenwardRoger}
-use Rattle.records.specs.File.{columns}
 use Rattle.records.specs.Series.{coefficients, blockCount, contrastRows, kinds, cellValue, blockOf, badSize, design, phi, beta, betaH, contrast, sigma2}
 use Rattle.records.proofs.ScanLaws.{or-false, total-same, fold-total}
 use Rattle.records.proofs.Limits.{rows-within, columns-within}
 use Rattle.records.proofs.AcceptedSeries.{AcceptedSeries}
-use Rattle.converter.proofs.Cells.{cell-fits}
+use Rattle.records.proofs.CellLaws.{cell-fits}
 
 -- ---- sizes that no limit of specimens bounds: "coefficients p 1–6", "blocks 0–3", "contrast rows 1–6"
-at-least : (x b : ℕ) → 1 ≤ b → x ≤ b → max 1 x ≤ b
-at-least x b h k = omega arith
-
-pub record Sized (s : List ℕ) : Type 0 where
+pub record SeriesSized (s : List ℕ) : Type 0 where
   pub some : 1 ≤ coefficients s
   pub coefficients : coefficients s ≤ 6
   pub blocks : blockCount s ≤ 3
   pub contrast : contrastRows s ≤ 6
 
-pub sized : (w : ℕ) (s : List ℕ) → AcceptedSeries w s → Sized s
+pub series-sized : (w : ℕ) (s : List ℕ) → AcceptedSeries w s → SeriesSized s
 unfolding kindAt kenwardRogerKinds limits
-sized w s c = record {
-  some = first (columns s 1);
-  coefficients = at-least (columns s 1) 6 (omega arith) (columns-within (kenwardRoger w) s (c .good) 1 6 refl);
-  blocks = rows-within (kenwardRoger w) s (c .good) 3 3 refl;
-  contrast = rows-within (kenwardRoger w) s (c .good) 9 6 refl;
-}
-  where
-    first : (x : ℕ) → 1 ≤ max 1 x
-    first x = omega arith
+series-sized w s c =
+    let b = columns-within (kenwardRoger w) s (c .good) 1 6 refl in
+    record { some = omega arith; coefficients = omega arith; blocks = rows-within (kenwardRoger w) s (c .good) 3 3 refl; contrast = rows-within (kenwardRoger w) s (c .good) 9 6 refl }
 
 -- ---- the blocks' parameters
 -- "block parameters at most 3": the matrices are one more
@@ -58,7 +48,7 @@ matrices-bound w s c =
     let h : n ≤ 3 = ltb-false 3 n (or-false (any b (λ i. not (eqb (blockOf s i .effects) 1 || eqb (blockOf s i .effects) 2) || eqb (blockOf s i .groups) 0)) (ltb 3 n) (c .sized) .1) in
     let e : fold 0 b (λ i z. z + places (blockAt (row noBlock 3 b (blockOf s)) i)) 0 ≡ n =
     fold-total b (λ i. places (blockAt (row noBlock 3 b (blockOf s)) i))
-    ∙ total-same b (λ i. places (blockAt (row noBlock 3 b (blockOf s)) i)) (λ i. places (blockOf s i)) (λ i l. ap (λ (x : Block). places x) (row-at noBlock 3 b (blockOf s) i noBlock l (sized w s c .blocks))) in
+    ∙ total-same b (λ i. places (blockAt (row noBlock 3 b (blockOf s)) i)) (λ i. places (blockOf s i)) (λ i l. ap (λ (x : Block). places x) (row-at noBlock 3 b (blockOf s) i noBlock l (series-sized w s c .blocks))) in
     less (fold 0 b (λ i z. z + places (blockAt (row noBlock 3 b (blockOf s)) i)) 0) n e h
   where
     less : (x n : ℕ) → x ≡ n → n ≤ 3 → x + 1 ≤ 4

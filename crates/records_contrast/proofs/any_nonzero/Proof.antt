@@ -1,4 +1,4 @@
--- `records_refusals::any_nonzero` meets its contract.
+-- `records_contrast::any_nonzero` meets its contract.
 use Prim.Native.Nat.{_+_, _≤_, _-_}
 use mathlib.Core.Path.{_≡_, refl, sym}
 use mathlib.Core.Bool.{false}
@@ -6,11 +6,11 @@ use lib.ListN.{length}
 use native.Mathlib.Omega.{arith}
 use Rattle.records.specs.Scan.{any}
 use Rattle.records.proofs.ScanLaws.{any-miss, any-hit}
-use Rattle.records_refusals.specs.joints.Checks.{nonzeros}
-use Rattle.records_refusals.proofs.any_nonzero.Statement.{statement}
-use Rattle.records_refusals.proofs.any_nonzero.Tie as tie
-use Rattle.records_refusals.proofs.any_nonzero.Reads as reads
-use Rattle.records_refusals.proofs.any_nonzero.Lts as lts
+use Rattle.records_contrast.specs.joints.Contrast.{nonzeros}
+use Rattle.records_contrast.proofs.any_nonzero.Statement.{statement}
+use Rattle.records_contrast.proofs.any_nonzero.Tie as tie
+use Rattle.records_contrast.proofs.any_nonzero.Reads as reads
+use Rattle.records_contrast.proofs.any_nonzero.Lts as lts
 use Rattle.arithmetic.proofs.plain.is_zero.Reads as is-zero-reads
 
 abbrev Inv-loop : tie.InvT-loop

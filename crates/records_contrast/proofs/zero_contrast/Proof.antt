@@ -1,12 +1,12 @@
--- `records_refusals::zero_contrast` meets its contract.
+-- `records_contrast::zero_contrast` meets its contract.
 use borrow.Author.Tests.{eq-eqb, ne-eqb}
-use Rattle.records_refusals.specs.joints.Checks.{zeroContrastIn}
+use Rattle.records_contrast.specs.joints.Contrast.{zeroContrastIn}
 use borrow.Author.Needs.{needs}
-use Rattle.records_refusals.proofs.zero_contrast.Statement.{statement}
-use Rattle.records_refusals.proofs.zero_contrast.Tie as tie
-use Rattle.records_refusals.proofs.zero_contrast.Reads as reads
-use Rattle.records_refusals.proofs.zero_contrast.Lts as lts
-use Rattle.records_refusals.proofs.any_nonzero.Reads as any-nonzero-reads
+use Rattle.records_contrast.proofs.zero_contrast.Statement.{statement}
+use Rattle.records_contrast.proofs.zero_contrast.Tie as tie
+use Rattle.records_contrast.proofs.zero_contrast.Reads as reads
+use Rattle.records_contrast.proofs.zero_contrast.Lts as lts
+use Rattle.records_contrast.proofs.any_nonzero.Reads as any-nonzero-reads
 
 returns : tie.Need-returns
 unfolding zeroContrastIn

@@ -1,0 +1,96 @@
+-- Document 02, "Req 02": what is promised of an archive (specs/ArchiveKeeps.antt) holds. The test from an archive gives the direct run's answer: the archive's file and the series' own tests are accepted,
+-- what they say is what the series says and its adjustment gives, and so the run is the same.
+use Prim.Native.Nat.{ℕ}
+use mathlib.Core.Path.{_≡_, refl, ap, sym, _∙_}
+use mathlib.Core.Bool.{cond}
+use mathlib.Core.List.{List, _++_}
+use lib.Dec.{eqb}
+use lib.ListN.{length}
+use Rattle.arithmetic_cutoffs.specs.declared.Cutoffs.{Cutoffs}
+use Rattle.algebra.specs.Reasons.{first}
+use Rattle.algebra.proofs.ReasonLaws.{first-front}
+use Rattle.adjustment.specs.Adjusted.{adjustmentReasons}
+use Rattle.tests.specs.KenwardRoger.{scaledBy, Run}
+use Rattle.records.specs.File.{lengthReasons, formReasons}
+use Rattle.records.specs.Order.{orderReasons}
+use Rattle.records.specs.Series as series
+use Rattle.records.specs.Archive as archive
+use Rattle.records.specs.Archive.{archiveBytes}
+use Rattle.records.specs.SecondFile as second
+use Rattle.records.specs.SecondFile.{ownTests}
+use Rattle.records.specs.KenwardRogerCall.{scaled, run, testReasons, allReasons, number, entries, returned, written}
+use Rattle.records.specs.ArchiveCall.{seriesArchive, seriesReasons, seriesRefusal, inResponseUnits, archiveRun, archiveTestReasons, fromArchiveReasons, fromArchiveNumber, fromArchiveEntries, testingReasons, testingReturned, testingWritten}
+use Rattle.records.specs.ArchiveKeeps.{ArchiveKeeps}
+use Rattle.records.proofs.CallLaws.{other-way, first-next, number-is, returned-is}
+use Rattle.records.proofs.OwnTests.{tests-accepted, tests-same}
+use Rattle.records.proofs.ArchiveBack.{archive-coefficients, series-accepted, series-adjusted, series-archivable, series-reads-back}
+use Rattle.records.proofs.ArchiveFront.{archiving-front, archiving-rest}
+use Rattle.records.proofs.ArchiveLengths.{archiving-length, archiving-number}
+use Rattle.records.proofs.ArchiveAgain.{archive-again}
+
+-- ---- an accepted series, its archive's file and its own tests
+module _ (w : ℕ) (c : Cutoffs) (s : List ℕ) (e : seriesRefusal w c s ≡ 0) where
+  -- "the reader's test marks the scaling steps": what it starts from is what the direct run starts from
+  units-same : inResponseUnits (seriesArchive c s) ≡ scaled c s
+  unfolding inResponseUnits seriesArchive scaled scaledBy
+  units-same = refl
+
+  run-same : archiveRun c (archiveBytes (seriesArchive c s)) (ownTests s) ≡ run c s
+  unfolding archiveRun run
+  run-same =
+      let b = series-reads-back w c s e in
+      let q = tests-same w s (series-accepted w c s e) in
+      rw (b .same, units-same, q .beta, q .betaH, q .contrastRows, q .contrast)
+
+  -- both files are accepted, and so the number is the tests'
+  coefficients-same : archive.coefficients (archiveBytes (seriesArchive c s)) ≡ series.coefficients s
+  unfolding seriesArchive
+  coefficients-same = archive-coefficients (seriesArchive c s) (series-archivable w c s e)
+
+  tests-taken : second.refusal (archive.coefficients (archiveBytes (seriesArchive c s))) (ownTests s) ≡ 0
+  tests-taken = ap (λ (p : ℕ). second.refusal p (ownTests s)) coefficients-same ∙ tests-accepted w s (series-accepted w c s e)
+
+  from-archive-is : fromArchiveNumber c (archiveBytes (seriesArchive c s)) (ownTests s) ≡ cond (run c s .refused) 10 0
+  unfolding fromArchiveNumber fromArchiveReasons archiveTestReasons archive.refusal archive.reasons archive.valueReasons archive.scaledReasons second.refusal second.reasons second.formedFor second.valueReasons lengthReasons orderReasons formReasons first
+  from-archive-is =
+      let f = archiveBytes (seriesArchive c s) in
+      let t = ownTests s in
+      first-next (archive.reasons f) (second.reasons (archive.coefficients f) t ++ archiveTestReasons c f t) refl (series-reads-back w c s e .accepted)
+      ∙ first-next (second.reasons (archive.coefficients f) t) (archiveTestReasons c f t) refl tests-taken
+      ∙ ap (λ (r : Run). cond (r .refused) 10 0) run-same
+
+  number-same : fromArchiveNumber c (archiveBytes (seriesArchive c s)) (ownTests s) ≡ number w c s
+  number-same = from-archive-is ∙ sym (number-is c s w ∙ rw (series-accepted w c s e, series-adjusted w c s e))
+
+  -- "gives the direct run's answer, mark included": the number that is returned
+  returned-same : (answer : List ℕ) → testingReturned c (archiveBytes (seriesArchive c s)) (ownTests s) answer ≡ returned w c s answer
+  unfolding testingReturned testingReasons fromArchiveNumber first
+  returned-same answer =
+      let f = archiveBytes (seriesArchive c s) in
+      other-way (eqb (length answer) 168) 1 (first (fromArchiveReasons c f (ownTests s)))
+      ∙ ap (λ (n : ℕ). cond (eqb (length answer) 168) n 1) number-same
+      ∙ sym (returned-is c s w answer)
+
+  -- and the lent bytes
+  written-same : (answer : List ℕ) → testingWritten c (archiveBytes (seriesArchive c s)) (ownTests s) answer ≡ written w c s answer
+  unfolding testingWritten fromArchiveEntries written entries
+  written-same answer = rw (returned-same answer, number-same, run-same)
+
+-- a series that the direct call accepts is archived
+pub answered-archived : (w : ℕ) (c : Cutoffs) (s : List ℕ) → number w c s ≡ 0 → seriesRefusal w c s ≡ 0
+unfolding number allReasons seriesRefusal seriesReasons series.reasons lengthReasons orderReasons formReasons series.sizeReasons series.valueReasons adjustmentReasons
+answered-archived w c s e = first-front (seriesReasons w c s) (testReasons c s) e
+
+-- WHAT IS PROMISED OF AN ARCHIVE
+pub archive-keeps : ArchiveKeeps
+archive-keeps =
+    record {
+      readBack = series-reads-back;
+      writtenBack = archive-again;
+      sameNumber = λ w c s answer e. returned-same w c s e answer;
+      sameBytes = λ w c s answer e. written-same w c s e answer;
+      front = archiving-front;
+      rest = archiving-rest;
+      lengths = archiving-length;
+      numbers = archiving-number;
+    }

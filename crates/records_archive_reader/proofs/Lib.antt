@@ -1,0 +1,2 @@
+-- The laws of the archive's reader.
+pub mod ReaderLaws

@@ -1,0 +1,145 @@
+// The test from an archive: the bytes of an archive and of a second file in, a number and seven entries out.
+ghost use mathlib.Core.Path.{_≡_};
+ghost use Prim.Native.Nat.{_≤_};
+ghost use Rattle.arithmetic_cutoffs.specs.Cutoffs.{documentCutoffs};
+ghost use Rattle.algebra.specs.Kind.{marks};
+ghost use Rattle.tests.specs.KenwardRoger.{runOf};
+ghost use Rattle.tests_run.specs.joints.Units.{responseUnits};
+ghost use Rattle.records.specs.Archive.{coefficients};
+ghost use Rattle.records.specs.SecondFile.{beta, betaH, contrastRows, contrast};
+ghost use Rattle.records.specs.ArchiveCall.{archiveRun, fromArchiveNumber, fromArchiveEntries, testingReturned, testingWritten};
+ghost use Rattle.records_archive_test.specs.joints.Read.{ArchiveRead, SecondRead};
+use arithmetic_cutoffs::Cutoffs;
+use arithmetic_cutoffs::document_cutoffs;
+use records_answer_bytes::put_answer;
+use records_sheet_parts::cells_at;
+use records_sheet_parts::six_at;
+use records_sheet_parts::stack_at;
+use tests::Entry;
+use tests_entries::answer_of;
+use tests_entries::no_entry;
+
+// The tests of what a second file says, on matrices in residual units. A zero pivot in any of them refuses the run.
+fn tests_with(
+    c: Cutoffs,
+    phi: [[f64; 6]; 6],
+    phi_a: [[f64; 6]; 6],
+    ps: [[[f64; 6]; 6]; 4],
+    w: [[f64; 6]; 6],
+    n: usize,
+    p: usize,
+    sigma2: f64,
+    t: &[u8],
+    numbers: &[f64],
+    refused: &mut bool,
+) -> [Entry; 7]
+    requires { ⌜ (n ≤ 4) × (p ≤ 6) × SecondRead p (now t) (now numbers) ⌝ }
+    ensures { λ r. ⌜ r ≡ runOf marks c (responseUnits p n phi «phi_a» ps w sigma2) (beta (now (t .entry))) (betaH (now (t .entry))) (contrastRows (now (t .entry))) (contrast (now (t .entry))) .entries ⌝ }
+    ensures { λ r. ⌜ now (refused .exit) ≡ runOf marks c (responseUnits p n phi «phi_a» ps w sigma2) (beta (now (t .entry))) (betaH (now (t .entry))) (contrastRows (now (t .entry))) (contrast (now (t .entry))) .refused ⌝ }
+{
+    let z = records_sizes::second_sizes(t);
+    let firsts = records_sheet::first_slots(3, z);
+    // β, the contrast and β_H start here.
+    let estimates = firsts[8];
+    let contrast = firsts[9];
+    let hypotheses = firsts[10];
+    let beta = six_at(numbers, estimates, p);
+    let beta_h = six_at(numbers, hypotheses, records_kinds::given(z.hypothesis, p));
+    let l = cells_at(numbers, contrast, z.contrasts, p);
+    tests_run::compute_kenward_roger(
+        c,
+        phi,
+        phi_a,
+        ps,
+        w,
+        n,
+        p,
+        sigma2,
+        beta,
+        beta_h,
+        l,
+        z.contrasts,
+        refused,
+    )
+}
+
+// The tests from an archive and a second file that their readers take, from their sheets: Φ, Φ_A and each P in residual units, W and sigma2. The scaled records are not looked at.
+fn tests_from(
+    c: Cutoffs,
+    s: &[u8],
+    sheet: &[f64],
+    t: &[u8],
+    numbers: &[f64],
+    refused: &mut bool,
+) -> [Entry; 7]
+    requires { ⌜ ArchiveRead (now s) (now sheet) × SecondRead (coefficients (now s)) (now t) (now numbers) ⌝ }
+    ensures { λ r. ⌜ r ≡ archiveRun c (now (s .entry)) (now (t .entry)) .entries ⌝ }
+    ensures { λ r. ⌜ now (refused .exit) ≡ archiveRun c (now (s .entry)) (now (t .entry)) .refused ⌝ }
+{
+    let z = records_sizes::archive_sizes(s);
+    let firsts = records_sheet::first_slots(2, z);
+    let p = z.coefficients;
+    let n = z.parameters;
+    // W, Φ, Φ_A, each P and sigma2 start here.
+    let inverse = firsts[14];
+    let square = firsts[15];
+    let adjusted = firsts[16];
+    let squares = firsts[17];
+    let variance = firsts[18];
+    let w = cells_at(sheet, inverse, n, n);
+    let phi = cells_at(sheet, square, p, p);
+    let phi_a = cells_at(sheet, adjusted, p, p);
+    let ps = stack_at(sheet, squares, n, p);
+    let sigma2 = sheet[variance];
+    tests_with(c, phi, phi_a, ps, w, n, p, sigma2, t, numbers, refused)
+}
+
+// The number of the two files, the archive's before the second's, and the entries, none of which is in use where the number is not 0.
+pub fn judge(c: Cutoffs, s: &[u8], t: &[u8], told: &mut u32) -> [Entry; 7]
+    ensures { λ r. ⌜ r ≡ fromArchiveEntries c (now (s .entry)) (now (t .entry)) ⌝ }
+    ensures { λ r. ⌜ now (told .exit) ≡ fromArchiveNumber c (now (s .entry)) (now (t .entry)) ⌝ }
+{
+    let mut flags = [false; 512];
+    let mut sheet = [0.0; 512];
+    let first = records_archive_reader::refusal(s, &mut flags, &mut sheet);
+    if first != 0 {
+        *told = first;
+        return [no_entry(); 7];
+    }
+    let z = records_sizes::archive_sizes(s);
+    let mut marks = [false; 64];
+    let mut numbers = [0.0; 64];
+    let second = records_second_file::refusal(z.coefficients, t, &mut marks, &mut numbers);
+    if second != 0 {
+        *told = second;
+        return [no_entry(); 7];
+    }
+    let mut refused = false;
+    let es = tests_from(c, s, &sheet, t, &numbers, &mut refused);
+    answer_of(refused, es, told)
+}
+
+// The call with its cutoffs: the archive, the second file, and 168 bytes for the answer, as the direct call fills them. A refusal returns its number alone and leaves the bytes as they are.
+pub fn test_with(c: Cutoffs, archive: &[u8], tests: &[u8], answer: &mut [u8]) -> u32
+    ensures { λ r. ⌜ r ≡ testingReturned c (now (archive .entry)) (now (tests .entry)) (now (answer .entry)) ⌝ }
+    ensures { λ r. ⌜ now (answer .exit) ≡ testingWritten c (now (archive .entry)) (now (tests .entry)) (now (answer .entry)) ⌝ }
+{
+    if answer.len() != 168 {
+        return 1;
+    }
+    let mut told: u32 = 0;
+    let es = judge(c, archive, tests, &mut told);
+    if told != 0 {
+        return told;
+    }
+    put_answer(answer, es);
+    0
+}
+
+// The call of the office application, with document 01's cutoffs.
+pub fn test(archive: &[u8], tests: &[u8], answer: &mut [u8]) -> u32
+    ensures { λ r. ⌜ r ≡ testingReturned documentCutoffs (now (archive .entry)) (now (tests .entry)) (now (answer .entry)) ⌝ }
+    ensures { λ r. ⌜ now (answer .exit) ≡ testingWritten documentCutoffs (now (archive .entry)) (now (tests .entry)) (now (answer .entry)) ⌝ }
+{
+    test_with(document_cutoffs(), archive, tests, answer)
+}

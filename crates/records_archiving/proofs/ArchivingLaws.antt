@@ -1,0 +1,85 @@
+-- The number and the lent bytes of the archive's writer, by who refuses: the lent length, the reader, the adjustment; and what is archived of a series that none refuses.
+use Prim.Native.Nat.{ℕ, _≤_}
+use native.Mathlib.Omega.{arith}
+use mathlib.Core.Path.{_≡_, refl, sym, ap, _∙_}
+use mathlib.Core.Bool.{Bool, not, cond}
+use mathlib.Core.List.{List, _++_}
+use lib.Dec.{eqb}
+use lib.ListN.{length}
+use lib.Ieee.{Float}
+use lib.Seq.{sets}
+use borrow.Author.Tests.{eq-eqb, ne-eqb}
+use Rattle.arithmetic_cutoffs.specs.declared.Cutoffs.{Cutoffs}
+use Rattle.algebra.specs.Small.{Rows}
+use Rattle.algebra.specs.Reasons.{first}
+use Rattle.algebra.proofs.ReasonLaws.{first-append}
+use Rattle.adjustment.specs.Covariance.{matrices}
+use Rattle.adjustment.specs.Adjusted.{Stack, adjustmentReasons, adjustmentRefusal}
+use Rattle.records.specs.File.{lengthReasons, formReasons}
+use Rattle.records.specs.Order.{orderReasons}
+use Rattle.records.specs.Series.{coefficients, sizeReasons, valueReasons, reasons, refusal, design, phi, sigma2}
+use Rattle.records.specs.KenwardRogerCall.{adjusted}
+use Rattle.records.specs.Kinds.{archiveKinds}
+use Rattle.records.specs.Archive.{sizesAt, archiveContent, archiveBytes}
+use Rattle.records.specs.ArchiveCall.{seriesArchive, seriesReasons, seriesRefusal, archivingReasons, archivingRefusal, archivingReturned, archivingWritten}
+use Rattle.records.proofs.CallLaws.{other-way, fileAdjustmentRefusal}
+use Rattle.records.proofs.WrittenLaws.{length-file}
+use Rattle.records_archive_bytes.specs.joints.Parts.{archiveFrom}
+use Rattle.records.proofs.ArchiveLengths.{archive-slots}
+
+-- ---- what is archived, from the parts as the code has them
+pub series-archive-is : (c : Cutoffs) (s : List ℕ) (p N : ℕ) (m phiA w : Rows) (ps : Stack) (x : Float) → p ≡ coefficients s → N ≡ matrices (design s) → m ≡ phi s → phiA ≡ adjusted c s .phiA → ps ≡ adjusted c s .ps → w ≡ adjusted c s .w → x ≡ sigma2 s
+    → archiveFrom p N m phiA ps w x ≡ seriesArchive c s
+unfolding seriesArchive
+series-archive-is c s p N m phiA w ps x ep eN em ea es ew ex = rw (ep, eN, em, ea, es, ew, ex)
+
+-- it has room in the bytes that are lent
+pub archive-short : (p N : ℕ) (m phiA w : Rows) (ps : Stack) (x : Float) (n : ℕ) → p ≤ 6 → N ≤ 4 → n ≡ length (archiveBytes (archiveFrom p N m phiA ps w x)) → n ≤ 7184
+unfolding archiveBytes
+archive-short p N m phiA w ps x n few fewer e =
+    let a = length-file (archiveKinds (sizesAt p N)) (archiveContent (archiveFrom p N m phiA ps w x)) in
+    let d = archive-slots p N few fewer in
+    omega arith
+
+-- ---- the number
+module _ (w : ℕ) (c : Cutoffs) (s : List ℕ) where
+  series-number-is : seriesRefusal w c s ≡ cond (eqb (refusal w s) 0) (fileAdjustmentRefusal c s) (refusal w s)
+  unfolding seriesRefusal seriesReasons refusal reasons lengthReasons orderReasons formReasons sizeReasons valueReasons adjustmentRefusal
+  series-number-is = first-append (reasons w s) (adjustmentReasons c (design s) (phi s) (sigma2 s)) refl
+
+  module _ (lent : List ℕ) where
+    archiving-is : archivingRefusal w c s lent ≡ cond (eqb (length lent) 7184) (seriesRefusal w c s) 1
+    unfolding archivingRefusal archivingReasons seriesRefusal first
+    archiving-is = other-way (eqb (length lent) 7184) 1 (first (seriesReasons w c s))
+
+    -- a refusal: its number is returned, and the lent bytes stay
+    refuses : (n : ℕ) → archivingRefusal w c s lent ≡ n → (n ≡ 0 → ⊥) → (n ≡ archivingReturned w c s lent) × (lent ≡ archivingWritten w c s lent)
+    unfolding archivingReturned archivingWritten
+    refuses n e h = (rw (e, ne-eqb n 0 h), rw (e, ne-eqb n 0 h))
+
+    pub other-lent : (length lent ≡ 7184 → ⊥) → (1 ≡ archivingReturned w c s lent) × (lent ≡ archivingWritten w c s lent)
+    other-lent h = refuses 1 (archiving-is ∙ rw (ne-eqb (length lent) 7184 h)) (λ e. absurd (one-is e))
+      where
+        one-is : _≡_ {A = ℕ} 1 0 → ⊥
+        one-is e = omega arith
+
+    module _ (whole : length lent ≡ 7184) where
+      own : archivingRefusal w c s lent ≡ seriesRefusal w c s
+      own = archiving-is ∙ rw (eq-eqb (length lent) 7184 whole)
+
+      -- by the reader
+      pub reader-refuses : (n : ℕ) → n ≡ refusal w s → (n ≡ 0 → ⊥) → (n ≡ archivingReturned w c s lent) × (lent ≡ archivingWritten w c s lent)
+      reader-refuses n e h = refuses n (own ∙ series-number-is ∙ rw (← e, ne-eqb n 0 h)) h
+
+      module _ (taken : refusal w s ≡ 0) where
+        -- by the adjustment
+        pub adjustment-refuses : (n : ℕ) → n ≡ fileAdjustmentRefusal c s → (n ≡ 0 → ⊥) → (n ≡ archivingReturned w c s lent) × (lent ≡ archivingWritten w c s lent)
+        adjustment-refuses n e h = refuses n (own ∙ series-number-is ∙ rw taken (sym e)) h
+
+        -- by nobody
+        pub series-taken : fileAdjustmentRefusal c s ≡ 0 → seriesRefusal w c s ≡ 0
+        series-taken e = series-number-is ∙ rw (taken, e)
+
+        pub archives : (n : ℕ) (out : List ℕ) → fileAdjustmentRefusal c s ≡ 0 → n ≡ length (archiveBytes (seriesArchive c s)) → out ≡ sets lent 0 (archiveBytes (seriesArchive c s)) → (n ≡ archivingReturned w c s lent) × (out ≡ archivingWritten w c s lent)
+        unfolding archivingReturned archivingWritten
+        archives n out e en eo = let z : archivingRefusal w c s lent ≡ 0 = own ∙ series-taken e in (en ∙ rw z, eo ∙ rw z)

@@ -1,0 +1,2 @@
+-- The laws of the archive's writer.
+pub mod ArchivingLaws

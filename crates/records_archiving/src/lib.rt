@@ -1,0 +1,149 @@
+// The archive's writer: the bytes of a series in, the bytes of its archive out. No test is made.
+ghost use mathlib.Core.Path.{_≡_};
+ghost use Prim.Native.Nat.{_*_, _≤_};
+ghost use lib.ListN.{length};
+ghost use lib.Seq.{sets};
+ghost use Rattle.arithmetic_cutoffs.specs.Cutoffs.{documentCutoffs};
+ghost use Rattle.records.specs.Series.{sizes, kinds};
+ghost use Rattle.records.specs.KenwardRogerCall.{adjusted};
+ghost use Rattle.records.specs.Archive.{archiveBytes};
+ghost use Rattle.records.specs.ArchiveCall.{seriesArchive, archivingReturned, archivingWritten};
+ghost use Rattle.records_sheet.specs.joints.Sheet.{firstSlots};
+ghost use Rattle.records_refusals.specs.joints.Room.{Room, SeriesRead};
+use arithmetic_cutoffs::Cutoffs;
+use arithmetic_cutoffs::document_cutoffs;
+use records::Sizes;
+use records_archive_bytes::put_archive;
+
+// A length as a number that a call returns.
+fn told(length: usize) -> u32
+    requires { ⌜ length ≤ 7184 ⌝ }
+    ensures { λ r. ⌜ r ≡ length ⌝ }
+{
+    length as u32
+}
+
+// The archive of a series that the reader takes, from its sheet and its adjustment, at the front of the lent bytes; its length.
+fn put_series(
+    limit: usize,
+    c: Cutoffs,
+    s: &[u8],
+    z: Sizes,
+    firsts: &[usize; 34],
+    sheet: &[f64],
+    phi_a: &[[f64; 6]; 6],
+    ps: &[[[f64; 6]; 6]; 4],
+    w: &[[f64; 6]; 6],
+    archive: &mut [u8],
+) -> u32
+    requires { ⌜ SeriesRead limit (now s) z (now firsts) (now sheet) × (length (now archive) ≡ 7184) ⌝ }
+    requires { ⌜ (now «phi_a» ≡ adjusted c (now s) .phiA) × (now ps ≡ adjusted c (now s) .ps) × (now w ≡ adjusted c (now s) .w) ⌝ }
+    ensures { λ r. ⌜ r ≡ length (archiveBytes (seriesArchive c (now (s .entry)))) ⌝ }
+    ensures { λ _. ⌜ now (archive .exit) ≡ sets (now (archive .entry)) 0 (archiveBytes (seriesArchive c (now (s .entry)))) ⌝ }
+{
+    let p = z.coefficients;
+    let blocks = records_series::blocks_of(s, z.blocks);
+    let n = adjustment_covariance::blocks::places_before(blocks, z.blocks) + 1;
+    // Φ and sigma2 start here.
+    let square = firsts[6];
+    let variance = firsts[7];
+    let phi = records_sheet_parts::cells_at(sheet, square, p, p);
+    let sigma2 = sheet[variance];
+    told(put_archive(archive, p, n, &phi, phi_a, ps, w, sigma2))
+}
+
+// The same from the series' bytes and sheet: the adjustment's number where it refuses, and then the lent bytes stay as they are.
+fn adjust_and_put(
+    limit: usize,
+    c: Cutoffs,
+    s: &[u8],
+    sheet: &[f64],
+    work: &mut [f64],
+    narrow: &mut [f64],
+    archive: &mut [u8],
+) -> u32
+    requires { ⌜ SeriesRead limit (now s) (sizes (now s)) (firstSlots (kinds (now s))) (now sheet) × (length (now archive) ≡ 7184) ⌝ }
+    requires { ⌜ (6 * (limit * limit) ≤ length (now work)) × (36 * limit ≤ length (now narrow)) ⌝ }
+    ensures { λ r. ⌜ r ≡ archivingReturned limit c (now (s .entry)) (now (archive .entry)) ⌝ }
+    ensures { λ _. ⌜ now (archive .exit) ≡ archivingWritten limit c (now (s .entry)) (now (archive .entry)) ⌝ }
+{
+    let z = records_sizes::series_sizes(s);
+    let firsts = records_sheet::first_slots(0, z);
+    let blank = algebra_products::zeros();
+    let mut phi_a = blank;
+    let mut ps = [blank; 4];
+    let mut w = blank;
+    let mut count: usize = 0;
+    let late = records_kenward_roger::kenward_roger_modcomp_data(
+        limit,
+        c,
+        s,
+        z,
+        &firsts,
+        sheet,
+        work,
+        narrow,
+        &mut phi_a,
+        &mut ps,
+        &mut w,
+        &mut count,
+    );
+    if late != 0 {
+        return late;
+    }
+    put_series(limit, c, s, z, &firsts, sheet, &phi_a, &ps, &w, archive)
+}
+
+// The archive of a file, whatever its bytes are, with a limit of specimens. What is lent for the reading and for the adjustment has the room that the limit asks for.
+pub fn archive_series(
+    limit: usize,
+    c: Cutoffs,
+    s: &[u8],
+    flags: &mut [bool],
+    sheet: &mut [f64],
+    work: &mut [f64],
+    narrow: &mut [f64],
+    archive: &mut [u8],
+) -> u32
+    requires { ⌜ Room limit (now flags) (now sheet) × (6 * (limit * limit) ≤ length (now work)) × (36 * limit ≤ length (now narrow)) ⌝ }
+    ensures { λ r. ⌜ r ≡ archivingReturned limit c (now (s .entry)) (now (archive .entry)) ⌝ }
+    ensures { λ _. ⌜ now (archive .exit) ≡ archivingWritten limit c (now (s .entry)) (now (archive .entry)) ⌝ }
+{
+    if archive.len() != 7184 {
+        return 1;
+    }
+    let early = records_refusals::refusal(limit, s, flags, sheet);
+    if early != 0 {
+        return early;
+    }
+    adjust_and_put(limit, c, s, &sheet[..], work, narrow, archive)
+}
+
+// The call with its cutoffs, at the panel, whose limit is 24 specimens: the records, and 7,184 bytes for the archive. Returns its length, or the number of the refusal, and then leaves the bytes as they are.
+pub fn archive_with(c: Cutoffs, records: &[u8], archive: &mut [u8]) -> u32
+    ensures { λ r. ⌜ r ≡ archivingReturned 24 c (now (records .entry)) (now (archive .entry)) ⌝ }
+    ensures { λ _. ⌜ now (archive .exit) ≡ archivingWritten 24 c (now (records .entry)) (now (archive .entry)) ⌝ }
+{
+    let mut flags = [false; 1024];
+    let mut sheet = [0.0; 1024];
+    let mut work = [0.0; 3456];
+    let mut narrow = [0.0; 864];
+    archive_series(
+        24,
+        c,
+        records,
+        &mut flags,
+        &mut sheet,
+        &mut work,
+        &mut narrow,
+        archive,
+    )
+}
+
+// The call of the office application, with document 01's cutoffs.
+pub fn archive(records: &[u8], archive: &mut [u8]) -> u32
+    ensures { λ r. ⌜ r ≡ archivingReturned 24 documentCutoffs (now (records .entry)) (now (archive .entry)) ⌝ }
+    ensures { λ _. ⌜ now (archive .exit) ≡ archivingWritten 24 documentCutoffs (now (records .entry)) (now (archive .entry)) ⌝ }
+{
+    archive_with(document_cutoffs(), records, archive)
+}

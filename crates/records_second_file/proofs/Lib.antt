@@ -1,0 +1,2 @@
+-- The laws of the second file's number.
+pub mod SecondLaws
