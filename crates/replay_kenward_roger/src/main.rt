@@ -1,4 +1,4 @@
 // Replays the Kenward–Roger vectors (vectors/kenward-roger.txt).
 fn main() {
-    replay_vectors::replay(false);
+    replay_vectors::replay(0);
 }

@@ -1,4 +1,4 @@
 // Replays the Satterthwaite vectors (vectors/satterthwaite.txt).
 fn main() {
-    replay_vectors::replay(true);
+    replay_vectors::replay(1);
 }

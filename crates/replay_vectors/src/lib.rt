@@ -1,7 +1,9 @@
 // Replays a list of vectors: reads it from standard input and prints each line again with this library's own answer, so that what it prints is what it has read.
-// A line is a file in hexadecimal digits (`-` for an empty file), one blank, and what `pulltest` prints of it with `|` for each newline; of a Satterthwaite file, the one `test` line.
-ghost use Prim.Native.Nat.{_≤_};
+// A line is a file in hexadecimal digits (`-` for an empty file), one blank, and what `pulltest` prints of it with `|` for each newline; of a Satterthwaite file, the one `test` line; of a series that is archived, its
+// archive in digits and what the test from it prints. A test from an archive has two files, the archive and the second file, with a comma between.
+ghost use Prim.Native.Nat.{_+_, _<_, _≤_};
 ghost use lib.ListN.{length};
+ghost use Rattle.records.specs.File.{count};
 use arithmetic_cutoffs::document_cutoffs;
 use records_answer_text::put_run;
 use tests_entries::no_entry;
@@ -48,29 +50,148 @@ fn print_kenward_roger(file: &[u8]) {
     print_barred(out, n);
 }
 
-// What is printed of a file, by the Satterthwaite call or by the Kenward–Roger call.
-fn print_answer(satterthwaite: bool, file: &[u8]) {
-    if satterthwaite {
+// What the tests from an archive print.
+fn print_tests(archive: &[u8], tests: &[u8]) {
+    let mut number: u32 = 0;
+    let es = records_archive_test::judge(document_cutoffs(), archive, tests, &mut number);
+    let mut out = [0u8; 512];
+    let n = put_run(&mut out, 0, number, es);
+    print_barred(out, n);
+}
+
+// The sixteen bytes of record i, put from a place on.
+fn put_own(file: &[u8], i: usize, own: &mut [u8], at: usize)
+    requires { ⌜ (i < count (now file)) × (at + 16 ≤ length (now own)) ⌝ }
+{
+    for j in 0..16usize {
+        own[at + j] = file[16 * i + j];
+    }
+}
+
+// Puts record i of a series after the bytes that are held, where its kind is 8, 9 or 10 and there is room; how many bytes are held then.
+fn take_own(file: &[u8], i: usize, own: &mut [u8], held: usize) -> usize
+    requires { ⌜ (i < count (now file)) × (held ≤ 1024) × (1024 ≤ length (now own)) ⌝ }
+    ensures { λ r. ⌜ r ≤ 1024 ⌝ }
+{
+    let kind = records_file::kind_at(file, i);
+    if kind < 8 {
+        return held;
+    }
+    if 10 < kind {
+        return held;
+    }
+    if 1008 < held {
+        return held;
+    }
+    put_own(file, i, own, held);
+    held + 16
+}
+
+// The records of kinds 8 to 10 of a series, as far as there is room; how many bytes they have.
+fn own_tests(file: &[u8], own: &mut [u8]) -> usize
+    requires { ⌜ 1024 ≤ length (now own) ⌝ }
+    ensures { λ r. ⌜ r ≤ 1024 ⌝ }
+{
+    let mut held: usize = 0;
+    for i in 0..file.len() / 16 {
+        held = take_own(file, i, own, held);
+    }
+    held
+}
+
+// An archive of a series in digits, and the tests from it with the series' own records of kinds 8 to 10.
+fn print_archived(file: &[u8], archive: &[u8]) {
+    let mut own = [0u8; 1024];
+    let n = own_tests(file, &mut own);
+    io::write_all(1, b"archive ");
+    table_bits_text::print_bytes(archive);
+    io::write_all(1, b"|");
+    print_tests(archive, &own[..n]);
+}
+
+// What is printed of a series that is to be archived.
+fn print_archive(file: &[u8]) {
+    let mut archive = [0u8; 7184];
+    let told = records_archiving::archive(file, &mut archive);
+    if told < 128 {
+        let mut out = [0u8; 512];
+        let n = put_run(&mut out, 0, told, [no_entry(); 7]);
+        print_barred(out, n);
+        return;
+    }
+    print_archived(file, &archive[..at_most(told as usize, 7184)]);
+}
+
+fn at_most(n: usize, m: usize) -> usize
+    ensures { λ r. ⌜ r ≤ m ⌝ }
+{
+    if n < m { n } else { m }
+}
+
+// What is printed of an archive and of the second file that the digits spell.
+fn print_pair(archive: &[u8], digits: &[u8])
+    requires { ⌜ length (now digits) ≤ 32768 ⌝ }
+{
+    let mut tests = [0u8; 16384];
+    let bytes = digits.len() / 2;
+    table_bits_text::spell(digits, bytes, &mut tests);
+    print_tests(archive, &tests[..bytes]);
+}
+
+// What is printed of a file, by one of the calls.
+fn print_answer(call: usize, file: &[u8]) {
+    if call == 2 {
+        print_archive(file);
+        return;
+    }
+    if call == 1 {
         print_satterthwaite(file);
         return;
     }
     print_kenward_roger(file);
 }
 
-// The n digits of a line as they were read, a blank, and the answer to the file that they spell.
-fn print_line(satterthwaite: bool, digits: &[u8], n: usize)
+// Where the first of the n digits that is a comma stands; n where none is.
+fn comma_in(digits: &[u8], n: usize) -> usize
+    requires { ⌜ n ≤ length (now digits) ⌝ }
+    ensures { λ r. ⌜ r ≤ n ⌝ }
+{
+    let mut i = 0;
+    while i < n {
+        if digits[i] == 44 {
+            return i;
+        }
+        i += 1;
+    }
+    n
+}
+
+// The answer to the file, or to the two files, that the n digits of a line spell.
+fn print_files(call: usize, digits: &[u8], n: usize)
     requires { ⌜ (n ≤ length (now digits)) × (n ≤ 32768) ⌝ }
 {
     let mut file = [0u8; 16384];
-    let bytes = n / 2;
+    let end = comma_in(digits, n);
+    let bytes = end / 2;
     table_bits_text::spell(digits, bytes, &mut file);
+    if end < n {
+        print_pair(&file[..bytes], &digits[end + 1..n]);
+        return;
+    }
+    print_answer(call, &file[..bytes]);
+}
+
+// The n digits of a line as they were read, a blank, and the answer to what they spell.
+fn print_line(call: usize, digits: &[u8], n: usize)
+    requires { ⌜ (n ≤ length (now digits)) × (n ≤ 32768) ⌝ }
+{
     io::write_all(1, &digits[..n]);
     io::write_all(1, b" ");
-    print_answer(satterthwaite, &file[..bytes]);
+    print_files(call, digits, n);
 }
 
 // Takes one byte of the input. `held` is how many digits of the line are held; after the blank it is 32769 until the newline, so that the expected answer is passed over unread.
-fn take(satterthwaite: bool, b: u8, digits: &mut [u8; 32768], held: usize) -> usize
+fn take(call: usize, b: u8, digits: &mut [u8; 32768], held: usize) -> usize
     requires { ⌜ held ≤ 32769 ⌝ }
     ensures { λ r. ⌜ r ≤ 32769 ⌝ }
 {
@@ -81,7 +202,7 @@ fn take(satterthwaite: bool, b: u8, digits: &mut [u8; 32768], held: usize) -> us
         return held;
     }
     if b == 32 {
-        print_line(satterthwaite, digits, held);
+        print_line(call, digits, held);
         return 32769;
     }
     if held < 32768 {
@@ -91,32 +212,33 @@ fn take(satterthwaite: bool, b: u8, digits: &mut [u8; 32768], held: usize) -> us
     held
 }
 
-fn take_all(satterthwaite: bool, part: &[u8], digits: &mut [u8; 32768], start: usize) -> usize
+fn take_all(call: usize, part: &[u8], digits: &mut [u8; 32768], start: usize) -> usize
     requires { ⌜ start ≤ 32769 ⌝ }
     ensures { λ r. ⌜ r ≤ 32769 ⌝ }
 {
     let mut held = start;
     for i in 0..part.len() {
-        held = take(satterthwaite, part[i], digits, held);
+        held = take(call, part[i], digits, held);
     }
     held
 }
 
 // The next 65,536 bytes of standard input, or what is left of it.
-fn next_part(satterthwaite: bool, digits: &mut [u8; 32768], held: usize) -> usize
+fn next_part(call: usize, digits: &mut [u8; 32768], held: usize) -> usize
     requires { ⌜ held ≤ 32769 ⌝ }
     ensures { λ r. ⌜ r ≤ 32769 ⌝ }
 {
     let mut part = io::large_buffer();
     let n = io::read_full(0, &mut part);
-    take_all(satterthwaite, &part[..n], digits, held)
+    take_all(call, &part[..n], digits, held)
 }
 
-// Replays the list on standard input, of at most 16 MiB, by one of the two calls.
-pub fn replay(satterthwaite: bool) {
+// Replays the list on standard input, of at most 16 MiB, by one of the calls: 2 is the archive's writer with a test from what it wrote, 1 Satterthwaite's, any other Kenward and Roger's. A line with a comma is a test from
+// an archive in each.
+pub fn replay(call: usize) {
     let mut digits = [0u8; 32768];
     let mut held: usize = 0;
     for k in 0..256usize {
-        held = next_part(satterthwaite, &mut digits, held);
+        held = next_part(call, &mut digits, held);
     }
 }

@@ -4,10 +4,6 @@ use lib.Seq.{length-take-le}
 use borrow.Author.Needs.{needs}
 use Rattle.replay_vectors.proofs.print_barred.Statement.{statement}
 use Rattle.replay_vectors.proofs.print_barred.Tie as tie
-use Rattle.replay_vectors.proofs.print_barred.Reads as reads
-use Rattle.replay_vectors.proofs.print_barred.Lts as lts
-use Rattle.io.proofs.write_all.Reads as write-all-reads
-use Rattle.replay_vectors.proofs.bar.Reads as bar-reads
 
 slice-aggregate-bar : tie.Need-slice-aggregate-bar
 slice-aggregate-bar c = search needs

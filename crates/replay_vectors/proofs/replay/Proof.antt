@@ -5,10 +5,10 @@ use Rattle.replay_vectors.proofs.replay.Statement.{statement}
 use Rattle.replay_vectors.proofs.replay.Tie as tie
 
 abbrev Inv-loop : tie.InvT-loop
-Inv-loop satterthwaite digits₀ held₀ k₀ digits held k = (k ≤ 256) × (held ≤ 32769)
+Inv-loop call digits₀ held₀ k₀ digits held k = (k ≤ 256) × (held ≤ 32769)
 
 abbrev μ-loop : tie.MeasureT-loop
-μ-loop satterthwaite digits₀ held₀ k₀ digits held k = 256 - k
+μ-loop call digits₀ held₀ k₀ digits held k = 256 - k
 
 loop-holds : tie.Need-loop-holds Inv-loop μ-loop
 loop-holds c = search needs

@@ -5,10 +5,10 @@ use Rattle.replay_vectors.proofs.take_all.Statement.{statement}
 use Rattle.replay_vectors.proofs.take_all.Tie as tie
 
 abbrev Inv-loop : tie.InvT-loop
-Inv-loop satterthwaite part digits₀ start held₀ i₀ i-end digits held i = (i ≤ i-end) × (held ≤ 32769)
+Inv-loop call part digits₀ start held₀ i₀ i-end digits held i = (i ≤ i-end) × (held ≤ 32769)
 
 abbrev μ-loop : tie.MeasureT-loop
-μ-loop satterthwaite part digits₀ start held₀ i₀ i-end digits held i = i-end - i
+μ-loop call part digits₀ start held₀ i₀ i-end digits held i = i-end - i
 
 loop-holds : tie.Need-loop-holds Inv-loop μ-loop
 loop-holds c = search needs
