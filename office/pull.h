@@ -15,23 +15,32 @@
 extern "C" {
 #endif
 
-/* The stated lengths of the answer bytes. */
+/* The stated lengths of the bytes that are lent for an answer. */
 #define PULL_ENTRY_BYTES 24u
 #define PULL_KENWARD_ROGER_BYTES 168u /* seven entries */
+#define PULL_ARCHIVE_BYTES 7184u      /* the longest archive */
 
-/* What a call returns: 0, or the number of the refusal. Where several apply it
- * is the first of these:
+/* What a call returns: 0, or the number of the refusal; pull_archive returns
+ * the archive's length where it accepts, at least 128, which is no refusal's
+ * number. Where several refusals apply it is the first of these:
  *
- *   1; 2 for records_length; 12; 2 for any of its other reasons; then
- *   pull_kenward_roger: 3, 4 of an input, 5, 6, 7, 8; 9 and 10 of the
- *     covariance adjustment; 4 of its output; 10 of a test
- *   pull_satterthwaite: 4, 11 */
+ *   pull_kenward_roger: 1; 2 for records_length; 12; 2 for any of its other
+ *     reasons; 3; 4 of an input; 5; 6; 7; 8; 9 and 10 of the covariance
+ *     adjustment; 4 of its output; 10 of a test
+ *   pull_archive: the same without 10 of a test, since it runs none
+ *   pull_archive_test: 1; of the archive 2 for its length; 12; 2 for any other
+ *     reason but the last; 4; 5; 2 for records in response units that are not
+ *     those in residual units, scaled; then of the second file 2 for its
+ *     length; 12; 2 for any of its other reasons; 4; 8; then 10 of a test
+ *   pull_satterthwaite: 1; 2 for records_length; 12; 2 for any of its other
+ *     reasons; 4; 11 */
 enum pull_number {
     PULL_ACCEPTED = 0,
-    PULL_LENGTH = 1,        /* answer_length is not the stated one */
-    PULL_RECORDS = 2,       /* records_length not a multiple of 16, bad kind, nonzero unused field,
+    PULL_LENGTH = 1,        /* answer_length (of pull_archive: archive_length) is not the stated one */
+    PULL_RECORDS = 2,       /* a file's length not a multiple of 16, bad kind, nonzero unused field,
                                index past a limit, cell twice (a block with two k's), missing or
-                               beyond the sizes */
+                               beyond the sizes; in an archive also a record in response units whose
+                               bits are not its residual one's times or divided by sigma2 */
     PULL_SIZE = 3,          /* a size outside its limits: a block's k not 1 or 2, m = 0, more than
                                three block parameters */
     PULL_NOT_FINITE = 4,    /* an input not finite; or some number of the adjustment's output */
@@ -54,9 +63,11 @@ enum pull_number {
  * records         the series: records of 16 bytes, rising strictly. Byte 0
  *                 kind, 1 row, 2 column, 3 zero, 4-7 count (little-endian),
  *                 8-15 the bits of an f64 (little-endian). A record stands
- *                 before another by its kind, then for kind 31 by its count,
- *                 then by its row, then by its column, also where the kind
- *                 leaves row or column unused. Read, never written.
+ *                 before another by its kind, then for the kinds 13, 17 and 31
+ *                 by its count, then by its row, then by its column, also
+ *                 where the kind leaves row or column unused. This is the
+ *                 order in every file of every call, whichever kinds the call
+ *                 reads. Read, never written.
  * records_length  the number of bytes at records.
  * answer          the answer bytes. They may not overlap the records.
  * answer_length   the number of bytes at answer: PULL_KENWARD_ROGER_BYTES.
@@ -101,6 +112,76 @@ uint32_t pull_kenward_roger(const uint8_t *records, size_t records_length,
  * keeps its contents. The rank is the number of contrast rows. */
 uint32_t pull_satterthwaite(const uint8_t *records, size_t records_length,
                             uint8_t *answer, size_t answer_length);
+
+/* The archive of a series: its adjusted matrices, as a record file.
+ *
+ * records         a series, as for pull_kenward_roger. Read, never written.
+ * records_length  the number of bytes at records.
+ * archive         the bytes that the archive is written to. They may not
+ *                 overlap the records.
+ * archive_length  the number of bytes at archive: PULL_ARCHIVE_BYTES, whatever
+ *                 the series is.
+ *
+ * The same is asked of the pointers as above.
+ *
+ * Returns the length of the archive, a multiple of 16 from 128 to 7,184: then
+ * the archive stands at the front of the lent bytes, and the bytes behind it
+ * keep their contents. Or it returns the number of the refusal (1 to 10 or 12,
+ * so below 128), and then every lent byte keeps its contents. No test is run: a
+ * series that only a test refuses (10) is archived. A contrast that is all zero
+ * is refused (8), as the series is.
+ *
+ * With p coefficients and N matrices P (one more than there are thetas), the
+ * archive has 4p^2 + 2Np^2 + N^2 + 1 records, every cell, in this order, row
+ * after row:
+ *
+ *   kind 11      Phi in response units: Phi times sigma2, p rows of p
+ *   kind 12      Phi_A in response units: Phi_A times sigma2, p rows of p
+ *   kind 13      P in response units: P_r divided by sigma2, the count is r
+ *                from 0 to N-1, p rows of p for each
+ *   kind 14      W, N rows of N
+ *   kind 15      Phi in residual units, as the series has it
+ *   kind 16      Phi_A in residual units
+ *   kind 17      P in residual units, as kind 13
+ *   kind 18      sigma2; row, column and count are 0
+ *
+ * Each cell in response units is one f64 multiplication or division. */
+uint32_t pull_archive(const uint8_t *records, size_t records_length,
+                      uint8_t *archive, size_t archive_length);
+
+/* The tests of pull_kenward_roger from an archive, so without the specimens.
+ *
+ * archive         an archive, as pull_archive writes it. Read, never written.
+ * archive_length  the number of bytes at archive: those of the archive alone.
+ * tests           the second file: records of the kinds 8 (beta, one for each
+ *                 of the archive's coefficients), 9 (the contrast, absent
+ *                 wholly or with every cell) and 10 (the hypothesis values, all
+ *                 or none, and none without a contrast), rising as every file
+ *                 does. Any other kind is refused with PULL_RECORDS. Read,
+ *                 never written.
+ * tests_length    the number of bytes at tests.
+ * answer          the answer bytes. They may overlap neither file.
+ * answer_length   the number of bytes at answer: PULL_KENWARD_ROGER_BYTES.
+ *
+ * The same is asked of the pointers as above.
+ *
+ * The number of coefficients is told by kind 11 and the number of matrices by
+ * kind 14, each by its largest index, and is at least 1; every cell of every
+ * kind from 11 to 18 is there, and none beyond. The tests are made from the
+ * kinds 14 to 18; the kinds 11 to 13 are compared with what they must be, bit
+ * by bit (-0 is not +0).
+ *
+ * Returns 0, and then all 168 answer bytes are written, as pull_kenward_roger
+ * writes them; or the number of the refusal (PULL_LENGTH, PULL_RECORDS,
+ * PULL_NOT_FINITE, PULL_SIGMA2, PULL_ZERO_CONTRAST, PULL_PIVOT, PULL_ORDER), and
+ * then every answer byte keeps its contents.
+ *
+ * For a series that pull_archive accepts, the test from its archive with the
+ * series' own records of the kinds 8 to 10 returns the number that
+ * pull_kenward_roger returns on the series and writes the same bytes. */
+uint32_t pull_archive_test(const uint8_t *archive, size_t archive_length,
+                           const uint8_t *tests, size_t tests_length,
+                           uint8_t *answer, size_t answer_length);
 
 #ifdef __cplusplus
 }

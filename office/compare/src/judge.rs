@@ -5,7 +5,7 @@ use reader::tries::Call;
 use std::panic::{catch_unwind, AssertUnwindSafe};
 
 /// What the answer bytes hold before a call: a refusal must leave it there.
-const UNTOUCHED: u8 = 0xa5;
+pub(crate) const UNTOUCHED: u8 = 0xa5;
 
 /// What a call did: its number, and the answer bytes afterwards.
 #[derive(Debug, Clone, PartialEq)]
@@ -33,13 +33,17 @@ pub fn panel(call: Call, file: &[u8]) -> Outcome {
 
 /// The oracle's outcome; a text where its own two runs differ, or it fails.
 pub fn oracle(call: Call, file: &[u8]) -> Result<Outcome, String> {
-    let run = || match call {
+    caught(|| match call {
         Call::KenwardRoger => kenward_roger(file),
         Call::Satterthwaite => {
             let mut answer = vec![UNTOUCHED; ENTRY];
             Ok(Outcome { number: satterthwaite_fill(file, &mut answer), answer })
         }
-    };
+    })
+}
+
+/// A run of the oracle, a failure inside it as its text.
+pub(crate) fn caught(run: impl FnOnce() -> Result<Outcome, String>) -> Result<Outcome, String> {
     catch_unwind(AssertUnwindSafe(run)).unwrap_or_else(|panic| {
         let text = panic.downcast_ref::<String>().cloned();
         let text = text.or_else(|| panic.downcast_ref::<&str>().map(|t| t.to_string()));

@@ -5,7 +5,9 @@
 //! - `judge`: one file through both, and how they differ.
 //! - `shrink`: a smaller file that differs in the same manner.
 //! - `live`: the comparison of many files, and its summary.
+//! - `archive`: the same for the archive's two functions.
 
+pub mod archive;
 pub mod cases;
 pub mod judge;
 pub mod live;

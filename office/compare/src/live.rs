@@ -16,6 +16,8 @@ const ENOUGH: usize = 5;
 pub struct Plan {
     /// Files for each call, shared among its families.
     pub files: usize,
+    /// Series that are archived, and tested from their archives.
+    pub archives: usize,
     pub seed: u64,
     /// One family alone.
     pub family: Option<String>,

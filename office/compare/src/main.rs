@@ -1,5 +1,6 @@
 //! The command `compare`: see the usage text.
 
+use compare::archive;
 use compare::cases::{families, file, name, CALLS};
 use compare::judge::{describe, manner};
 use compare::live::{report, run, Plan};
@@ -8,12 +9,16 @@ use std::path::{Path, PathBuf};
 use std::process::ExitCode;
 
 const USAGE: &str = "usage: compare [FLAGS]
-  --files N          files for each call (usually 27000), shared among the families
+  --files N          files for the Kenward-Roger and for the Satterthwaite call
+                     (usually 27000 each), shared among the families
+  --archives N       series that are archived and tested from their archives, with two
+                     pairs of damaged files beside each (usually 20000)
   --seed S           another seed (usually 1)
   --family NAME      one family alone
   --branches         also print in how many files each branch of document 01 was taken
   --trace            print each family and seed before its call
   --case FAMILY SEED one case again, as a difference prints it
+  --archive FAMILY SEED  the same for a case of the archive
   --file PATH        a record file
   --satterthwaite    --case and --file: for that call
 ";
@@ -22,6 +27,7 @@ struct Flags {
     plan: Plan,
     branches: bool,
     case: Option<(String, u64)>,
+    archive: Option<(String, u64)>,
     file: Option<PathBuf>,
     call: Call,
 }
@@ -34,6 +40,7 @@ fn main() -> ExitCode {
     // A failure inside the oracle is reported with its case, and not where it occurs.
     std::panic::set_hook(Box::new(|_| {}));
     let same = match (&flags.case, &flags.file) {
+        _ if flags.archive.is_some() => one_archive(&flags),
         (Some((family, seed)), _) => {
             single(&flags, &format!("{family}-{seed}"), &file(flags.call, family, *seed))
         }
@@ -57,18 +64,29 @@ fn main() -> ExitCode {
 fn all(flags: &Flags) -> bool {
     let began = std::time::Instant::now();
     let summary = run(&flags.plan);
+    let archives = archive::run(&flags.plan);
     if flags.branches {
         println!("branches, by the number of files:");
         summary.branches.iter().for_each(|(branch, files)| println!("  {branch}: {files}"));
     }
     println!(
-        "{} files, {} differ; seed {}, {} s",
+        "{} files, {} archives and {} other pairs, {} differ; seed {}, {} s",
         summary.files,
-        summary.failures,
+        archives.archived,
+        archives.pairs,
+        summary.failures + archives.failures,
         flags.plan.seed,
         began.elapsed().as_secs()
     );
-    summary.failures == 0
+    summary.failures + archives.failures == 0
+}
+
+/// One case of the archive.
+fn one_archive(flags: &Flags) -> bool {
+    let (family, seed) = flags.archive.as_ref().expect("asked for");
+    let same = archive::one(family, *seed, &flags.plan, &mut archive::Summary::default());
+    println!("{}", if same { "the same" } else { "DIFFERENT" });
+    same
 }
 
 /// One file.
@@ -86,18 +104,29 @@ fn single(flags: &Flags, title: &str, bytes: &[u8]) -> bool {
 fn flags(mut words: impl Iterator<Item = String>) -> Option<Flags> {
     let office = Path::new(env!("CARGO_MANIFEST_DIR")).parent().expect("compare lies in office");
     let folder = office.join("target/compare");
-    let plan = Plan { files: 27_000, seed: 1, family: None, trace: false, folder };
-    let mut flags =
-        Flags { plan, branches: false, case: None, file: None, call: Call::KenwardRoger };
+    let plan =
+        Plan { files: 27_000, archives: 20_000, seed: 1, family: None, trace: false, folder };
+    let mut flags = Flags {
+        plan,
+        branches: false,
+        case: None,
+        archive: None,
+        file: None,
+        call: Call::KenwardRoger,
+    };
     while let Some(word) = words.next() {
         match word.as_str() {
             "--files" => flags.plan.files = words.next()?.parse().ok()?,
+            "--archives" => flags.plan.archives = words.next()?.parse().ok()?,
             "--seed" => flags.plan.seed = words.next()?.parse().ok()?,
             "--family" => flags.plan.family = Some(known_family(words.next()?)?),
             "--branches" => flags.branches = true,
             "--trace" => flags.plan.trace = true,
             "--case" => {
                 flags.case = Some((known_family(words.next()?)?, words.next()?.parse().ok()?))
+            }
+            "--archive" => {
+                flags.archive = Some((known_family(words.next()?)?, words.next()?.parse().ok()?))
             }
             "--file" => flags.file = Some(words.next()?.into()),
             "--satterthwaite" => flags.call = Call::Satterthwaite,

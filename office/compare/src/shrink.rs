@@ -4,8 +4,14 @@
 //! another, so a file that rises still does.
 
 use crate::judge::manner;
+use reader::archive::{read_archive, Archive};
+use reader::archive_tries::Pair;
 use reader::tries::Call;
-use reader::{Record, A, BETA, BETA_H, BLOCK, CONTRAST, JACOBIAN, PHI, THETA, V, WEIGHTS, X, Z};
+use reader::{
+    Record, A, ARCHIVED_SIGMA, BETA, BETA_H, BLOCK, CONTRAST, JACOBIAN, PHI, RESIDUAL_P,
+    RESIDUAL_PHI, RESIDUAL_PHI_A, RESPONSE_P, RESPONSE_PHI, RESPONSE_PHI_A, THETA, V, W, WEIGHTS,
+    X, Z,
+};
 
 /// At most so many files are tried.
 const TRIES: usize = 20_000;
@@ -60,6 +66,60 @@ pub fn shrink_while(bytes: &[u8], fails: &dyn Fn(&[u8]) -> bool) -> Vec<u8> {
             return search.best.to_bytes();
         }
     }
+}
+
+/// A smaller pair of an archive and a second file on which `fails` still holds.
+pub fn shrink_pair(pair: &Pair, fails: &dyn Fn(&Pair) -> bool) -> Pair {
+    let mut best = pair.clone();
+    loop {
+        let before = best.clone();
+        // Both as one file: a coefficient goes out of both at once.
+        let both = [&best.1[..], &best.0].concat();
+        if parted(&both) == best {
+            best = parted(&shrink_while(&both, &|file| fails(&parted(file))));
+        }
+        best.0 = shrink_while(&best.0, &|archive| fails(&(archive.to_vec(), best.1.clone())));
+        best.1 = shrink_while(&best.1, &|tests| fails(&(best.0.clone(), tests.to_vec())));
+        best.0 = simpler_archive(&best, fails);
+        if best == before {
+            return best;
+        }
+    }
+}
+
+/// Two files in one: the second file's kinds stand before the archive's.
+fn parted(file: &[u8]) -> Pair {
+    let second = file.chunks(16).take_while(|record| record[0] < RESPONSE_PHI);
+    let (tests, archive) = file.split_at((16 * second.count()).min(file.len()));
+    (archive.to_vec(), tests.to_vec())
+}
+
+/// Each number of a good archive to a simpler one, in both units at once.
+fn simpler_archive((archive, tests): &Pair, fails: &dyn Fn(&Pair) -> bool) -> Vec<u8> {
+    let Ok(mut best) = read_archive(archive) else {
+        return archive.clone();
+    };
+    for at in 0.. {
+        let Some(&mut value) = number(&mut best, at) else {
+            break;
+        };
+        for simple in simpler(value) {
+            let mut candidate = best.clone();
+            *number(&mut candidate, at).expect("as many numbers") = simple;
+            if fails(&(candidate.to_bytes(), tests.clone())) {
+                best = candidate;
+                break;
+            }
+        }
+    }
+    best.to_bytes()
+}
+
+/// The numbers of an archive, one after the other.
+fn number(archive: &mut Archive, at: usize) -> Option<&mut f64> {
+    let matrices = [&mut archive.phi, &mut archive.phi_a, &mut archive.w].into_iter();
+    let cells = matrices.chain(&mut archive.p).flat_map(|m| &mut m.cells);
+    cells.chain([&mut archive.sigma2]).nth(at)
 }
 
 impl Search<'_> {
@@ -190,10 +250,13 @@ fn without_index(records: &[Record], part: Part, number: u32) -> Vec<Record> {
             (Part::Specimen, X | Z | WEIGHTS) => (true, false, false),
             (Part::Coefficient, X | CONTRAST) => (false, true, false),
             (Part::Coefficient, PHI | V | JACOBIAN) => (true, true, false),
+            (Part::Coefficient, RESPONSE_PHI..=RESPONSE_P | RESIDUAL_PHI..=RESIDUAL_P) => {
+                (true, true, false)
+            }
             (Part::Coefficient, BETA | BETA_H) => (true, false, false),
             (Part::ContrastRow, CONTRAST) => (true, false, false),
-            (Part::Parameter, A) => (true, true, false),
-            (Part::Parameter, JACOBIAN) => (false, false, true),
+            (Part::Parameter, A | W) => (true, true, false),
+            (Part::Parameter, JACOBIAN | RESPONSE_P | RESIDUAL_P) => (false, false, true),
             _ => (false, false, false),
         };
         let at = number as u8;
@@ -304,6 +367,14 @@ fn kind(kind: u8) -> String {
         (BETA, "β"),
         (CONTRAST, "contrast"),
         (BETA_H, "β_H"),
+        (RESPONSE_PHI, "Φ·sigma2"),
+        (RESPONSE_PHI_A, "Φ_A·sigma2"),
+        (RESPONSE_P, "P/sigma2"),
+        (W, "W"),
+        (RESIDUAL_PHI, "Φ"),
+        (RESIDUAL_PHI_A, "Φ_A"),
+        (RESIDUAL_P, "P"),
+        (ARCHIVED_SIGMA, "sigma2"),
         (V, "v"),
         (JACOBIAN, "Jacobian"),
         (A, "A"),
@@ -348,6 +419,25 @@ mod tests {
         file[last - 16..].rotate_left(16);
         let small = shrink_while(&file, &|bytes| reader::read(bytes) == Err(12));
         assert_eq!(small.len(), 32, "{}", text(&small));
+    }
+
+    /// Of the largest archive that differs in one P, one coefficient and one P
+    /// are left, with simple numbers.
+    #[test]
+    fn a_large_pair_becomes_small() {
+        let mut random = Random::new(6);
+        let archive = reader::archive_tries::random_archive(&mut random, 6, 4);
+        let pair = (archive.to_bytes(), reader::archive_tries::random_tests(&mut random, 6));
+        let fails = |(archive, tests): &Pair| match reader::archive::read_both(archive, tests) {
+            Ok((archive, _)) => archive.p.iter().any(|p| p.cells.iter().any(|&v| v < 0.0)),
+            Err(_) => false,
+        };
+        assert!(fails(&pair));
+        let small = shrink_pair(&pair, &fails);
+        assert_eq!(small.0.len(), reader::archive::SHORTEST, "{}", text(&small.0));
+        assert_eq!(small.1.len(), 16, "{}", text(&small.1));
+        let archive = read_archive(&small.0).expect("it still fails, so it is accepted");
+        assert_eq!((archive.phi[(0, 0)], archive.sigma2), (0.0, 1.0));
     }
 
     /// A damaged record alone is left.

@@ -1,14 +1,26 @@
-//! The live comparison as a test: more than 20,000 random series, other ones
-//! than those of the command.
+//! The live comparison as a test: more than 20,000 random series and archives,
+//! other ones than those of the command.
 
+use compare::archive;
 use compare::live::{run, Plan};
 use std::path::Path;
 
+fn plan() -> Plan {
+    let folder = Path::new(env!("CARGO_TARGET_TMPDIR")).join("compare");
+    Plan { files: 27_000, archives: 20_000, seed: 2, family: None, trace: false, folder }
+}
+
+#[test]
+fn archives_agree_in_every_bit() {
+    let summary = archive::run(&plan());
+    assert!(summary.archived >= 20_000, "{} archives", summary.archived);
+    assert!(summary.pairs >= 40_000, "{} pairs", summary.pairs);
+    assert_eq!(summary.failures, 0, "series or pairs differ; see above");
+}
+
 #[test]
 fn the_panel_and_the_oracle_agree_in_every_bit() {
-    let folder = Path::new(env!("CARGO_TARGET_TMPDIR")).join("compare");
-    let plan = Plan { files: 27_000, seed: 2, family: None, trace: false, folder };
-    let summary = run(&plan);
+    let summary = run(&plan());
     assert!(summary.files >= 27_000, "{} files", summary.files);
     assert_eq!(summary.failures, 0, "files differ; see above");
 }

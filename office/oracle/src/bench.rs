@@ -1,14 +1,18 @@
 //! Document 01's bench examples, by lme-rs and by the marked run, and the
 //! comparison of the two runs on random series.
 
+use crate::archive::{archive, archive_fill, archive_test_fill};
 use crate::calls::{kenward_roger_fill, satterthwaite_fill};
 use crate::known::{self, example_i, example_k, kr_bytes, pulltest_series, rows, satt_bytes};
 use crate::kr_modcomp::{kr_modcomp_test, KenwardRogerModcompData};
 use crate::marked::{self, in_range, Marking, Scaled};
-use crate::print::{bits_report, pulltest, satterthwaite_line};
-use crate::random::{kr_case, power, satt_case, Random, KR_FAMILIES, SATT_FAMILIES, SHUFFLED};
+use crate::print::{archive_lines, archive_test_lines, bits_report, pulltest, satterthwaite_line};
+use crate::random::{
+    kr_case, power, satt_case, Random, KR_FAMILIES, MORE_KR_FAMILIES, SATT_FAMILIES, SHUFFLED,
+};
+use crate::reader::archive::{read_archive, test_records};
 use crate::reader::{self, order, Record, Series};
-use crate::{ddf, known_order, kr_vcov_adj, lme_run};
+use crate::{ddf, known_archive, known_order, kr_vcov_adj, lme_run, trace};
 use ::reader::vectors::hex;
 use listed_algebra::Matrix;
 use ndarray::{Array1, Array2};
@@ -102,17 +106,91 @@ fn pulltest_lines() {
 /// Every known case, with what document 01 says of it.
 #[test]
 fn known_cases() {
-    let calls: [(Vec<known::Known>, fn(&[u8]) -> String); 4] = [
+    let calls: [(Vec<known::Known>, fn(&[u8]) -> String); 5] = [
         (known::kenward_roger(), pulltest),
         (known_order::kenward_roger(), pulltest),
         (known::satterthwaite(), satterthwaite_line),
         (known_order::satterthwaite(), satterthwaite_line),
+        (known_archive::series(), archive_lines),
     ];
     for (cases, output) in calls {
         for (name, bytes, start) in cases {
-            let text = output(&bytes).replace('\n', "|");
-            assert!(text.starts_with(start), "{name}: {text} does not start with {start}");
+            starts(name, &output(&bytes), start);
         }
+    }
+    for (name, archive, tests, start) in known_archive::pairs() {
+        starts(name, &archive_test_lines(&archive, &tests), start);
+    }
+}
+
+fn starts(name: &str, output: &str, start: &str) {
+    let text = output.replace('\n', "|");
+    assert!(text.starts_with(start), "{name}: {text} does not start with {start}");
+}
+
+/// The largest archive fills the lent bytes; what a test alone refuses is
+/// archived; the mark of a test from an archive counts the scaling.
+#[test]
+fn points_of_the_archive() {
+    let text = |name: &str| {
+        let case = known_archive::series().into_iter().find(|c| c.0 == name);
+        archive_lines(&case.expect("a known case").1)
+    };
+    let length = |text: &str| text.lines().next().map_or(0, |l| (l.len() - "archive ".len()) / 2);
+    assert_eq!(length(&text("the largest archive")), reader::archive::LENT);
+    assert_eq!(length(&text("pulltest example")), reader::archive::SHORTEST);
+    for name in ["Φ = 0", "Φ = -0", "Φ lost in response units", "zero pivot of Wald"] {
+        assert!(text(name).ends_with("\nrefused 10\n"), "{name}");
+    }
+    for name in
+        ["β out of range", "sigma2 out of range", "Φ subnormal", "outside by the scaling alone"]
+    {
+        assert_eq!(text(name).matches("outside").count(), 2, "{name}");
+    }
+    let series = known_archive::outside_by_scaling();
+    let (_, scaled) = marked::adjusted(&series).expect("no refusal");
+    let given = Scaled { inside: true, ..scaled };
+    let l = series.contrast.as_ref().expect("a contrast");
+    let (entry, _) = marked::kr_test(&given, l, &series.beta, None).expect("no refusal");
+    assert!(entry.inside, "its numbers in response units alone would be inside");
+    let minus_zero = Record { kind: 17, row: 0, column: 1, zero: 0, count: 0, bits: 1 << 63 };
+    assert!(text("-0 in Φ and in P").contains(&hex(&minus_zero.to_bytes())));
+}
+
+/// The test from a series' archive answers as the direct run; the archive reads
+/// and writes back to the same bytes, and the two files are all that is needed.
+#[test]
+fn archives_answer_as_the_series() {
+    let (mut archived, mut refused_by_a_test) = (0, 0);
+    known_archive::series().iter().for_each(|(_, bytes, _)| drop(archive_lines(bytes)));
+    for (f, family) in KR_FAMILIES.iter().chain(&MORE_KR_FAMILIES).enumerate() {
+        let mut random = Random::new(300 + f as u64);
+        for _ in 0..60 {
+            let bytes = kr_case(&mut random, family);
+            let mut direct = [7; 168];
+            let number = kenward_roger_fill(&bytes, &mut direct);
+            let mut lent = [9; 7184];
+            let length = archive_fill(&bytes, &mut lent) as usize;
+            if length < reader::archive::SHORTEST {
+                assert_eq!((length, lent), (number as usize, [9; 7184]));
+                continue;
+            }
+            let file = &lent[..length];
+            assert!(lent[length..].iter().all(|&b| b == 9));
+            assert_eq!(read_archive(file).expect("it is accepted").to_bytes(), file);
+            let mut answer = [7; 168];
+            assert_eq!(archive_test_fill(file, &test_records(&bytes), &mut answer), number);
+            assert_eq!(answer, direct, "{family} {}", hex(&bytes));
+            archived += 1;
+            refused_by_a_test += u32::from(number != 0);
+        }
+    }
+    assert!(archived > 400 && refused_by_a_test > 5, "{archived}, {refused_by_a_test}");
+    // docs/DIFFERENCES.md, "Sums that start at -0 in the Rust": no archive shows it.
+    let seen = trace::take();
+    for matrix in ["W", "Φ_A", "P"] {
+        let name = format!("zero of another sign in {matrix}");
+        assert!(!seen.contains_key(name.as_str()), "{name}");
     }
 }
 
@@ -159,6 +237,15 @@ fn answer_bytes() {
         assert_eq!(kenward_roger_fill(&[1], &mut answer), 1);
         assert_eq!(satterthwaite_fill(&[1], &mut answer), 1);
         assert!(answer.iter().all(|&b| b == 7));
+    }
+    let example = archive(&file).expect("it is accepted");
+    for len in [0, 128, 7183, 7185] {
+        let mut lent = vec![7; len];
+        assert_eq!(archive_fill(&file, &mut lent), 1);
+        assert_eq!(archive_fill(&[1], &mut lent), 1);
+        assert_eq!(archive_test_fill(&example, &test_records(&file), &mut lent), 1);
+        assert_eq!(archive_test_fill(&[1], &[1], &mut lent), 1);
+        assert!(lent.iter().all(|&b| b == 7));
     }
     let mut answer = [7; 168];
     assert_eq!(kenward_roger_fill(&[1], &mut answer), 2);

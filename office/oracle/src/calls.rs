@@ -1,9 +1,10 @@
-//! The two calls on bytes: lme-rs's F, df and rank, and the mark of the marked
-//! run. The two runs must agree in everything that both have; if they do not,
-//! the oracle stops, since then one of them is wrong.
+//! The Kenward–Roger and the Satterthwaite call on bytes: lme-rs's F, df and
+//! rank, and the mark of the marked run. The two runs must agree in everything
+//! that both have; if they do not, the oracle stops, since then one of them is
+//! wrong. The archive's two calls are in `archive`.
 
-use crate::lme_run::{self, same, Verdict};
-use crate::marked::{self, Entry};
+use crate::lme_run::{self, same, Verdict, Verdicts};
+use crate::marked::{self, Entry, Tested};
 use crate::reader::{read, read_satterthwaite, Refusal, Series};
 use crate::trace::hit_if;
 use listed_algebra::Matrix;
@@ -27,7 +28,7 @@ fn verdicts_differ(rust: &Verdict, marked: &Entry) -> bool {
 
 /// Equal bits in every cell; zeros of either sign count as equal, as no verdict shows it
 /// (docs/DIFFERENCES.md, "Sums that start at -0 in the Rust").
-fn cells_agree(a: &Matrix, b: &Matrix) -> bool {
+pub(crate) fn cells_agree(a: &Matrix, b: &Matrix) -> bool {
     let like = |x: f64, y: f64| same(x, y) || (x == 0.0 && y == 0.0);
     let pairs = || a.cells.iter().zip(&b.cells);
     a.cells.len() == b.cells.len() && pairs().all(|(&x, &y)| like(x, y))
@@ -57,25 +58,44 @@ pub fn both_runs(series: &Series) -> Result<Result<BothRuns, Refusal>, String> {
     }
 }
 
-fn compare_runs(rust: &lme_run::Run, marked: &marked::Run) -> Result<(), String> {
-    let (r, m) = (&rust.adjusted, &marked.adjustment);
-    let need = |holds: bool, what: &str| if holds { Ok(()) } else { Err(format!("{what} differ")) };
+fn need(holds: bool, what: &str) -> Result<(), String> {
+    if holds {
+        Ok(())
+    } else {
+        Err(format!("{what} differ"))
+    }
+}
+
+/// The adjustments of both runs, in residual units and scaled.
+pub(crate) fn compare_adjustments(
+    r: &lme_run::Adjusted,
+    m: &marked::Adjustment,
+    scaled: &marked::Scaled,
+) -> Result<(), String> {
     need(r.rotations == m.rotations, "rotations")?;
     need(cells_agree(&r.ie, &m.ie), "IE")?;
     need(cells_agree(&r.w, &m.w), "W")?;
     need(cells_agree(&r.phi_a, &m.phi_a), "Φ_A")?;
     need(r.p.iter().zip(&m.p).all(|(a, b)| cells_agree(a, b)), "P")?;
-    need(cells_agree(&r.scaled_phi, &marked.scaled.phi), "scaled Φ")?;
-    need(cells_agree(&r.scaled_phi_a, &marked.scaled.phi_a), "scaled Φ_A")?;
-    need(r.scaled_p.iter().zip(&marked.scaled.p).all(|(a, b)| cells_agree(a, b)), "scaled P")?;
+    need(cells_agree(&r.scaled_phi, &scaled.phi), "scaled Φ")?;
+    need(cells_agree(&r.scaled_phi_a, &scaled.phi_a), "scaled Φ_A")?;
+    need(r.scaled_p.iter().zip(&scaled.p).all(|(a, b)| cells_agree(a, b)), "scaled P")?;
     note_zeros("zero of another sign in IE", &r.ie, &m.ie);
     note_zeros("zero of another sign in W", &r.w, &m.w);
     note_zeros("zero of another sign in Φ_A", &r.phi_a, &m.phi_a);
     r.p.iter().zip(&m.p).for_each(|(a, b)| note_zeros("zero of another sign in P", a, b));
-    for (i, (a, (b, _))) in rust.coefficients.iter().zip(&marked.coefficients).enumerate() {
+    Ok(())
+}
+
+/// The verdicts of both runs.
+fn compare_verdicts(
+    coefficients: (&[Verdict], &[(Entry, marked::Moments)]),
+    contrast: (&Option<Verdict>, &Option<(Entry, marked::Moments)>),
+) -> Result<(), String> {
+    for (i, (a, (b, _))) in coefficients.0.iter().zip(coefficients.1).enumerate() {
         need(!verdicts_differ(a, b), &format!("verdicts of coefficient {i} ({a:?}, {b:?})"))?;
     }
-    match (&rust.contrast, &marked.contrast) {
+    match contrast {
         (Some(a), Some((b, _))) => {
             need(!verdicts_differ(a, b), &format!("verdicts of the contrast ({a:?}, {b:?})"))
         }
@@ -84,24 +104,55 @@ fn compare_runs(rust: &lme_run::Run, marked: &marked::Run) -> Result<(), String>
     }
 }
 
+fn compare_runs(rust: &lme_run::Run, marked: &marked::Run) -> Result<(), String> {
+    compare_adjustments(&rust.adjusted, &marked.adjustment, &marked.scaled)?;
+    let coefficients = (&rust.coefficients[..], &marked.coefficients[..]);
+    compare_verdicts(coefficients, (&rust.contrast, &marked.contrast))
+}
+
 /// lme-rs's verdict with the marked run's mark.
 fn entry(rust: &Verdict, marked: &Entry) -> Entry {
     let given = |x: f64| if x.is_nan() { None } else { Some(x) };
     Entry { f: given(rust.f), df: given(rust.df), rank: rust.rank, inside: marked.inside }
 }
 
+/// The entries of verdicts and marks, one by one.
+fn entries_of(
+    coefficients: (&[Verdict], &[(Entry, marked::Moments)]),
+    contrast: (&Option<Verdict>, &Option<(Entry, marked::Moments)>),
+) -> Entries {
+    let mut out = [None; 7];
+    for (i, (a, (b, _))) in coefficients.0.iter().zip(coefficients.1).enumerate() {
+        out[i] = Some(entry(a, b));
+    }
+    if let (Some(a), Some((b, _))) = contrast {
+        out[6] = Some(entry(a, b));
+    }
+    out
+}
+
 impl BothRuns {
     pub fn entries(&self) -> Entries {
-        let mut out = [None; 7];
-        for (i, (a, (b, _))) in
-            self.rust.coefficients.iter().zip(&self.marked.coefficients).enumerate()
-        {
-            out[i] = Some(entry(a, b));
+        entries_of(
+            (&self.rust.coefficients, &self.marked.coefficients),
+            (&self.rust.contrast, &self.marked.contrast),
+        )
+    }
+}
+
+/// The entries of tests that both have made; text where they disagree.
+pub(crate) fn entries_of_both(
+    rust: Result<Verdicts, Refusal>,
+    marked: Result<Tested, Refusal>,
+) -> Result<Result<Entries, Refusal>, String> {
+    match (rust, marked) {
+        (Ok(rust), Ok(marked)) => {
+            let (coefficients, contrast) = ((&rust.0[..], &marked.0[..]), (&rust.1, &marked.1));
+            compare_verdicts(coefficients, contrast)?;
+            Ok(Ok(entries_of(coefficients, contrast)))
         }
-        if let (Some(a), Some((b, _))) = (&self.rust.contrast, &self.marked.contrast) {
-            out[6] = Some(entry(a, b));
-        }
-        out
+        (Err(a), Err(b)) if a == b => Ok(Err(a)),
+        (a, b) => Err(format!("refusals differ: lme-rs {:?}, marked {:?}", a.err(), b.err())),
     }
 }
 
@@ -146,7 +197,12 @@ pub fn kenward_roger_fill(bytes: &[u8], answer: &mut [u8]) -> Refusal {
     if answer.len() != KR_ANSWER {
         return 1;
     }
-    match kenward_roger(bytes) {
+    fill(kenward_roger(bytes), answer)
+}
+
+/// The number, and the 168 answer bytes where it is 0.
+pub(crate) fn fill(entries: Result<Entries, Refusal>, answer: &mut [u8]) -> Refusal {
+    match entries {
         Err(number) => number,
         Ok(entries) => {
             for (i, e) in entries.iter().enumerate() {

@@ -86,13 +86,13 @@ pub fn satt_bytes(s: &SattSeries) -> Vec<u8> {
 }
 
 /// The example's records, those of one kind changed.
-fn changed(records: &[Record], kind: u8, change: impl Fn(&mut Record)) -> Vec<u8> {
+pub(crate) fn changed(records: &[Record], kind: u8, change: impl Fn(&mut Record)) -> Vec<u8> {
     let mut out = records.to_vec();
     out.iter_mut().filter(|r| r.kind == kind).for_each(change);
     file(&out)
 }
 
-fn without(records: &[Record], kind: u8) -> Vec<u8> {
+pub(crate) fn without(records: &[Record], kind: u8) -> Vec<u8> {
     let kept: Vec<Record> = records.iter().filter(|r| r.kind != kind).copied().collect();
     file(&kept)
 }

@@ -4,7 +4,8 @@
 //!   crate of its own).
 //! - `lme_run`: F, df and rank by lme-rs's own four files, unchanged.
 //! - `marked`: a run written from document 01, which also has the mark.
-//! - `calls`: the two calls on bytes, which hold the two runs together.
+//! - `calls`, `archive`: the four calls on bytes, which hold the two runs
+//!   together.
 
 // The modules of lme-rs name these as `crate::..`.
 pub(crate) use lme_items::{formula, math, model, model_matrix, LmeError, LmeFit, Result};
@@ -14,11 +15,14 @@ mod lme_items;
 
 pub use ::reader;
 
+pub mod archive;
 pub mod calls;
 pub mod known;
+pub mod known_archive;
 pub mod known_order;
 pub mod lme_run;
 pub mod make;
+pub mod make_archive;
 pub mod marked;
 pub mod print;
 pub mod random;

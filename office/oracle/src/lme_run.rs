@@ -1,6 +1,7 @@
 //! The two tests by lme-rs's own functions.
 
 use crate::kr_modcomp::KenwardRogerModcompData;
+use crate::reader::archive::{Archive, Tests};
 use crate::reader::{Refusal, SattSeries, Series};
 use crate::{ddf, kenward_roger, kr_modcomp, kr_vcov_adj, LmeError, LmeFit};
 use listed_algebra::Matrix;
@@ -28,6 +29,9 @@ pub struct Adjusted {
     pub rotations: u32,
     data: KenwardRogerModcompData,
 }
+
+/// The coefficients' verdicts, and the contrast's.
+pub type Verdicts = (Vec<Verdict>, Option<Verdict>);
 
 /// The run: the coefficients' verdicts, then the contrast's.
 pub struct Run {
@@ -139,13 +143,22 @@ pub fn kenward_roger_run(series: &Series) -> Result<Run, Refusal> {
 /// contrast. Without the late refusal 4, the numbers in residual units and the
 /// mark, which the judgement of the port needs; so this is what its time is
 /// to be compared with.
-pub fn each_step_once(series: &Series) -> Result<(Vec<Verdict>, Option<Verdict>), Refusal> {
+pub fn each_step_once(series: &Series) -> Result<Verdicts, Refusal> {
     let fit = fit(series, series.sigma2);
     let data = kr_vcov_adj::kenward_roger_modcomp_data(&fit, &frame(series)).map_err(number)?;
-    let coefficients = (0..series.beta.len()).map(|i| coefficient_test(&data, series, i));
-    let coefficients = coefficients.collect::<Result<_, _>>()?;
-    let contrast = series.contrast.as_ref().map(|l| contrast_test(&data, series, l)).transpose()?;
-    Ok((coefficients, contrast))
+    verdicts(&data, &series.beta, series.contrast.as_ref(), series.beta_h.as_deref())
+}
+
+/// `kr_modcomp_test` and `kenward_roger_contrast_f_test` on an archive's
+/// matrices, brought to response units by plain f64.
+pub fn archive_tests(archive: &Archive, tests: &Tests) -> Result<Verdicts, Refusal> {
+    let data = KenwardRogerModcompData {
+        phi: array(&archive.response_phi()),
+        phi_a: array(&archive.response_phi_a()),
+        p_list: archive.response_p().iter().map(array).collect(),
+        w: array(&archive.w),
+    };
+    verdicts(&data, &tests.beta, tests.contrast.as_ref(), tests.beta_h.as_deref())
 }
 
 /// The run that lme-rs makes where document 01 has its late refusal 4
@@ -160,41 +173,48 @@ fn tests(series: &Series, adjusted: Adjusted) -> Result<Run, Refusal> {
     // the same call made here.
     let own = kenward_roger::compute_kenward_roger(&fit(series, series.sigma2), &frame(series))
         .map_err(number)?;
-    let mut coefficients = Vec::new();
-    for i in 0..series.beta.len() {
-        let verdict = coefficient_test(&adjusted.data, series, i)?;
-        assert!(same(verdict.df, own.dfs[i]), "lme-rs's loop and its test differ in df");
-        coefficients.push(verdict);
+    let (l, beta_h) = (series.contrast.as_ref(), series.beta_h.as_deref());
+    let (coefficients, contrast) = verdicts(&adjusted.data, &series.beta, l, beta_h)?;
+    for (verdict, &df) in coefficients.iter().zip(own.dfs.iter()) {
+        assert!(same(verdict.df, df), "lme-rs's loop and its test differ in df");
     }
-    let contrast = match &series.contrast {
-        Some(l) => Some(contrast_test(&adjusted.data, series, l)?),
-        None => None,
-    };
     Ok(Run { adjusted, coefficients, contrast })
+}
+
+/// The tests from adjusted matrices in response units.
+fn verdicts(
+    data: &KenwardRogerModcompData,
+    beta: &[f64],
+    contrast: Option<&Matrix>,
+    beta_h: Option<&[f64]>,
+) -> Result<Verdicts, Refusal> {
+    let beta: Array1<f64> = beta.to_vec().into();
+    let beta_h: Option<Array1<f64>> = beta_h.map(|h| h.to_vec().into());
+    let coefficients = (0..beta.len()).map(|i| coefficient_test(data, &beta, i));
+    let coefficients = coefficients.collect::<Result<_, _>>()?;
+    let contrast = contrast.map(|l| contrast_test(data, &beta, l, beta_h.as_ref())).transpose()?;
+    Ok((coefficients, contrast))
 }
 
 fn coefficient_test(
     data: &KenwardRogerModcompData,
-    series: &Series,
+    beta: &Array1<f64>,
     i: usize,
 ) -> Result<Verdict, Refusal> {
-    let beta: Array1<f64> = series.beta.clone().into();
-    let mut unit = Array2::zeros((1, series.beta.len()));
+    let mut unit = Array2::zeros((1, beta.len()));
     unit[[0, i]] = 1.0;
-    let test = kr_modcomp::kr_modcomp_test(data, &unit, &beta, None).map_err(number)?;
+    let test = kr_modcomp::kr_modcomp_test(data, &unit, beta, None).map_err(number)?;
     Ok(Verdict { f: test.f_stat, df: test.den_df, rank: 1 })
 }
 
 fn contrast_test(
     data: &KenwardRogerModcompData,
-    series: &Series,
+    beta: &Array1<f64>,
     l: &Matrix,
+    beta_h: Option<&Array1<f64>>,
 ) -> Result<Verdict, Refusal> {
-    let beta: Array1<f64> = series.beta.clone().into();
-    let beta_h: Option<Array1<f64>> = series.beta_h.clone().map(Array1::from);
     let (f, df, _, rank) =
-        kr_modcomp::kenward_roger_contrast_f_test(data, &beta, &array(l), beta_h.as_ref())
-            .map_err(number)?;
+        kr_modcomp::kenward_roger_contrast_f_test(data, beta, &array(l), beta_h).map_err(number)?;
     Ok(Verdict { f, df, rank: rank as u8 })
 }
 

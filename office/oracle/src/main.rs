@@ -8,7 +8,9 @@ const USAGE: &str = "usage:
   oracle pulltest < FILE            document 01's lines
   oracle bits < FILE                the same, and the numbers behind them
   oracle satterthwaite < FILE       the Satterthwaite call, as one `test` line
+  oracle archive < FILE             the archive in hexadecimal, and the test from it
   oracle make-vectors DIR SEED COUNT
+  oracle make-archive-vectors DIR SEED COUNT
   oracle replay FILE..              checks files of vectors against the oracle
 ";
 
@@ -19,7 +21,9 @@ fn main() -> ExitCode {
         ["pulltest"] => filter(oracle::print::pulltest),
         ["bits"] => filter(oracle::print::bits_report),
         ["satterthwaite"] => filter(oracle::print::satterthwaite_line),
+        ["archive"] => filter(oracle::print::archive_lines),
         ["make-vectors", folder, seed, count] => make(folder, seed, count),
+        ["make-archive-vectors", folder, seed, count] => make_archive(folder, seed, count),
         ["replay", files @ ..] if !files.is_empty() => replay(files),
         _ => Err(USAGE.to_string()),
     };
@@ -39,18 +43,34 @@ fn filter(answer: fn(&[u8]) -> String) -> Result<(), String> {
 }
 
 fn make(folder: &str, seed: &str, count: &str) -> Result<(), String> {
-    let seed = seed.parse().map_err(|_| USAGE.to_string())?;
-    let count = count.parse().map_err(|_| USAGE.to_string())?;
+    let (seed, count) = numbers(seed, count)?;
     oracle::make::make_vectors(Path::new(folder), seed, count).map_err(|e| format!("{e}\n"))
 }
 
-/// A file whose name holds `satterthwaite` is for that call.
+fn make_archive(folder: &str, seed: &str, count: &str) -> Result<(), String> {
+    let (seed, count) = numbers(seed, count)?;
+    let made = oracle::make_archive::make_archive_vectors(Path::new(folder), seed, count)
+        .map_err(|e| format!("{e}\n"))?;
+    for (list, tally) in made {
+        println!("{list}: {} cases", tally.values().sum::<usize>());
+        tally.iter().for_each(|(answer, cases)| println!("- {answer}: {cases}"));
+    }
+    Ok(())
+}
+
+fn numbers(seed: &str, count: &str) -> Result<(u64, usize), String> {
+    let seed = seed.parse().map_err(|_| USAGE.to_string())?;
+    let count = count.parse().map_err(|_| USAGE.to_string())?;
+    Ok((seed, count))
+}
+
+/// A file's name says which list it is.
 fn replay(files: &[&str]) -> Result<(), String> {
     for file in files {
         let text = std::fs::read_to_string(file).map_err(|e| format!("{file}: {e}\n"))?;
-        let satt = file.contains("satterthwaite");
+        let list = Path::new(file).file_name().and_then(|name| name.to_str()).unwrap_or("");
         for (i, line) in text.lines().enumerate() {
-            oracle::make::check_line(line, satt).map_err(|e| format!("{file}:{}: {e}\n", i + 1))?;
+            oracle::make::check_line(list, line).map_err(|e| format!("{file}:{}: {e}\n", i + 1))?;
         }
         println!("{file}: {} cases", text.lines().count());
     }

@@ -3,7 +3,7 @@
 use crate::known::{self, Known};
 use crate::print::{pulltest, satterthwaite_line};
 use crate::random::{kr_case, satt_case, Random, KR_FAMILIES, SATT_FAMILIES, SHUFFLED};
-use crate::{known_order, trace};
+use crate::{known_order, make_archive, trace};
 use ::reader::vectors::{hex, unhex};
 use std::collections::BTreeMap;
 use std::fmt::Write as _;
@@ -160,12 +160,15 @@ pub fn make_vectors(folder: &Path, seed: u64, count: usize) -> io::Result<()> {
     fs::write(folder.join("SUMMARY.md"), summary)
 }
 
-/// Checks one line of a file of vectors.
-pub fn check_line(line: &str, satt: bool) -> Result<(), String> {
-    let (file, expected) = line.split_once(' ').ok_or("a line without a blank")?;
-    let bytes = unhex(file).ok_or("not hexadecimal")?;
-    let output = if satt { satterthwaite_line(&bytes) } else { pulltest(&bytes) };
-    let output = output.replace('\n', "|");
+/// Checks one line of a list of vectors, told by the name of its file.
+pub fn check_line(list: &str, line: &str) -> Result<(), String> {
+    let (files, expected) = line.split_once(' ').ok_or("a line without a blank")?;
+    let output = match list {
+        make_archive::ARCHIVE | make_archive::ARCHIVE_TEST => make_archive::output(list, files),
+        "satterthwaite.txt" => unhex(files).map(|file| satterthwaite_line(&file)),
+        _ => unhex(files).map(|file| pulltest(&file)),
+    };
+    let output = output.ok_or("not hexadecimal")?.replace('\n', "|");
     if output == expected {
         Ok(())
     } else {

@@ -4,6 +4,7 @@
 //! step that is done leaves its trace in `Marking`, also where its result is
 //! dropped afterwards. That is the reading of "the mark" word for word.
 
+use crate::reader::archive::{Archive, Tests};
 use crate::reader::{Refusal, SattSeries, Series};
 use crate::trace::{hit, hit_if};
 use listed_algebra::{
@@ -285,13 +286,14 @@ pub struct Scaled {
     pub inside: bool,
 }
 
-pub fn scale(series: &Series, adjustment: &Adjustment) -> Scaled {
+/// Of what an archive holds: in a run from a series, as much as one would.
+pub fn scale(residual: &Archive) -> Scaled {
     let mark = Marking::new();
-    let times = |m: &Matrix| m.map(|v| mark.mul(v, series.sigma2));
-    let phi = times(&series.phi);
-    let phi_a = times(&adjustment.phi_a);
-    let p = adjustment.p.iter().map(|p| p.map(|v| mark.div(v, series.sigma2))).collect();
-    Scaled { phi, phi_a, p, w: adjustment.w.clone(), inside: mark.inside() }
+    let times = |m: &Matrix| m.map(|v| mark.mul(v, residual.sigma2));
+    let phi = times(&residual.phi);
+    let phi_a = times(&residual.phi_a);
+    let p = residual.p.iter().map(|p| p.map(|v| mark.div(v, residual.sigma2))).collect();
+    Scaled { phi, phi_a, p, w: residual.w.clone(), inside: mark.inside() }
 }
 
 fn finite<'a>(mut all: impl Iterator<Item = &'a Matrix>) -> bool {
@@ -467,6 +469,9 @@ fn wald(mark: &Marking, scaled: &Scaled, l: &Matrix, d: &[f64]) -> Result<f64, R
     Ok(dot(mark, &ld, &solved.cells))
 }
 
+/// The coefficients' entries, and the contrast's.
+pub type Tested = (Vec<(Entry, Moments)>, Option<(Entry, Moments)>);
+
 /// The whole run.
 pub struct Run {
     pub adjustment: Adjustment,
@@ -476,8 +481,27 @@ pub struct Run {
 }
 
 pub fn kenward_roger_run(series: &Series) -> Result<Run, Refusal> {
+    let (adjustment, scaled) = adjusted(series)?;
+    let (l, beta_h) = (series.contrast.as_ref(), series.beta_h.as_deref());
+    let (coefficients, contrast) = tested(&scaled, &series.beta, l, beta_h)?;
+    Ok(Run { adjustment, scaled, coefficients, contrast })
+}
+
+/// What an archive of an adjusted series holds.
+pub fn residual(series: &Series, adjustment: &Adjustment) -> Archive {
+    Archive {
+        phi: series.phi.clone(),
+        phi_a: adjustment.phi_a.clone(),
+        p: adjustment.p.clone(),
+        w: adjustment.w.clone(),
+        sigma2: series.sigma2,
+    }
+}
+
+/// The adjustment, scaled, and the late refusal 4 behind both.
+pub fn adjusted(series: &Series) -> Result<(Adjustment, Scaled), Refusal> {
     let adjustment = adjust(series)?;
-    let scaled = scale(series, &adjustment);
+    let scaled = scale(&residual(series, &adjustment));
     let singles = [&adjustment.phi_a, &adjustment.w, &scaled.phi, &scaled.phi_a];
     if !finite(singles[..2].iter().copied().chain(&adjustment.p)) {
         return Err(refuse(4, "4: adjustment's output, unscaled"));
@@ -485,17 +509,30 @@ pub fn kenward_roger_run(series: &Series) -> Result<Run, Refusal> {
     if !finite(singles[2..].iter().copied().chain(&scaled.p)) {
         return Err(refuse(4, "4: adjustment's output, scaled"));
     }
-    let p = series.beta.len();
+    Ok((adjustment, scaled))
+}
+
+/// The tests from an archive: it is scaled again, by marked steps.
+pub fn archive_tests(archive: &Archive, tests: &Tests) -> Result<Tested, Refusal> {
+    let scaled = scale(archive);
+    tested(&scaled, &tests.beta, tests.contrast.as_ref(), tests.beta_h.as_deref())
+}
+
+/// Each coefficient alone, then the contrast.
+fn tested(
+    scaled: &Scaled,
+    beta: &[f64],
+    contrast: Option<&Matrix>,
+    beta_h: Option<&[f64]>,
+) -> Result<Tested, Refusal> {
+    let p = beta.len();
     let mut coefficients = Vec::new();
     for i in 0..p {
         let unit = Matrix::from_fn(1, p, |_, j| if j == i { 1.0 } else { 0.0 });
-        coefficients.push(kr_test(&scaled, &unit, &series.beta, None)?);
+        coefficients.push(kr_test(scaled, &unit, beta, None)?);
     }
-    let contrast = match &series.contrast {
-        Some(l) => Some(kr_test(&scaled, l, &series.beta, series.beta_h.as_deref())?),
-        None => None,
-    };
-    Ok(Run { adjustment, scaled, coefficients, contrast })
+    let contrast = contrast.map(|l| kr_test(scaled, l, beta, beta_h)).transpose()?;
+    Ok((coefficients, contrast))
 }
 
 // ------------------------------------------------------ Satterthwaite test

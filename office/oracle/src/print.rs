@@ -1,8 +1,11 @@
 //! What the program `pulltest` prints, and more for the `bits` command.
 
+use crate::archive::{archive, archive_test};
 use crate::calls::{both_runs, kenward_roger, satterthwaite, BothRuns, Entries};
 use crate::marked::{Entry, Moments};
+use crate::reader::archive::test_records;
 use crate::reader::{read, Refusal};
+use ::reader::vectors::hex;
 use listed_algebra::Matrix;
 
 fn bits(x: Option<f64>) -> String {
@@ -39,6 +42,20 @@ pub fn pulltest(bytes: &[u8]) -> String {
 /// The same form for the Satterthwaite call: one `test` line.
 pub fn satterthwaite_line(bytes: &[u8]) -> String {
     satterthwaite(bytes).map_or_else(refused, |e| format!("test {}", fields(&e)))
+}
+
+/// The same form for the test from an archive.
+pub fn archive_test_lines(archive: &[u8], tests: &[u8]) -> String {
+    archive_test(archive, tests).map_or_else(refused, |entries| lines(&entries))
+}
+
+/// A series' archive, and the lines of the test from it with the series' own
+/// records of the kinds 8 to 10.
+pub fn archive_lines(bytes: &[u8]) -> String {
+    archive(bytes).map_or_else(refused, |file| {
+        let tests = archive_test_lines(&file, &test_records(bytes));
+        format!("archive {}\n{tests}", hex(&file))
+    })
 }
 
 fn matrix(name: &str, m: &Matrix) -> String {

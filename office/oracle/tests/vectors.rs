@@ -2,22 +2,32 @@
 
 use std::path::PathBuf;
 
-fn replay(name: &str, satt: bool) {
-    let file = PathBuf::from(env!("CARGO_MANIFEST_DIR")).join("../../vectors").join(name);
+fn replay(list: &str) {
+    let file = PathBuf::from(env!("CARGO_MANIFEST_DIR")).join("../../vectors").join(list);
     let text = std::fs::read_to_string(&file).unwrap_or_else(|e| panic!("{}: {e}", file.display()));
     for (i, line) in text.lines().enumerate() {
-        if let Err(e) = oracle::make::check_line(line, satt) {
-            panic!("{name}:{}: {e}", i + 1);
+        if let Err(e) = oracle::make::check_line(list, line) {
+            panic!("{list}:{}: {e}", i + 1);
         }
     }
 }
 
 #[test]
 fn kenward_roger() {
-    replay("kenward-roger.txt", false);
+    replay("kenward-roger.txt");
 }
 
 #[test]
 fn satterthwaite() {
-    replay("satterthwaite.txt", true);
+    replay("satterthwaite.txt");
+}
+
+#[test]
+fn archive() {
+    replay("archive.txt");
+}
+
+#[test]
+fn archive_test() {
+    replay("archive-test.txt");
 }

@@ -15,6 +15,21 @@ fn kenward_roger_as_pbkrtest() {
     outside::kenward_roger_as_pbkrtest(kenward_roger);
 }
 
+/// The same by way of the archive: the series is archived, and tested from it.
+fn from_archive(file: &[u8]) -> Result<[u8; KENWARD_ROGER], u32> {
+    let archive = pull::archive(file).map_err(pull::Refusal::number)?;
+    let mut answer = [0; KENWARD_ROGER];
+    match pull::archive_test_fill(&archive, &pull::test_records(file), &mut answer) {
+        0 => Ok(answer),
+        number => Err(number),
+    }
+}
+
+#[test]
+fn archives_as_pbkrtest() {
+    outside::kenward_roger_as_pbkrtest(from_archive);
+}
+
 #[test]
 fn satterthwaite_as_lmertest() {
     outside::satterthwaite_as_lmertest(|file| {

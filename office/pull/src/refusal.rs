@@ -1,20 +1,26 @@
-//! Why a series was refused.
+//! Why a series or an archive was refused.
 
 use std::fmt;
 
 /// The reason for which a call gave no answer. Where several hold it is the
-/// one with the lowest number, but for two: [`Refusal::Order`] comes directly
+/// one with the lowest number, but for these: [`Refusal::Order`] comes directly
 /// after the file's length, so before every other reason of
-/// [`Refusal::Records`]; and the late reason of [`Refusal::NotFinite`] comes
-/// after [`Refusal::Cholesky`] and [`Refusal::Pivot`] of the adjustment.
+/// [`Refusal::Records`]; the late reason of [`Refusal::NotFinite`] comes
+/// after [`Refusal::Cholesky`] and [`Refusal::Pivot`] of the adjustment; an
+/// archive whose two units do not fit each other ([`Refusal::Records`]) comes
+/// after [`Refusal::Sigma2`]; and a second file is looked at after all of its
+/// archive.
 #[derive(Debug, Clone, Copy, PartialEq, Eq, Hash)]
 #[non_exhaustive]
 pub enum Refusal {
-    /// 1: the answer bytes lent have another length than the stated one.
+    /// 1: the bytes lent for the answer, or for the archive, have another length
+    /// than the stated one.
     Length,
     /// 2: the file's length is not a multiple of 16, a bad kind, a nonzero
     /// unused field, an index past a limit, a cell twice (a block with two
-    /// k's), missing or beyond the sizes.
+    /// k's), missing or beyond the sizes. In an archive also a record in
+    /// response units (kinds 11 to 13) whose bits are not those of its record in
+    /// residual units, multiplied with or divided by sigma2.
     Records,
     /// 3: a size outside its limits.
     Size,
@@ -36,8 +42,8 @@ pub enum Refusal {
     /// that is not finite or not above zero.
     Eigenvalue,
     /// 12: a record that does not stand before the next one: by kind, then for
-    /// kind 31 by count, then by row, then by column. So also any other cell
-    /// twice.
+    /// the kinds 13, 17 and 31 by count, then by row, then by column. So also any
+    /// other cell twice.
     Order,
     /// A number that this library has no name for: the panel's library is of
     /// a later delivery.
@@ -81,8 +87,8 @@ impl Refusal {
 impl fmt::Display for Refusal {
     fn fmt(&self, out: &mut fmt::Formatter<'_>) -> fmt::Result {
         let text = match self {
-            Length => "the answer bytes have another length than the stated one",
-            Records => "the record file is damaged or incomplete",
+            Length => "the bytes lent for the answer have another length than the stated one",
+            Records => "the record file is damaged or incomplete, or an archive's units do not fit",
             Size => "a size is outside its limits",
             NotFinite => "an input, or a number of the adjustment, is not finite",
             Sigma2 => "sigma2 is not above zero",

@@ -37,20 +37,25 @@ static void swap(uint8_t *records)
     memcpy(records + 16, first, 16);
 }
 
-/* The pulltest example of the Kenward-Roger call. */
-static int kenward_roger(void)
+/* The pulltest example. */
+static void example(uint8_t *records)
 {
-    uint8_t records[96], answer[PULL_KENWARD_ROGER_BYTES], kept[PULL_KENWARD_ROGER_BYTES];
-    const uint8_t *contrast = answer + 6 * PULL_ENTRY_BYTES;
-    size_t i;
-
     record(records, 1, 0, 0, 1.0);
     record(records + 16, 1, 1, 0, 1.0);
     record(records + 32, 6, 0, 0, 0.5);
     record(records + 48, 7, 0, 0, 8.0);
     record(records + 64, 8, 0, 0, 6.0);
     record(records + 80, 9, 0, 0, 1.0);
+}
 
+/* The example through the Kenward-Roger call. */
+static int kenward_roger(void)
+{
+    uint8_t records[96], answer[PULL_KENWARD_ROGER_BYTES], kept[PULL_KENWARD_ROGER_BYTES];
+    const uint8_t *contrast = answer + 6 * PULL_ENTRY_BYTES;
+    size_t i;
+
+    example(records);
     memset(answer, 0xa5, sizeof answer);
     memset(kept, 0xa5, sizeof kept);
     if (pull_kenward_roger(records, sizeof records, answer, 100) != PULL_LENGTH)
@@ -139,11 +144,65 @@ static int satterthwaite(void)
     return 0;
 }
 
+/* The example archived, and tested from its archive. */
+static int archive(void)
+{
+    static const double cells[8] = { 4.0, 4.0, -0.25, 2.0, 0.5, 0.5, -2.0, 8.0 };
+    uint8_t records[96], lent[PULL_ARCHIVE_BYTES], kept[PULL_ARCHIVE_BYTES];
+    uint8_t answer[PULL_KENWARD_ROGER_BYTES], direct[PULL_KENWARD_ROGER_BYTES];
+    const uint8_t *tests = records + 64;
+    size_t i;
+
+    example(records);
+    memset(lent, 0xa5, sizeof lent);
+    memset(kept, 0xa5, sizeof kept);
+    memset(answer, 0xa5, sizeof answer);
+    if (pull_archive(records, sizeof records, lent, 128) != PULL_LENGTH)
+        return failed("128 archive bytes");
+    if (pull_archive(records, 95, lent, sizeof lent) != PULL_RECORDS)
+        return failed("95 bytes of records to be archived");
+    if (memcmp(lent, kept, sizeof lent) != 0)
+        return failed("a refusal has written archive bytes");
+    if (pull_archive(records, sizeof records, lent, sizeof lent) != 128)
+        return failed("the length of the example's archive");
+    for (i = 0; i < 8; i++)
+        if (lent[16 * i] != 11 + i || number(lent + 16 * i + 8) != cells[i])
+            return failed("a record of the example's archive");
+    if (memcmp(lent + 128, kept + 128, sizeof lent - 128) != 0)
+        return failed("bytes behind the archive have been written");
+
+    if (pull_archive_test(lent, 128, tests, 32, answer, 24) != PULL_LENGTH)
+        return failed("24 answer bytes for the archive's test");
+    if (pull_archive_test(lent, 127, tests, 32, answer, sizeof answer) != PULL_RECORDS)
+        return failed("127 bytes of an archive");
+    if (pull_archive_test(lent, 128, tests, 31, answer, sizeof answer) != PULL_RECORDS)
+        return failed("31 bytes of a second file");
+    swap(lent);
+    if (pull_archive_test(lent, 128, tests, 32, answer, sizeof answer) != PULL_ORDER)
+        return failed("Phi_A before Phi");
+    swap(lent);
+    lent[8] ^= 1;
+    if (pull_archive_test(lent, 128, tests, 32, answer, sizeof answer) != PULL_RECORDS)
+        return failed("another last digit of Phi in response units");
+    lent[8] ^= 1;
+    if (memcmp(answer, kept, sizeof answer) != 0)
+        return failed("a refusal has written answer bytes");
+    if (pull_kenward_roger(records, sizeof records, direct, sizeof direct) != PULL_ACCEPTED)
+        return failed("the example is refused");
+    if (pull_archive_test(lent, 128, tests, 32, answer, sizeof answer) != PULL_ACCEPTED)
+        return failed("the example's archive is refused");
+    if (memcmp(answer, direct, sizeof answer) != 0)
+        return failed("the test from the archive is not the direct call's");
+    return 0;
+}
+
 int main(void)
 {
     if (kenward_roger() != 0)
         return 1;
     if (satterthwaite() != 0)
+        return 1;
+    if (archive() != 0)
         return 1;
     printf("C calls: ok\n");
     return 0;

@@ -1,4 +1,5 @@
-//! Random and damaged bytes through each C function.
+//! Random and damaged bytes through each of the two direct C functions; the
+//! archive's two are in archive.rs.
 //!
 //!     cargo test --offline --release --test hostile
 //!     cargo test --offline --release --test hostile -- --calls 100000000 --seed 9
@@ -11,8 +12,11 @@
 //! makes it again. `--trace` prints each seed before its call, for a call that
 //! does not come back.
 
+mod fence;
+mod form;
+
 use reader::random::Random;
-use reader::tries::{Call, Shape, Tries};
+use reader::tries::{Call, Tries};
 use reader::vectors::hex;
 use std::collections::BTreeMap;
 
@@ -123,7 +127,12 @@ fn one_call(
     }
     match (number, verdict) {
         (0, Ok(shape)) => {
-            if let Err(what) = answer_form(function.call, shape, lent_answer) {
+            let used = |i: usize| match function.call {
+                Call::Satterthwaite => true,
+                Call::KenwardRoger if i == 6 => shape.contrast,
+                Call::KenwardRoger => i < shape.coefficients,
+            };
+            if let Err(what) = form::check(lent_answer, used) {
                 return text(&format!("{what}: {}", hex(lent_answer)));
             }
         }
@@ -136,137 +145,4 @@ fn one_call(
         return text("a canary byte was changed");
     }
     Ok(number)
-}
-
-/// The form of an answer: which entries are used, and what each byte may be.
-fn answer_form(call: Call, shape: Shape, answer: &[u8]) -> Result<(), String> {
-    for (i, entry) in answer.chunks(ENTRY).enumerate() {
-        let used = match call {
-            Call::Satterthwaite => true,
-            Call::KenwardRoger if i == 6 => shape.contrast,
-            Call::KenwardRoger => i < shape.coefficients,
-        };
-        let form = if used { used_entry(entry) } else { entry.iter().all(|&b| b == 0) };
-        if !form {
-            return Err(format!("entry {i} has not the form of one"));
-        }
-    }
-    Ok(())
-}
-
-fn used_entry(entry: &[u8]) -> bool {
-    let bits = |at: usize| u64::from_le_bytes(entry[at..at + 8].try_into().expect("eight bytes"));
-    let number = |at: usize, given: u8| match given {
-        0 => bits(at) == 0,
-        1 => !f64::from_bits(bits(at)).is_nan(),
-        _ => false,
-    };
-    (1..=6).contains(&entry[16])
-        && number(0, entry[17])
-        && number(8, entry[18])
-        && entry[19] <= 1
-        && entry[20..] == [0; 4]
-}
-
-/// Memory between two pages that nobody may touch.
-#[cfg(target_os = "linux")]
-mod fence {
-    use std::ffi::{c_int, c_void};
-
-    const PAGE: usize = 4096;
-    /// Room for the longest file, and canaries.
-    const ROOM: usize = 4 * PAGE;
-    const CANARIES: usize = 64;
-    const NOBODY: c_int = 0;
-    const READ_WRITE: c_int = 3;
-    const PRIVATE_ANONYMOUS: c_int = 0x22;
-
-    // Of the C library that std links.
-    extern "C" {
-        fn mmap(
-            at: *mut c_void,
-            length: usize,
-            protection: c_int,
-            flags: c_int,
-            file: c_int,
-            offset: i64,
-        ) -> *mut c_void;
-        fn mprotect(at: *mut c_void, length: usize, protection: c_int) -> c_int;
-    }
-
-    pub struct Fenced {
-        memory: &'static mut [u8],
-        canary: u8,
-        /// Where the canaries lie.
-        canaries: std::ops::Range<usize>,
-    }
-
-    impl Fenced {
-        pub fn new() -> Fenced {
-            // SAFETY: new memory of the asked length, never given back; the
-            // slice is the part that may be touched.
-            let memory = unsafe {
-                let all =
-                    mmap(std::ptr::null_mut(), ROOM + 2 * PAGE, NOBODY, PRIVATE_ANONYMOUS, -1, 0)
-                        as *mut u8;
-                assert!(all as isize != -1, "mmap");
-                let room = all.add(PAGE);
-                assert_eq!(mprotect(room as *mut c_void, ROOM, READ_WRITE), 0, "mprotect");
-                std::slice::from_raw_parts_mut(room, ROOM)
-            };
-            Fenced { memory, canary: 0, canaries: 0..0 }
-        }
-
-        /// `length` bytes at the front or at the end, with canaries on their
-        /// open side.
-        pub fn lend(&mut self, length: usize, front: bool, canary: u8) -> &'static mut [u8] {
-            assert!(length + CANARIES <= ROOM, "a file too long for the fence");
-            let start = if front { 0 } else { ROOM - length };
-            self.canary = canary;
-            self.canaries = if front { length..length + CANARIES } else { start - CANARIES..start };
-            self.memory[self.canaries.clone()].fill(canary);
-            // SAFETY: the memory stays, and nothing else touches these bytes
-            // until the next `lend`: the canaries lie beside them.
-            unsafe { std::slice::from_raw_parts_mut(self.memory.as_mut_ptr().add(start), length) }
-        }
-
-        /// Whether the canaries are as they were.
-        pub fn whole(&self) -> bool {
-            self.memory[self.canaries.clone()].iter().all(|&b| b == self.canary)
-        }
-    }
-}
-
-/// Where there are no fences: canaries on both sides.
-#[cfg(not(target_os = "linux"))]
-mod fence {
-    const CANARIES: usize = 64;
-
-    pub struct Fenced {
-        memory: Vec<u8>,
-        canary: u8,
-        length: usize,
-    }
-
-    impl Fenced {
-        pub fn new() -> Fenced {
-            Fenced { memory: Vec::new(), canary: 0, length: 0 }
-        }
-
-        pub fn lend(&mut self, length: usize, _front: bool, canary: u8) -> &'static mut [u8] {
-            (self.canary, self.length) = (canary, length);
-            self.memory.clear();
-            self.memory.resize(length + 2 * CANARIES, canary);
-            // SAFETY: as above; the vector is not touched until the next call.
-            unsafe {
-                let start = self.memory.as_mut_ptr().add(CANARIES);
-                std::slice::from_raw_parts_mut(start, length)
-            }
-        }
-
-        pub fn whole(&self) -> bool {
-            let after = CANARIES + self.length;
-            self.memory[..CANARIES].iter().chain(&self.memory[after..]).all(|&b| b == self.canary)
-        }
-    }
 }

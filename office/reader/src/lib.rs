@@ -1,4 +1,5 @@
-//! The reader of record files, with the refusals 2 to 8 and 12.
+//! The reader of record files, with the refusals 2 to 8 and 12, and of the
+//! archive that a series' adjusted matrices are kept in (`archive`).
 //!
 //! A length that is no multiple of 16 comes first (2), then records that do not
 //! rise (12), then every other reason of 2, among which the order does not
@@ -13,6 +14,8 @@
 use listed_algebra::Matrix;
 use std::collections::BTreeMap;
 
+pub mod archive;
+pub mod archive_tries;
 pub mod order;
 pub mod random;
 pub mod shift;
@@ -50,6 +53,14 @@ pub const SIGMA: u8 = 7;
 pub const BETA: u8 = 8;
 pub const CONTRAST: u8 = 9;
 pub const BETA_H: u8 = 10;
+pub const RESPONSE_PHI: u8 = 11;
+pub const RESPONSE_PHI_A: u8 = 12;
+pub const RESPONSE_P: u8 = 13;
+pub const W: u8 = 14;
+pub const RESIDUAL_PHI: u8 = 15;
+pub const RESIDUAL_PHI_A: u8 = 16;
+pub const RESIDUAL_P: u8 = 17;
+pub const ARCHIVED_SIGMA: u8 = 18;
 pub const V: u8 = 30;
 pub const JACOBIAN: u8 = 31;
 pub const A: u8 = 32;
@@ -172,7 +183,7 @@ fn satt_fields(kind: u8) -> Option<(Field, Field, Field)> {
     })
 }
 
-/// Which cell a record fills: kind, number (of a Jacobian), row, column. Only
+/// Which cell a record fills: kind, number of the matrix, row, column. Only
 /// a block's cell is not its key.
 type Place = order::Key;
 
@@ -239,7 +250,7 @@ impl Cells {
     fn grid(&self, kind: u8, number: u32, rows: usize, columns: usize) -> Result<Matrix, Refusal> {
         let mut out = Matrix::zeros(rows, columns);
         let mut filled = 0;
-        for r in self.of(kind).filter(|r| kind != JACOBIAN || r.count == number) {
+        for r in self.of(kind).filter(|r| !order::numbers_matrices(kind) || r.count == number) {
             let (i, j) = (r.row as usize, r.column as usize);
             if i >= rows || j >= columns {
                 return Err(BAD_RECORDS);
@@ -253,6 +264,14 @@ impl Cells {
         } else {
             Err(BAD_RECORDS)
         }
+    }
+
+    /// So many matrices of a kind whose count numbers them.
+    fn grids(&self, kind: u8, count: usize, size: usize) -> Result<Vec<Matrix>, Refusal> {
+        if self.of(kind).any(|r| r.count as usize >= count) {
+            return Err(BAD_RECORDS);
+        }
+        (0..count).map(|number| self.grid(kind, number as u32, size, size)).collect()
     }
 
     fn list(&self, kind: u8, len: usize) -> Result<Vec<f64>, Refusal> {
@@ -311,7 +330,7 @@ pub fn read(bytes: &[u8]) -> Result<Series, Refusal> {
     if columns != series.z.cols as u64 || parameters(&shapes) != series.theta.len() as u64 {
         return Err(BLOCKS);
     }
-    if series.contrast.iter().any(|l| l.cells.iter().all(|&v| v == 0.0)) {
+    if all_zero(&series.contrast) {
         return Err(ZERO_CONTRAST);
     }
     let blocks = shapes.iter().map(|&(m, k)| Block { m: m as usize, k: k as usize }).collect();
@@ -354,21 +373,25 @@ fn contrast(cells: &Cells, p: usize) -> Result<Option<Matrix>, Refusal> {
     }
 }
 
+/// Whether a contrast is there and has no cell that is not zero.
+fn all_zero(contrast: &Option<Matrix>) -> bool {
+    contrast.iter().any(|l| l.cells.iter().all(|&v| v == 0.0))
+}
+
 /// Reads a file for the Satterthwaite call.
 pub fn read_satterthwaite(bytes: &[u8]) -> Result<SattSeries, Refusal> {
     let cells = Cells::read(bytes, satt_fields)?;
     let p = cells.rows(BETA);
     let parameters = cells.rows(A).max(cells.columns(A));
-    if p == 0 || parameters == 0 || cells.of(JACOBIAN).any(|r| r.count as usize >= parameters) {
+    if p == 0 || parameters == 0 {
         return Err(BAD_RECORDS);
     }
-    let jacobian = |i: usize| cells.grid(JACOBIAN, i as u32, p, p);
     let series = SattSeries {
         beta: cells.list(BETA, p)?,
         contrast: contrast(&cells, p)?.ok_or(BAD_RECORDS)?,
         beta_h: cells.optional_list(BETA_H, p)?,
         v: cells.grid(V, 0, p, p)?,
-        jacobians: (0..parameters).map(jacobian).collect::<Result<_, _>>()?,
+        jacobians: cells.grids(JACOBIAN, parameters, p)?,
         a: cells.grid(A, 0, parameters, parameters)?,
     };
     if cells.values_finite() {

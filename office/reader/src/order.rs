@@ -1,21 +1,27 @@
 //! The order of a file's records: by kind, then by the number of the matrix,
 //! then by row, then by column. It is read from the bytes as they stand, alike
-//! for both calls, so no call's table of kinds is asked.
+//! for every call, so no call's table of kinds is asked.
 //!
 //! Beside it: ways to bring a file out of order, for the tests.
 
 use crate::random::Random;
-use crate::{Record, BLOCK, JACOBIAN};
+use crate::{Record, BLOCK, JACOBIAN, RESIDUAL_P, RESPONSE_P};
 
 /// Kind, number of the matrix, row, column.
 pub type Key = (u8, u32, u8, u8);
+
+/// Whether the count of this kind numbers a matrix: an archive's P, in
+/// response and in residual units, and a Jacobian. A block's count is its
+/// groups.
+pub fn numbers_matrices(kind: u8) -> bool {
+    matches!(kind, RESPONSE_P | RESIDUAL_P | JACOBIAN)
+}
 
 impl Record {
     /// Where the record stands: what has the smaller key stands before. Byte 3
     /// and the value are no part of it.
     pub fn key(&self) -> Key {
-        // A Jacobian's count numbers a matrix. A block's count is its groups.
-        let matrix = if self.kind == JACOBIAN { self.count } else { 0 };
+        let matrix = if numbers_matrices(self.kind) { self.count } else { 0 };
         (self.kind, matrix, self.row, self.column)
     }
 }
@@ -140,7 +146,14 @@ mod tests {
             (r(1, 9, 9, 9), r(2, 0, 0, 0)),
             (r(127, 0, 0, 0), r(128, 0, 0, 0)),
             (r(31, 9, 9, 0), r(31, 0, 0, 1)),
+            (r(13, 9, 9, 0), r(13, 0, 0, 1)),
+            (r(17, 9, 9, 3), r(17, 0, 0, 4)),
+            (r(13, 0, 0, 1), r(13, 0, 1, 1)),
+            (r(17, 0, 9, 1), r(17, 1, 0, 1)),
             (r(31, 0, 0, 255), r(31, 0, 0, 256)),
+            (r(13, 0, 0, 0xffff), r(13, 0, 0, 0x1_0000)),
+            (r(17, 0, 0, u32::MAX - 1), r(17, 0, 0, u32::MAX)),
+            (r(13, 9, 9, u32::MAX), r(14, 0, 0, 0)),
             (r(31, 0, 0, u32::MAX - 1), r(31, 0, 0, u32::MAX)),
             (r(1, 0, 9, 0), r(1, 1, 0, 0)),
             (r(1, 127, 0, 0), r(1, 128, 0, 0)),
@@ -156,7 +169,7 @@ mod tests {
     /// records apart, and two that are alike do not rise.
     #[test]
     fn what_does_not() {
-        for kind in [0, 1, 3, 9, 13, 22, 30, 32, 77, 255] {
+        for kind in [0, 1, 3, 9, 11, 12, 14, 15, 16, 18, 22, 30, 32, 77, 255] {
             let one = record(kind, 4, 5, 0);
             for other in [
                 one,

@@ -8,7 +8,8 @@ use crate::random::Random;
 use crate::vectors;
 use crate::{read, read_satterthwaite, Record, Refusal, BLOCK};
 
-/// Which of the two calls.
+/// Which of the two direct calls. The archive's files are made by
+/// `archive_tries`.
 #[derive(Debug, Clone, Copy, PartialEq)]
 pub enum Call {
     KenwardRoger,

@@ -1,6 +1,7 @@
 //! The stored vectors: lines of a file in hexadecimal and what `pulltest`
 //! prints for it (vectors/README.md), and the answer bytes that follow from
-//! those lines.
+//! those lines. The archive's two lists have an archive or two files beside
+//! them.
 
 use crate::Refusal;
 use std::path::{Path, PathBuf};
@@ -39,39 +40,98 @@ pub fn folder() -> PathBuf {
     Path::new(env!("CARGO_MANIFEST_DIR")).join("../../vectors")
 }
 
-/// All cases of a stored file (`kenward-roger.txt` or `satterthwaite.txt`).
-/// It panics with the file's name where the file is not as described.
-pub fn load(name: &str) -> Vec<Vector> {
+/// Each line of a stored file with its number, its part before the blank and the
+/// output, by `case`. It panics with the file's name where a line is no case.
+fn load_lines<T>(name: &str, case: impl Fn(usize, &str, String) -> Option<T>) -> Vec<T> {
     let path = folder().join(name);
     let text = std::fs::read_to_string(&path).unwrap_or_else(|e| panic!("{}: {e}", path.display()));
     let case = |(i, line): (usize, &str)| {
-        let parts = line.split_once(' ').and_then(|(f, o)| Some((unhex(f)?, o)));
-        let (file, output) = parts.unwrap_or_else(|| panic!("{name}:{}: no vector", i + 1));
-        Vector { line: i + 1, file, output: output.to_string() }
+        let parts = line.split_once(' ').and_then(|(f, o)| case(i + 1, f, o.to_string()));
+        parts.unwrap_or_else(|| panic!("{name}:{}: no vector", i + 1))
     };
     text.lines().enumerate().map(case).collect()
+}
+
+/// All cases of a stored file of single files (`kenward-roger.txt`,
+/// `satterthwaite.txt` or `archive.txt`).
+pub fn load(name: &str) -> Vec<Vector> {
+    load_lines(name, |line, file, output| Some(Vector { line, file: unhex(file)?, output }))
+}
+
+/// One stored case of the archive's test.
+#[derive(Debug, Clone, PartialEq)]
+pub struct ArchiveTest {
+    /// The number of its line, from 1.
+    pub line: usize,
+    pub archive: Vec<u8>,
+    /// The second file.
+    pub tests: Vec<u8>,
+    /// The expected output, `|` for each newline.
+    pub output: String,
+}
+
+/// All cases of `archive-test.txt`.
+pub fn load_archive_tests() -> Vec<ArchiveTest> {
+    load_lines("archive-test.txt", |line, files, output| {
+        let (archive, tests) = pair(files)?;
+        Some(ArchiveTest { line, archive, tests, output })
+    })
+}
+
+/// Two files in hexadecimal with a comma between them.
+pub fn pair(text: &str) -> Option<(Vec<u8>, Vec<u8>)> {
+    let (first, second) = text.split_once(',')?;
+    Some((unhex(first)?, unhex(second)?))
+}
+
+/// The refusal, where an output is one.
+pub fn refusal(output: &str) -> Option<Refusal> {
+    output.strip_prefix("refused ")?.trim_end_matches('|').parse().ok()
+}
+
+/// The number and the 168 answer bytes that the lines of an output stand for; a
+/// refusal leaves the bytes as they were.
+pub fn kenward_roger_outcome(
+    output: &str,
+    before: u8,
+) -> Result<(Refusal, [u8; KR_ANSWER]), String> {
+    match refusal(output) {
+        Some(number) => Ok((number, [before; KR_ANSWER])),
+        None => Ok((0, kenward_roger_answer(output)?)),
+    }
+}
+
+/// The 168 answer bytes that `coef` and `test` lines stand for.
+fn kenward_roger_answer(output: &str) -> Result<[u8; KR_ANSWER], String> {
+    let mut out = [0; KR_ANSWER];
+    for line in output.split_terminator('|') {
+        let words: Vec<&str> = line.split(' ').collect();
+        let (at, fields) = match words.as_slice() {
+            ["coef", index, fields @ ..] => (index.parse().ok(), fields),
+            ["test", fields @ ..] => (Some(6), fields),
+            _ => (None, &[] as &[&str]),
+        };
+        let at: usize = at.filter(|&i| i < 7).ok_or_else(|| format!("no entry: {line}"))?;
+        out[at * ENTRY..(at + 1) * ENTRY].copy_from_slice(&entry(fields)?);
+    }
+    Ok(out)
 }
 
 impl Vector {
     /// The refusal, where the output is one.
     pub fn refusal(&self) -> Option<Refusal> {
-        self.output.strip_prefix("refused ")?.trim_end_matches('|').parse().ok()
+        refusal(&self.output)
+    }
+
+    /// Of `archive.txt`: the archive, and the output of the test from it.
+    pub fn archive(&self) -> Option<(Vec<u8>, &str)> {
+        let (archive, test) = self.output.strip_prefix("archive ")?.split_once('|')?;
+        Some((unhex(archive)?, test))
     }
 
     /// The 168 answer bytes that the `coef` and `test` lines stand for.
     pub fn kenward_roger_answer(&self) -> Result<[u8; KR_ANSWER], String> {
-        let mut out = [0; KR_ANSWER];
-        for line in self.output.split_terminator('|') {
-            let words: Vec<&str> = line.split(' ').collect();
-            let (at, fields) = match words.as_slice() {
-                ["coef", index, fields @ ..] => (index.parse().ok(), fields),
-                ["test", fields @ ..] => (Some(6), fields),
-                _ => (None, &[] as &[&str]),
-            };
-            let at: usize = at.filter(|&i| i < 7).ok_or_else(|| format!("no entry: {line}"))?;
-            out[at * ENTRY..(at + 1) * ENTRY].copy_from_slice(&entry(fields)?);
-        }
-        Ok(out)
+        kenward_roger_answer(&self.output)
     }
 
     /// The 24 answer bytes that one `test` line stands for.

@@ -12,9 +12,13 @@
 //! A time is the least of the rounds, in microseconds for one call, over
 //! several series of the size: other programs on the machine only add to it.
 //!
-//! `bench --calls RUN SIZE COUNT` only calls one of the three (0 to 2), on the
-//! series of one size of the first table (0 to 9), COUNT times each: for a
-//! program that counts instructions.
+//! `bench --archive [ROUNDS]` has the archive's two functions beside the direct
+//! call instead, by the panel alone.
+//!
+//! `bench --calls RUN SIZE COUNT` only calls one of the three (0 to 2) or of the
+//! archive's two (3: `pull_archive`, 4: `pull_archive_test`), on the series of
+//! one size of the first table (0 to 9), COUNT times each: for a program that
+//! counts instructions.
 
 use oracle::random::{kr_file, series_of_sizes};
 use oracle::{lme_run, marked};
@@ -62,26 +66,49 @@ fn growth() -> Vec<Size> {
     [3, 6, 9, 12, 15, 18, 21, 24].into_iter().map(size).collect()
 }
 
-fn panel(file: &[u8]) {
+/// A series, its archive and its second file.
+struct Files {
+    series: Vec<u8>,
+    archive: Vec<u8>,
+    tests: Vec<u8>,
+}
+
+fn panel(files: &Files) {
     let mut answer = [0; pull::KENWARD_ROGER_BYTES];
-    black_box(pull::kenward_roger_fill(black_box(file), &mut answer));
+    black_box(pull::kenward_roger_fill(black_box(&files.series), &mut answer));
     black_box(answer);
 }
 
-fn lme_rs(file: &[u8]) {
-    let series = read(black_box(file)).expect("it is accepted");
+fn lme_rs(files: &Files) {
+    let series = read(black_box(&files.series)).expect("it is accepted");
     black_box(lme_run::each_step_once(&series).expect("it is accepted"));
 }
 
-fn marked_run(file: &[u8]) {
-    let series = read(black_box(file)).expect("it is accepted");
+fn marked_run(files: &Files) {
+    let series = read(black_box(&files.series)).expect("it is accepted");
     black_box(marked::kenward_roger_run(&series).expect("it is accepted"));
 }
 
-const RUNS: [fn(&[u8]); 3] = [panel, lme_rs, marked_run];
+fn archive(files: &Files) {
+    let mut lent = [0; pull::ARCHIVE_BYTES];
+    black_box(pull::archive_fill(black_box(&files.series), &mut lent));
+    black_box(lent);
+}
 
-/// Accepted files of a size.
-fn files(size: &Size) -> Vec<Vec<u8>> {
+fn archive_test(files: &Files) {
+    let (archive, tests) = (black_box(&files.archive), black_box(&files.tests));
+    let mut answer = [0; pull::KENWARD_ROGER_BYTES];
+    black_box(pull::archive_test_fill(archive, tests, &mut answer));
+    black_box(answer);
+}
+
+type Run = fn(&Files);
+
+const RUNS: [Run; 3] = [panel, lme_rs, marked_run];
+const ARCHIVE_RUNS: [Run; 3] = [panel, archive, archive_test];
+
+/// Accepted series of a size.
+fn files(size: &Size) -> Vec<Files> {
     let mut random = Random::new(1000 * size.n as u64 + 10 * size.p as u64 + size.rows as u64);
     let mut out = Vec::new();
     for _ in 0..1000 {
@@ -90,7 +117,8 @@ fn files(size: &Size) -> Vec<Vec<u8>> {
         let accepted =
             pull::kenward_roger(&file).is_ok() && marked::kenward_roger_run(&series).is_ok();
         if accepted {
-            out.push(file);
+            let archive = pull::archive(&file).expect("it is accepted");
+            out.push(Files { archive, tests: pull::test_records(&file), series: file });
         }
         if out.len() == SERIES {
             return out;
@@ -100,10 +128,10 @@ fn files(size: &Size) -> Vec<Vec<u8>> {
 }
 
 /// Microseconds for one call, over all files, `times` times.
-fn time(run: fn(&[u8]), files: &[Vec<u8>], times: usize) -> f64 {
+fn time(run: Run, files: &[Files], times: usize) -> f64 {
     let began = Instant::now();
     for _ in 0..times {
-        files.iter().for_each(|file| run(file));
+        files.iter().for_each(run);
     }
     began.elapsed().as_secs_f64() * 1e6 / (times * files.len()) as f64
 }
@@ -112,17 +140,17 @@ fn least(times: Vec<f64>) -> f64 {
     times.into_iter().fold(f64::INFINITY, f64::min)
 }
 
-/// The least time of each of the three runs.
-fn measure(size: &Size, rounds: usize) -> [f64; 3] {
+/// The least time of each of three runs.
+fn measure(runs: [Run; 3], size: &Size, rounds: usize) -> [f64; 3] {
     let files = files(size);
     // Once to warm up, and to know how often a round has to call.
-    let times = RUNS.map(|run| {
+    let times = runs.map(|run| {
         let once = time(run, &files, 1).max(0.01) * files.len() as f64;
         (LEAST / once).ceil() as usize
     });
     let mut measured = [Vec::new(), Vec::new(), Vec::new()];
     for _ in 0..rounds {
-        for (i, run) in RUNS.into_iter().enumerate() {
+        for (i, run) in runs.into_iter().enumerate() {
             measured[i].push(time(run, &files, times[i]));
         }
     }
@@ -170,7 +198,27 @@ fn calls(words: &[String]) {
         panic!("--calls RUN SIZE COUNT");
     };
     let files = files(&sizes()[size]);
-    (0..count).for_each(|_| files.iter().for_each(|file| RUNS[run](file)));
+    let run = [RUNS[0], RUNS[1], RUNS[2], ARCHIVE_RUNS[1], ARCHIVE_RUNS[2]][run];
+    (0..count).for_each(|_| files.iter().for_each(run));
+}
+
+/// The archive's two functions beside the direct call.
+fn archives(rounds: usize) {
+    println!(
+        "One call, reading included; least of {rounds} rounds; {SERIES} series of each size.\n"
+    );
+    println!(
+        "{:>3} {:>2} {:>8} {:>4} {:>11} {:>11} {:>11}",
+        "n", "p", "archive", "rows", "direct µs", "archive µs", "test µs"
+    );
+    for size in sizes() {
+        let length = files(&size)[0].archive.len();
+        let [direct, archive, test] = measure(ARCHIVE_RUNS, &size, rounds);
+        println!(
+            "{:>3} {:>2} {length:>8} {:>4} {direct:>11.2} {archive:>11.2} {test:>11.2}",
+            size.n, size.p, size.rows
+        );
+    }
 }
 
 fn main() {
@@ -178,18 +226,21 @@ fn main() {
     if words.first().is_some_and(|w| w == "--calls") {
         return calls(&words[1..]);
     }
-    let rounds = words.first().and_then(|w| w.parse().ok()).unwrap_or(ROUNDS).max(1);
+    let rounds = words.last().and_then(|w| w.parse().ok()).unwrap_or(ROUNDS).max(1);
+    if words.first().is_some_and(|w| w == "--archive") {
+        return archives(rounds);
+    }
     println!("One call, reading included; least of {rounds} rounds; {SERIES} series of each size.");
     println!("The ratios are the panel's time over the other's.\n");
     head();
     for size in sizes() {
-        line(&size, measure(&size, rounds));
+        line(&size, measure(RUNS, &size, rounds));
     }
     println!("\nGrowth with n: p = 3, three blocks of two groups, two contrast rows.\n");
     head();
     let mut measured = Vec::new();
     for size in growth() {
-        let times = measure(&size, rounds);
+        let times = measure(RUNS, &size, rounds);
         line(&size, times);
         measured.push((size.n, times));
     }
