@@ -1,49 +1,41 @@
 //! Archives a series, and tests from the archive.
 //!
-//!     cargo run --offline --release -p pull --example archive -- FILE [TO]
+//!     cargo run --offline --release -p pull --example archive -- FILE [ARCHIVE [TESTS]]
 //!
 //! It prints the adjusted matrices in response units, then the table of the test
 //! from the archive with the series' own β and contrast, which is the one that
-//! `judge` prints for the series. TO is where the archive is written. `-` is the
-//! standard input; without a FILE it takes document 01's example. It ends with
-//! status 0 on an answer, 1 on a refusal, 2 where a file cannot be read or
-//! written.
+//! `judge` prints for the series. ARCHIVE is where the archive is written, and
+//! TESTS where the series' β, contrast and hypothesis values are: what
+//! `archive_test` asks for later. `-` is the standard input; without a FILE it
+//! takes document 01's example. It ends with status 0 on an answer, 1 on a
+//! refusal, 2 where a file cannot be read or written.
 
 mod table;
 
 use std::process::ExitCode;
-use table::{bytes, number, table};
+use table::{answer, bytes, failed, number};
 
 fn main() -> ExitCode {
-    let mut names = std::env::args().skip(1);
-    let (name, to) = (names.next(), names.next());
-    let series = match bytes(name.as_deref()) {
+    let names: Vec<String> = std::env::args().skip(1).collect();
+    let name = names.first().map(String::as_str);
+    let series = match bytes(name) {
         Ok(file) => file,
         Err(error) => return failed(name, error),
     };
-    let run = pull::archive(&series).and_then(|archive| {
-        print!("{}", matrices(&archive));
-        let run = pull::archive_test(&archive, &pull::test_records(&series));
-        Ok((archive, run?))
-    });
-    match (run, to) {
-        (Err(refusal), _) => {
-            println!("refused {}: {refusal}", refusal.number());
-            ExitCode::FAILURE
-        }
-        (Ok((archive, run)), to) => {
-            print!("\n{}", table(&run));
-            match to.as_ref().map_or(Ok(()), |to| std::fs::write(to, archive)) {
-                Ok(()) => ExitCode::SUCCESS,
-                Err(error) => failed(to, error),
-            }
+    let archive = match pull::archive(&series) {
+        Ok(archive) => archive,
+        Err(refusal) => return answer(Err(refusal)),
+    };
+    let tests = pull::test_records(&series);
+    // Both files are kept before anything is tested: a series that only a test
+    // refuses is archived too.
+    for (to, file) in names.iter().skip(1).zip([&archive, &tests]) {
+        if let Err(error) = std::fs::write(to, file) {
+            return failed(Some(to), error);
         }
     }
-}
-
-fn failed(name: Option<String>, error: std::io::Error) -> ExitCode {
-    eprintln!("{}: {error}", name.unwrap_or_default());
-    ExitCode::from(2)
+    println!("{}", matrices(&archive));
+    answer(pull::archive_test(&archive, &tests))
 }
 
 /// The kinds 11 to 14, one cell to a line.

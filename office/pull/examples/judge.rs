@@ -9,25 +9,12 @@
 mod table;
 
 use std::process::ExitCode;
-use table::{bytes, table};
+use table::{answer, bytes, failed};
 
 fn main() -> ExitCode {
     let name = std::env::args().nth(1);
-    let file = match bytes(name.as_deref()) {
-        Ok(file) => file,
-        Err(error) => {
-            eprintln!("{}: {error}", name.unwrap_or_default());
-            return ExitCode::from(2);
-        }
-    };
-    match pull::kenward_roger(&file) {
-        Ok(run) => {
-            print!("{}", table(&run));
-            ExitCode::SUCCESS
-        }
-        Err(refusal) => {
-            println!("refused {}: {refusal}", refusal.number());
-            ExitCode::FAILURE
-        }
+    match bytes(name.as_deref()) {
+        Ok(file) => answer(pull::kenward_roger(&file)),
+        Err(error) => failed(name.as_deref(), error),
     }
 }

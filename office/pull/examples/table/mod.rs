@@ -1,7 +1,11 @@
-//! What the examples share: a file by its name, and a run as a table.
+//! What the examples share: a file by its name, and an answer as a table.
 
-use pull::{Run, Test};
+// No example uses all of it.
+#![allow(dead_code)]
+
+use pull::{Refusal, Run, Test};
 use std::io::Read;
+use std::process::ExitCode;
 
 /// The file of a name: `-` is the standard input, and none is document 01's
 /// example.
@@ -17,7 +21,27 @@ pub fn bytes(name: Option<&str>) -> std::io::Result<Vec<u8>> {
     }
 }
 
-pub fn table(run: &Run) -> String {
+/// Prints the table of a run, or its refusal; the status to end with.
+pub fn answer(run: Result<Run, Refusal>) -> ExitCode {
+    match run {
+        Ok(run) => {
+            print!("{}", table(&run));
+            ExitCode::SUCCESS
+        }
+        Err(refusal) => {
+            println!("refused {}: {refusal}", refusal.number());
+            ExitCode::FAILURE
+        }
+    }
+}
+
+/// Says which file could not be read or written.
+pub fn failed(name: Option<&str>, error: std::io::Error) -> ExitCode {
+    eprintln!("{}: {error}", name.unwrap_or_default());
+    ExitCode::from(2)
+}
+
+fn table(run: &Run) -> String {
     let mut out =
         format!("{:<12} {:>16} {:>16} {:>5}  {}\n", "coefficient", "F", "df", "rank", "inside");
     for (i, test) in run.coefficients.iter().enumerate() {
