@@ -1,9 +1,11 @@
 // Which records a call refuses: a kind that it does not read, a nonzero unused field, an index past a limit, or a cell beyond the file's sizes.
 ghost use mathlib.Core.Path.{_≡_};
+ghost use mathlib.Core.Bool.{not, _||_};
+ghost use lib.Dec.{eqb};
 ghost use Prim.Native.Nat.{_<_};
 ghost use Rattle.records.specs.Scan.{any};
-ghost use Rattle.records.specs.Kinds.{kindsOf};
-ghost use Rattle.records.specs.File.{count, outOf, badRecord, beyond};
+ghost use Rattle.records.specs.Kinds.{kindsOf, valueHolds};
+ghost use Rattle.records.specs.File.{count, paddingOf, bitsOf, outOf, badRecord, beyond};
 use records::Kind;
 use records::Sizes;
 use records_file::bits_at;
@@ -32,12 +34,11 @@ fn out_of(k: Kind, s: &[u8], i: usize) -> bool
     !holds(count, count_at(s, i))
 }
 
-// Record i is of a kind that the call does not read, has a nonzero unused field, or names an index past a limit; the limits are sizes.
-fn bad_record(call: usize, limit: Sizes, s: &[u8], i: usize) -> bool
+// Record i lies outside what its kind has, which is k, or has a nonzero unused byte or value.
+fn bad_record(k: Kind, s: &[u8], i: usize) -> bool
     requires { ⌜ i < count (now s) ⌝ }
-    ensures { λ r. ⌜ r ≡ badRecord (kindsOf call limit) (now (s .entry)) i ⌝ }
+    ensures { λ r. ⌜ r ≡ outOf k (now (s .entry)) i || not (eqb (paddingOf (now (s .entry)) i) 0) || not (valueHolds (k .value) (bitsOf (now (s .entry)) i)) ⌝ }
 {
-    let k = kind_of(call, limit, kind_at(s, i));
     if out_of(k, s, i) {
         return true;
     }
@@ -48,14 +49,22 @@ fn bad_record(call: usize, limit: Sizes, s: &[u8], i: usize) -> bool
     !records_kinds::value_holds(value, bits_at(s, i))
 }
 
-// Some record is bad.
+// Some record is bad: of a kind that the call does not read, with a nonzero unused field, or past a limit; the limits are sizes. Records rise by kind, so what the table says of the last one's kind is kept, and it is asked
+// again where the kind changes.
 pub fn any_bad(call: usize, limit: Sizes, s: &[u8]) -> bool
     ensures { λ r. ⌜ r ≡ any (count (now (s .entry))) (badRecord (kindsOf call limit) (now (s .entry))) ⌝ }
 {
     let n = s.len() / 16;
+    let mut last: u8 = 0;
+    let mut k = kind_of(call, limit, 0);
     let mut i = 0;
     while i < n {
-        if bad_record(call, limit, s, i) {
+        let kind = kind_at(s, i);
+        if kind != last {
+            last = kind;
+            k = kind_of(call, limit, kind);
+        }
+        if bad_record(k, s, i) {
             return true;
         }
         i += 1;
@@ -63,21 +72,21 @@ pub fn any_bad(call: usize, limit: Sizes, s: &[u8]) -> bool
     false
 }
 
-// Record i names a cell that the sizes do not leave its kind.
-fn beyond_at(call: usize, z: Sizes, s: &[u8], i: usize) -> bool
-    requires { ⌜ i < count (now s) ⌝ }
-    ensures { λ r. ⌜ r ≡ beyond (kindsOf call z) (now (s .entry)) i ⌝ }
-{
-    out_of(kind_of(call, z, kind_at(s, i)), s, i)
-}
-
+// Some record names a cell that the sizes do not leave its kind.
 pub fn any_beyond(call: usize, z: Sizes, s: &[u8]) -> bool
     ensures { λ r. ⌜ r ≡ any (count (now (s .entry))) (beyond (kindsOf call z) (now (s .entry))) ⌝ }
 {
     let n = s.len() / 16;
+    let mut last: u8 = 0;
+    let mut k = kind_of(call, z, 0);
     let mut i = 0;
     while i < n {
-        if beyond_at(call, z, s, i) {
+        let kind = kind_at(s, i);
+        if kind != last {
+            last = kind;
+            k = kind_of(call, z, kind);
+        }
+        if out_of(k, s, i) {
             return true;
         }
         i += 1;

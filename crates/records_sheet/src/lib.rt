@@ -6,10 +6,10 @@ ghost use Prim.Native.Nat.{_+_, _≤_, _<_};
 ghost use lib.ListN.{length, replicate};
 ghost use Rattle.arithmetic.specs.Numbers.{plusZero};
 ghost use Rattle.records.specs.Scan.{any};
-ghost use Rattle.records.specs.Kinds.{width, kindsOf, kindNumbers};
+ghost use Rattle.records.specs.Kinds.{width, indexOf, kindsOf, kindNumbers};
 ghost use Rattle.records.specs.Cells.{slots, slotCount, offset};
-ghost use Rattle.records.specs.File.{count, beyond, again};
-ghost use Rattle.records_sheet.specs.joints.Sheet.{Small, firstSlots, slotOf, flagsAfter, sheetAfter, gap, missingIn};
+ghost use Rattle.records.specs.File.{count, rowOf, columnOf, countOf, outOf, beyond, again};
+ghost use Rattle.records_sheet.specs.joints.Sheet.{Small, firstSlots, flagsAfter, sheetAfter, gap, missingIn};
 use records::Kind;
 use records::Sizes;
 use records_file::column_at;
@@ -58,14 +58,11 @@ fn offset_in(k: Kind, n: usize, r: usize, c: usize) -> usize
     (n * width(row) + r) * width(column) + c
 }
 
-// The slot of the cell that record i names, which lies within the sizes.
-fn slot_at(call: usize, z: Sizes, firsts: &[usize; 34], s: &[u8], i: usize) -> usize
-    requires { ⌜ Small z × (now firsts ≡ firstSlots (kindsOf call z)) × (i < count (now s)) × (beyond (kindsOf call z) (now s) i ≡ false) ⌝ }
-    ensures { λ r. ⌜ (r ≡ slotOf (kindsOf call z) (now (s .entry)) i) × (r < slotCount (kindsOf call z)) ⌝ }
+// The slot of the cell that record i names, by its kind, which is k and has the record, and by that kind's first slot.
+fn slot_at(k: Kind, first: usize, s: &[u8], i: usize) -> usize
+    requires { ⌜ (i < count (now s)) × (outOf k (now s) i ≡ false) × (width (k .count) ≤ 256) × (width (k .row) ≤ 256) × (width (k .column) ≤ 256) × (first ≤ 553648128) ⌝ }
+    ensures { λ r. ⌜ r ≡ first + offset k (indexOf (k .count) (countOf (now (s .entry)) i)) (indexOf (k .row) (rowOf (now (s .entry)) i)) (indexOf (k .column) (columnOf (now (s .entry)) i)) ⌝ }
 {
-    let kind = kind_at(s, i);
-    let k = kind_of(call, z, kind);
-    let first = firsts[kind as usize];
     let count = k.count;
     let row = k.row;
     let column = k.column;
@@ -76,7 +73,7 @@ fn slot_at(call: usize, z: Sizes, firsts: &[usize; 34], s: &[u8], i: usize) -> u
 }
 
 // Sets the flag of each cell that a record names, until one names a cell that an earlier one names. The lent flags are all clear at first; a file of more records than cells stops at the first that is
-// there already.
+// there already. Records rise by kind, so what the table says of the last one's kind is kept, and it is asked again where the kind changes.
 pub fn mark_cells(call: usize, z: Sizes, firsts: &[usize; 34], s: &[u8], flags: &mut [bool]) -> bool
     requires { ⌜ Small z × (now firsts ≡ firstSlots (kindsOf call z)) × (any (count (now s)) (beyond (kindsOf call z) (now s)) ≡ false) ⌝ }
     requires { ⌜ (now flags ≡ replicate (length (now flags)) false) × (slotCount (kindsOf call z) ≤ length (now flags)) ⌝ }
@@ -84,9 +81,16 @@ pub fn mark_cells(call: usize, z: Sizes, firsts: &[usize; 34], s: &[u8], flags: 
     ensures { λ r. ⌜ (r ≡ false → now (flags .exit) ≡ flagsAfter (length (now (flags .entry))) (kindsOf call z) (now (s .entry)) (count (now (s .entry)))) ⌝ }
 {
     let n = s.len() / 16;
+    let mut last: u8 = 0;
+    let mut k = kind_of(call, z, 0);
     let mut i = 0;
     while i < n {
-        let at = slot_at(call, z, firsts, s, i);
+        let kind = kind_at(s, i);
+        if kind != last {
+            last = kind;
+            k = kind_of(call, z, kind);
+        }
+        let at = slot_at(k, firsts[kind as usize], s, i);
         if flags[at] {
             return true;
         }
@@ -96,16 +100,23 @@ pub fn mark_cells(call: usize, z: Sizes, firsts: &[usize; 34], s: &[u8], flags: 
     false
 }
 
-// The number in each cell, +0 where no record names it. The lent sheet is all +0 at first.
+// The number in each cell, +0 where no record names it. The lent sheet is all +0 at first. The table is asked only where the kind changes, as in `mark_cells`.
 pub fn fill_sheet(call: usize, z: Sizes, firsts: &[usize; 34], s: &[u8], sheet: &mut [f64])
     requires { ⌜ Small z × (now firsts ≡ firstSlots (kindsOf call z)) × (any (count (now s)) (beyond (kindsOf call z) (now s)) ≡ false) ⌝ }
     requires { ⌜ (now sheet ≡ replicate (length (now sheet)) plusZero) × (slotCount (kindsOf call z) ≤ length (now sheet)) ⌝ }
     ensures { λ _. ⌜ now (sheet .exit) ≡ sheetAfter (length (now (sheet .entry))) (kindsOf call z) (now (s .entry)) (count (now (s .entry))) ⌝ }
 {
     let n = s.len() / 16;
+    let mut last: u8 = 0;
+    let mut k = kind_of(call, z, 0);
     let mut i = 0;
     while i < n {
-        let at = slot_at(call, z, firsts, s, i);
+        let kind = kind_at(s, i);
+        if kind != last {
+            last = kind;
+            k = kind_of(call, z, kind);
+        }
+        let at = slot_at(k, firsts[kind as usize], s, i);
         sheet[at] = value_at(s, i);
         i += 1;
     }

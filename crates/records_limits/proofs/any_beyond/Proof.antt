@@ -1,31 +1,51 @@
 -- `records_limits::any_beyond` meets its contract.
 use Prim.Native.Nat.{_≤_, _-_}
-use mathlib.Core.Path.{_≡_, refl, sym}
+use mathlib.Core.Path.{_≡_, refl, sym, _∙_}
 use mathlib.Core.Bool.{false}
 use denote.Ref.{now}
 use Rattle.records.specs.Scan.{any}
 use Rattle.records.proofs.ScanLaws.{any-miss, any-hit}
-use Rattle.records.specs.File.{count, beyond}
-use Rattle.records.specs.Kinds.{kindsOf}
+use Rattle.records.specs.File.{count, kindOf, beyond}
+use Rattle.records.specs.Kinds.{kindAt, kindsOf}
 use native.Mathlib.Omega.{arith}
+use mathlib.Core.Logic.{⊎-elim}
+use Rattle.records_kinds.proofs.KnownKind.{Known, asked, same-kind, kept-kind}
 use Rattle.records_limits.proofs.any_beyond.Statement.{statement}
 use Rattle.records_limits.proofs.any_beyond.Tie as tie
 
 abbrev Inv-loop : tie.InvT-loop
-Inv-loop call z s n i₀ i = (n ≡ count s) × (i ≤ n) × (any i (beyond (kindsOf call z) s) ≡ false)
+Inv-loop call z s n last₀ k₀ i₀ last k i = (n ≡ count s) × (i ≤ n) × (k ≡ kindAt (kindsOf call z) last) × (any i (beyond (kindsOf call z) s) ≡ false)
 
 abbrev μ-loop : tie.MeasureT-loop
-μ-loop call z s n i₀ i = n - i
+μ-loop call z s n last₀ k₀ i₀ last k i = n - i
+
+kind-of-requires : tie.Need-kind-of-requires Inv-loop μ-loop
+kind-of-requires c κs = tt
 
 loop-holds : tie.Need-loop-holds Inv-loop μ-loop
 unfolding any
-loop-holds c = (refl, omega arith, refl)
+loop-holds c = (refl, omega arith, c .kind-of .ensures, refl)
 
-beyond-at-requires : tie.Need-beyond-at-requires Inv-loop μ-loop
-beyond-at-requires c κs = omega arith
+kind-at-requires : tie.Need-kind-at-requires Inv-loop μ-loop
+kind-at-requires c κs = omega arith
+
+kind-of-requires-2 : tie.Need-kind-of-requires-2 Inv-loop μ-loop
+kind-of-requires-2 c κs = tt
+
+-- what the loop keeps is what the table says of record i's kind
+known-kind : (c : tie.Joined1 Inv-loop μ-loop)
+    → let a = c .before .before .before .before .before .before .args in Known (kindsOf (a .call) (a .z)) (kindOf (now (a .s)) (c .before .before .before .loop .i)) (c .if1 .last) (c .if1 .k)
+known-kind c =
+    ⊎-elim (λ w. asked _ _ _ _ _ _ (c .before .kind-at .ensures) (w .1 .ensures) (w .2) (w .3))
+    (λ w. same-kind _ _ _ _ _ _ _ (c .before .kind-at .ensures) (w .0 .left) (c .before .before .before .loop .inv .2) (w .1) (w .2)) (c .if1 .came)
+
+out-of-requires : tie.Need-out-of-requires Inv-loop μ-loop
+out-of-requires c κs = omega arith
 
 returns : tie.Need-returns Inv-loop μ-loop
-returns c = sym (any-hit _ _ (c .before .before .before .loop .i) (omega arith) (cc))
+unfolding beyond
+returns c =
+    sym (any-hit _ _ (c .before .before .before .before .before .loop .i) (omega arith) (rw (← known-kind (c .before .before) .known) (sym (c .before .out-of .ensures) ∙ c .if2 .taken)))
 
 add-i : tie.Need-add-i Inv-loop μ-loop
 add-i c = omega arith
@@ -34,10 +54,16 @@ loop-less : tie.Need-loop-less Inv-loop μ-loop
 loop-less c = omega arith
 
 loop-again : tie.Need-loop-again Inv-loop μ-loop
-loop-again c = (refl, omega arith, any-miss _ _ (c .before .before .before .loop .inv .2) (cc))
+unfolding beyond
+loop-again c = (
+  refl,
+  omega arith,
+  kept-kind _ _ _ _ (known-kind (c .before .before)),
+  any-miss _ _ (c .before .before .before .before .before .loop .inv .3) (rw (← known-kind (c .before .before) .known) (sym (c .before .out-of .ensures) ∙ c .if2 .left)),
+)
 
 returns-2 : tie.Need-returns-2 Inv-loop μ-loop
-returns-2 c = let e : c .before .loop .i ≡ count (now (c .before .before .before .args .s)) = omega arith in cc
+returns-2 c = let e : c .before .loop .i ≡ count (now (c .before .before .before .before .args .s)) = omega arith in cc
 
 pub any-beyond-spec : {M : Type 1} → statement M
 any-beyond-spec =
@@ -45,8 +71,11 @@ any-beyond-spec =
     (tie.spec
     Inv-loop
     μ-loop
+    kind-of-requires
     loop-holds
-    beyond-at-requires
+    kind-at-requires
+    kind-of-requires-2
+    out-of-requires
     returns
     add-i
     loop-less
