@@ -5,7 +5,7 @@ use mathlib.Core.Bool.{Bool, true, false, not, _&&_, _||_}
 use mathlib.Core.List.{List}
 use lib.Dec.{eqb, ltb}
 use lib.IntN.{ℤ}
-use lib.Ieee.{Float, le}
+use lib.Ieee.{Float, lt, le}
 use Rattle.arithmetic.specs.Numbers.{plusZero, isZero}
 use Rattle.arithmetic.specs.Scale.{scale}
 use Rattle.arithmetic.proofs.PlainLaws.{zero-scale}
@@ -20,7 +20,7 @@ use Rattle.records.specs.Series.{specimens, coefficients, zColumns, blockCount,
 use Rattle.records.proofs.ScanLaws.{any-same, total-same}
 use Rattle.converter.specs.Converted.{Change, kenwardRogerShift, kenwardRogerChange, converted}
 use Rattle.converter.specs.ReadAlike.{Exact, ReadAlike}
-use Rattle.converter.proofs.Series.{series-numbered, series-alike, kinds-same, blockOf-same, cell-same}
+use Rattle.converter.proofs.Series.{series-numbered, series-alike, kinds-same, blockOf-same, cell-same, sent-same}
 
 module _ (k : ℤ) (m : ℕ → ℤ) (s : List ℕ) where
   abbrev g : Change
@@ -52,7 +52,7 @@ module _ (k : ℤ) (m : ℕ → ℤ) (s : List ℕ) where
   unfolding badWeight
   badWeight-same =
       rw (alike .sameRows 5, alike .sameRows 1)
-      (ap (λ (b : Bool). present s 5 && b) (any-same (specimens s) _ _ (λ i l. ap (λ (x : Float). le x plusZero) (cell-same k m s 5 i 0 refl))))
+      (ap (λ (b : Bool). present s 5 && b) (any-same (specimens s) _ _ (λ i l. ap (λ (x : Float). lt x plusZero) (cell-same k m s 5 i 0 refl))))
 
   module _ (within : any (count s) (beyond (kinds s) s) ≡ false) (h : Exact (kenwardRogerChange k m) s) where
     scaled : (kind r c : ℕ) → kenwardRogerChange k m .rewrites kind ≡ true → cellValue s' kind r c ≡ scale (kenwardRogerShift k m kind 0 r c) (cellValue s kind r c)
@@ -74,4 +74,4 @@ module _ (k : ℤ) (m : ℕ → ℤ) (s : List ℕ) where
     -- with every limit of specimens
     pub reasons-same : (w : ℕ) → reasons w (converted (kenwardRogerChange k m) s) ≡ reasons w s
     unfolding reasons orderReasons sizeReasons valueReasons
-    reasons-same w = rw (alike .sameLength, alike .sameOrder, form-same w, badSize-same, alike .sameFinite h, sigma2-same, badWeight-same, misfit-same, zeroContrast-same)
+    reasons-same w = rw (alike .sameLength, alike .sameOrder, form-same w, badSize-same, sent-same k m s, alike .sameFinite h, sigma2-same, badWeight-same, misfit-same, zeroContrast-same)

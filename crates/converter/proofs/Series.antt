@@ -10,7 +10,8 @@ use Rattle.records.specs.declared.Value.the-variants.{Float as FloatBits}
 use Rattle.records.specs.Scan.{last}
 use Rattle.records.specs.Kinds.{Table, kindAt, kenwardRogerKinds}
 use Rattle.records.specs.File.{count, columnOf, countOf, isCell, cell, present}
-use Rattle.records.specs.Series.{specimens, coefficients, zColumns, blockCount, thetas, sizes, kinds, cellValue, blockOf, design, phi}
+use Rattle.records.specs.Shortened.{shortened}
+use Rattle.records.specs.Series.{specimens, coefficients, zColumns, blockCount, thetas, sizes, kinds, cellValue, blockOf, asSent, design, phi}
 use Rattle.records.proofs.ScanLaws.{last-same}
 use Rattle.converter.specs.Converted.{kenwardRogerChange, converted}
 use Rattle.converter.specs.ReadAlike.{OnFloats, isNumber, numbered, ReadAlike}
@@ -69,9 +70,10 @@ module _ (k : ℤ) (m : ℕ → ℤ) (s : List ℕ) where
   column-same : (kind : ℕ) → kenwardRogerChange k m .rewrites kind ≡ false → _≡_ {A = ℕ → Float} (λ i. cellValue s' kind i 0) (λ i. cellValue s kind i 0)
   column-same kind e = fun-ext (λ r. cell-same kind r 0 e)
 
-  pub design-same : design (converted (kenwardRogerChange k m) s) ≡ design s
-  unfolding design
-  design-same =
+  -- the weights too, so that the same specimens are torn
+  pub sent-same : asSent (converted (kenwardRogerChange k m) s) ≡ asSent s
+  unfolding asSent
+  sent-same =
       let n : specimens s' ≡ specimens s = ap (max 1) (alike .sameRows 1) in
       let p : coefficients s' ≡ coefficients s = ap (max 1) (alike .sameColumns 1) in
       let z : zColumns s' ≡ zColumns s = alike .sameColumns 2 in
@@ -84,6 +86,10 @@ module _ (k : ℤ) (m : ℕ → ℤ) (s : List ℕ) where
       let x4 = column-same 4 refl in
       let bs : blockOf s' ≡ blockOf s = fun-ext blockOf-same in
       cc
+
+  pub design-same : design (converted (kenwardRogerChange k m) s) ≡ design s
+  unfolding design
+  design-same = ap shortened sent-same
 
   pub phi-same : phi (converted (kenwardRogerChange k m) s) ≡ phi s
   unfolding phi

@@ -22,7 +22,8 @@ use Rattle.tests.specs.KenwardRoger.{Run}
 use Rattle.algebra.specs.Reasons.{first}
 use Rattle.records.specs.File.{lengthReasons, formReasons}
 use Rattle.records.specs.Order.{orderReasons}
-use Rattle.records.specs.Series.{coefficients, contrastRows, design, phi, sigma2, beta, betaH, contrast, sizeReasons, valueReasons, reasons, refusal}
+use Rattle.records.specs.Shortened.{shortened}
+use Rattle.records.specs.Series.{coefficients, contrastRows, asSent, design, phi, sigma2, beta, betaH, contrast, sizeReasons, valueReasons, reasons, refusal}
 use Rattle.records.specs.KenwardRogerCall.{adjusted, scaled, run, number, entries}
 use Rattle.tests.specs.Verdict.{verdict, verdicts, RunBears}
 use Rattle.converter_run.specs.joints.ConvertedInput.{Input, runOn, ConvertedInput, Multiplied, RunSizes, WrittenCells, Written, SeriesSurvives}
@@ -49,7 +50,7 @@ listed rs n b = rs ++ ((n, not (eqb n 0)) ∷ (10, b) ∷ [])
 
 module _ (c : Cutoffs) (s : List ℕ) where
   pub run-is : run c s ≡ whole c (design s) (phi s) (contrastRows s) (inputOf s)
-  unfolding run scaled adjusted design
+  unfolding run scaled adjusted design asSent shortened
   run-is = refl
 
   module _ (w : ℕ) where
@@ -114,7 +115,7 @@ module _ {t : ℕ} (w : ℕ) (c : Cutoffs) (s : List ℕ) (k : ℤ) (m : ℕ →
   }
 
   scaled-input : ConvertedInput k m (coefficients s) (contrastRows s) (inputOf s) (inputOf s')
-  unfolding design
+  unfolding design asSent shortened
   scaled-input =
       multiplied-is-converted c (coefficients s) (matrices (design s)) (contrastRows s) k m (phi s) (adjustment c (design s) (phi s)) (inputOf s) sizes near nears cells-written written
       run-bears (inputOf s') multiplied
@@ -129,7 +130,7 @@ module _ {t : ℕ} (w : ℕ) (c : Cutoffs) (s : List ℕ) (k : ℤ) (m : ℕ →
   }
 
   survives : SeriesSurvives c (design s) (phi s) (contrastRows s) (inputOf s) (inputOf s')
-  unfolding design
+  unfolding design asSent shortened
   survives = series-survives c (design s) (phi s) (contrastRows s) k m (inputOf s) (inputOf s') sizes near cells-written written scaled-input run-bears
 
   -- the converted file's design, Φ and sizes are the file's

@@ -40,6 +40,7 @@ use Rattle.records.specs.File.{count, kindOf, rowOf, columnOf, paddingOf
 use Rattle.records.specs.Order.{numbersMatrix, falls, orderReasons}
 use Rattle.records.specs.Written.{Content, fieldOf, fileOf}
 use Rattle.records.specs.Archive.{Archive, sizesAt, archived, archiveContent, archiveBytes, coefficients, parameters, sizes, kinds, cellValue, archiveOf, misscaled, valueReasons, scaledReasons, reasons, refusal}
+use Rattle.records.specs.Shortened.{shortened}
 use Rattle.records.specs.Series as series
 use Rattle.records.specs.KenwardRogerCall.{adjusted}
 use Rattle.records.specs.ArchiveCall.{seriesArchive, seriesReasons, seriesRefusal}
@@ -409,7 +410,7 @@ module _ (w : ℕ) (c : Cutoffs) (s : List ℕ) (e : seriesRefusal w c s ≡ 0) 
 
   -- so each number of the output is finite
   output-finite : outputNotFinite (series.coefficients s) (matrices (series.design s)) (series.phi s) (series.sigma2 s) (adjusted c s) ≡ false
-  unfolding adjustmentRefusal adjustmentReasons adjusted series.design
+  unfolding adjustmentRefusal adjustmentReasons adjusted series.design series.asSent shortened
   output-finite = first-none (adjustmentReasons c (series.design s) (series.phi s) (series.sigma2 s)) refl series-adjusted 3 (lit< tt)
 
   -- ---- its sizes: "coefficients p 1–6", "block parameters at most 3 over all blocks", and one P more
@@ -425,7 +426,7 @@ module _ (w : ℕ) (c : Cutoffs) (s : List ℕ) (e : seriesRefusal w c s ≡ 0) 
   -- ---- its numbers
   -- what the adjustment gives are f64 numbers in tables, all finite
   in-tables : WrittenAdjustment c (series.design s) (series.phi s)
-  unfolding series.design
+  unfolding series.design series.asSent shortened
   in-tables = adjustment-in-tables c (series.design s) (series.phi s) p-most N-most
 
   all-parts : FiniteOutput (series.coefficients s) (matrices (series.design s)) (series.phi s) (series.sigma2 s) (adjusted c s)
@@ -433,7 +434,7 @@ module _ (w : ℕ) (c : Cutoffs) (s : List ℕ) (e : seriesRefusal w c s ≡ 0) 
 
   -- so each number that is archived is an f64 number
   numbers-written : (k n r d : ℕ) → Inside (kindAt (archiveKindsOf (seriesArchive c s)) k) n r d → T (fits binary64 (archived (seriesArchive c s) k n r d))
-  unfolding seriesArchive archiveKinds sizesAt width archived adjusted series.design
+  unfolding seriesArchive archiveKinds sizesAt width archived adjusted series.design series.asSent shortened
   numbers-written =
       each-cell (archiveKindsOf (seriesArchive c s)) (λ k n r d. T (fits binary64 (archived (seriesArchive c s) k n r d))) (
         λ n r d v. mul-fits binary64 _ _,
@@ -454,7 +455,7 @@ module _ (w : ℕ) (c : Cutoffs) (s : List ℕ) (e : seriesRefusal w c s ≡ 0) 
 
   -- and finite: the adjustment's refusal 4 asks for all but Φ and sigma2, and for these the reader's does
   numbers-finite : (k n r d : ℕ) → Inside (kindAt (archiveKindsOf (seriesArchive c s)) k) n r d → isFinite (archived (seriesArchive c s) k n r d) ≡ true
-  unfolding seriesArchive archiveKinds sizesAt width archived adjusted series.design
+  unfolding seriesArchive archiveKinds sizesAt width archived adjusted series.design series.asSent shortened
   numbers-finite =
       let p : ℕ = series.coefficients s in
       let N : ℕ = matrices (series.design s) in
@@ -492,7 +493,7 @@ module _ (w : ℕ) (c : Cutoffs) (s : List ℕ) (e : seriesRefusal w c s ≡ 0) 
 
   -- WHAT IS ARCHIVED OF AN ACCEPTED SERIES CAN BE WRITTEN
   pub series-archivable : Archivable (seriesArchive c s)
-  unfolding seriesArchive adjusted series.design
+  unfolding seriesArchive adjusted series.design series.asSent shortened
   series-archivable =
       record {
         someCoefficients = series-sized w s series-facts .some;

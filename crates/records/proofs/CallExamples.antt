@@ -35,7 +35,8 @@ use Rattle.records.specs.Kinds.{kindAt, holds, width, indexOf, valueHold
 use Rattle.records.specs.Written.{recordOf}
 use Rattle.records.specs.File.{outOf, badRecord, isCell, again, has, cell as cellOf, rows, columns, beyond, missing, notFinite, lengthReasons, formReasons}
 use Rattle.records.specs.Order.{numbersMatrix, matrixOf, standsBefore, falls, orderReasons}
-use Rattle.records.specs.Series.{contrastRows, sizes, blockOf as blockRead, badSize, badWeight, misfit, zeroContrast, sizeReasons, valueReasons, reasons, refusal, design, phi, beta, betaH, contrast, sigma2}
+use Rattle.records.specs.Shortened.{torn, allTorn, keptBelow, shortened}
+use Rattle.records.specs.Series.{contrastRows, sizes, asSent, blockOf as blockRead, badSize, badWeight, misfit, zeroContrast, sizeReasons, valueReasons, reasons, refusal, design, phi, beta, betaH, contrast, sigma2}
 use Rattle.records.specs.KenwardRogerCall.{adjusted, scaled, run, returned}
 use Rattle.records.proofs.CallLaws.{fileAdjustmentRefusal, number-is, returned-is}
 use Rattle.records.proofs.Examples.{one as oneBits, pulled}
@@ -95,7 +96,7 @@ record Says : Type 0 where
   pub tenRows : contrastRows tenFile ≡ 0
 
 says : Says
-unfolding design phi beta betaH contrast table row blank fold refusal reasons lengthReasons orderReasons falls standsBefore matrixOf numbersMatrix formReasons sizeReasons valueReasons first sizes badSize badWeight misfit zeroContrast blockRead outOf badRecord isCell again has cellOf rows columns beyond missing notFinite kindAt holds width indexOf valueHolds kenwardRogerKinds limits any most last total word long bytesOf isFinite isZero ofBits le eq
+unfolding design asSent shortened allTorn torn keptBelow phi beta betaH contrast table row blank fold refusal reasons lengthReasons orderReasons falls standsBefore matrixOf numbersMatrix formReasons sizeReasons valueReasons first sizes badSize badWeight misfit zeroContrast blockRead outOf badRecord isCell again has cellOf rows columns beyond missing notFinite kindAt holds width indexOf valueHolds kenwardRogerKinds limits any most last total word long bytesOf isFinite isZero ofBits lt le eq
 says = record {
   nineTaken = refl;
   nineDesigned = refl;
@@ -138,7 +139,7 @@ ten-adjustment =
     ∙ makes .ten
 
 run-at : (s : List ℕ) → run documentCutoffs s ≡ runAt (design s) (phi s) (sigma2 s) (beta s) (betaH s) (contrastRows s) (contrast s)
-unfolding run scaled adjusted design
+unfolding run scaled adjusted design asSent shortened
 run-at s = refl
 
 ten-run : run documentCutoffs tenFile .refused ≡ true

@@ -3,16 +3,21 @@ use Prim.Native.Nat.{ℕ, _+_}
 use mathlib.Core.Path.{_≡_, refl}
 use mathlib.Core.Bool.{true, false}
 use mathlib.Core.List.{List, [], _∷_, _++_}
-use lib.Ieee.{ofBits, le, eq}
-use Rattle.arithmetic.specs.Numbers.{isFinite, isZero}
+use lib.Ieee.{ofBits, lt, le, eq}
+use Rattle.arithmetic.specs.Numbers.{plusZero as zeroNumber, isFinite, isZero}
 use Rattle.records.specs.Bytes.{word, long, bytesOf}
+use Rattle.algebra.specs.Fold.{fold}
+use Rattle.algebra.specs.Table.{row, blank, table}
 use Rattle.algebra.specs.Reasons.{first}
+use Rattle.adjustment.specs.Covariance.{Design}
 use Rattle.records.specs.Scan.{any, most, last, total}
 use Rattle.records.specs.Kinds.{kindAt, kindNumbers, holds, width, indexOf, valueHolds, kenwardRogerKinds, kenwardRoger, limits}
-use Rattle.records.specs.Written.{recordOf}
+use Rattle.records.specs.Written.{recordOf, sequence}
 use Rattle.records.specs.File.{count, outOf, badRecord, isCell, again, has, cell, rows, columns, beyond, missing, notFinite, lengthReasons, formReasons}
 use Rattle.records.specs.Order.{numbersMatrix, matrixOf, standsBefore, falls, orderReasons}
-use Rattle.records.specs.Series.{sizes, kinds, blockOf, badSize, badWeight, misfit, zeroContrast, sizeReasons, valueReasons, reasons, refusal}
+use Rattle.records.specs.Shortened.{torn, allTorn, keptBelow, shortened}
+use Rattle.records.specs.Series.{sizes, kinds, blockOf, asSent, design, badSize, badWeight, misfit, zeroContrast, sizeReasons, valueReasons, reasons, refusal}
+use Rattle.records.specs.TornKeeps.{ofSpecimen, ofTorn, newRow, renumbered, withoutTorn, columnLost}
 
 -- the bits of some numbers
 abbrev pub one : ℕ
@@ -59,7 +64,7 @@ pub record Read : Type 0 where
   pub noContrast : refusal 24 plain ≡ 0
   -- 2, "empty file", and the other causes
   pub empty : refusal 24 [] ≡ 2
-  pub torn : refusal 24 (0 ∷ []) ≡ 2
+  pub cutShort : refusal 24 (0 ∷ []) ≡ 2
   pub twice : refusal 24 blockTwice ≡ 2
   pub beyondN : refusal 24 (with (recordOf 2 2 0 0 one) []) ≡ 2
   pub badKind : refusal 24 (with [] (recordOf 11 0 0 0 one)) ≡ 2
@@ -116,12 +121,12 @@ unfolding refusal reasons lengthReasons orderReasons falls standsBefore matrixOf
 in-order = record { column = refl; row = refl; kind = refl; equal = refl; groups = refl; byCount = refl; countFalls = refl; afterLength = refl; beforeForm = refl }
 
 pub read : Read
-unfolding refusal reasons lengthReasons orderReasons falls standsBefore matrixOf numbersMatrix formReasons sizeReasons valueReasons first sizes badSize badWeight misfit zeroContrast blockOf outOf badRecord isCell again has cell rows columns beyond missing notFinite kindAt holds width indexOf valueHolds kenwardRogerKinds limits any most last total word long bytesOf isFinite isZero ofBits le eq
+unfolding refusal reasons lengthReasons orderReasons falls standsBefore matrixOf numbersMatrix formReasons sizeReasons valueReasons first sizes asSent torn allTorn row fold badSize badWeight misfit zeroContrast blockOf outOf badRecord isCell again has cell rows columns beyond missing notFinite kindAt holds width indexOf valueHolds kenwardRogerKinds limits any most last total word long bytesOf isFinite isZero ofBits lt le eq
 read = record {
   taken = refl;
   noContrast = refl;
   empty = refl;
-  torn = refl;
+  cutShort = refl;
   twice = refl;
   beyondN = refl;
   badKind = refl;
@@ -136,4 +141,74 @@ read = record {
   noGroup = refl;
   zeroRow = refl;
   lowestFirst = refl;
+}
+
+-- ---- document 02, "Req 03"
+-- the bits of -0
+abbrev minusZero : ℕ
+minusZero = 0x8000000000000000
+
+-- the weights of the two specimens
+abbrev weights : ℕ → ℕ → List ℕ
+weights a b = recordOf 5 0 0 0 a ++ recordOf 5 1 0 0 b
+
+-- the series with this number in the second row of X, and the other records of `plain`
+abbrev secondRow : ℕ → List ℕ → List ℕ
+secondRow x random = recordOf 1 0 0 0 one ++ (recordOf 1 1 0 0 x ++ (random ++ (recordOf 6 0 0 0 one ++ (recordOf 7 0 0 0 one ++ recordOf 8 0 0 0 one))))
+
+-- a column of Z whose one record is the torn specimen's, a block of one group, and a theta
+abbrev columnOfTorn : List ℕ → List ℕ
+columnOfTorn theta = with (recordOf 2 1 0 0 one ++ (recordOf 3 0 1 1 0 ++ (theta ++ weights one 0))) []
+
+-- three specimens of which the second is torn, and the first and the third as two; the other records of `secondRow`
+abbrev others : List ℕ
+others = recordOf 6 0 0 0 one ++ (recordOf 7 0 0 0 one ++ recordOf 8 0 0 0 one)
+
+abbrev middleTorn : List ℕ
+middleTorn = recordOf 1 0 0 0 one ++ (recordOf 1 1 0 0 minusOne ++ (recordOf 1 2 0 0 0x4000000000000000 ++ (recordOf 5 0 0 0 one ++ (recordOf 5 1 0 0 minusZero ++ (recordOf 5 2 0 0 one ++ others)))))
+
+abbrev middleTaken : List ℕ
+middleTaken = recordOf 1 0 0 0 one ++ (recordOf 1 1 0 0 0x4000000000000000 ++ (recordOf 5 0 0 0 one ++ (recordOf 5 1 0 0 one ++ others)))
+
+pub record TornRead : Type 0 where
+  -- "Operators enter weight 0": either zero is taken, and "Only a negative weight is refused with 6"
+  pub tornPlus : refusal 24 (with (weights one 0) []) ≡ 0
+  pub tornMinus : refusal 24 (with (weights minusZero one) []) ≡ 0
+  pub besideNegative : refusal 24 (with (weights 0 minusOne) []) ≡ 6
+  -- "A series with all weights zero falls under 3, in 3's place": before 4
+  pub allZero : refusal 24 (with (weights 0 minusZero) []) ≡ 3
+  pub beforeFour : refusal 24 (secondRow infinity (weights 0 0)) ≡ 3
+  -- "dropped after 4 is checked": an infinite number in a torn row is 4; a finite one is of no account
+  pub inTornRow : refusal 24 (secondRow infinity (weights one 0)) ≡ 4
+  pub finite : refusal 24 (secondRow minusOne (weights one 0)) ≡ 0
+  -- "sizes but n stay as sent": a torn specimen's weight is asked for, and a column of Z that only it has counts in 7
+  pub weightMissing : refusal 24 (with (recordOf 5 0 0 0 0) []) ≡ 2
+  pub columnCounts : refusal 24 (columnOfTorn (recordOf 4 0 0 0 one)) ≡ 0
+  pub thetaMissing : refusal 24 (columnOfTorn []) ≡ 7
+  -- the run has the one specimen that is kept, and the column as zero
+  pub specimens : design (columnOfTorn (recordOf 4 0 0 0 one)) .n ≡ 1
+  pub column : design (columnOfTorn (recordOf 4 0 0 0 one)) .z ≡ (zeroNumber ∷ []) ∷ []
+  -- the file with the torn rows' records taken out and the others numbered anew; where a column of Z loses its last record it is another series, here one with a group too many
+  pub takenOut : withoutTorn middleTorn ≡ middleTaken
+  pub lost : any (count (columnOfTorn (recordOf 4 0 0 0 one))) (columnLost (columnOfTorn (recordOf 4 0 0 0 one))) ≡ true
+  pub lostTaken : refusal 24 (withoutTorn (columnOfTorn (recordOf 4 0 0 0 one))) ≡ 7
+
+pub torn-read : TornRead
+unfolding withoutTorn sequence ofTorn ofSpecimen renumbered newRow columnLost refusal reasons lengthReasons orderReasons falls standsBefore matrixOf numbersMatrix formReasons sizeReasons valueReasons first sizes asSent design shortened keptBelow torn allTorn table blank row fold badSize badWeight misfit zeroContrast blockOf outOf badRecord isCell again has cell rows columns beyond missing notFinite kindAt holds width indexOf valueHolds kenwardRogerKinds limits any most last total word long bytesOf isFinite isZero ofBits lt le eq
+torn-read = record {
+  tornPlus = refl;
+  tornMinus = refl;
+  besideNegative = refl;
+  allZero = refl;
+  beforeFour = refl;
+  inTornRow = refl;
+  finite = refl;
+  weightMissing = refl;
+  columnCounts = refl;
+  thetaMissing = refl;
+  specimens = refl;
+  column = refl;
+  takenOut = refl;
+  lost = refl;
+  lostTaken = refl;
 }

@@ -7,6 +7,9 @@ pub mod ReadBack
 pub mod InOrder
 pub mod Canonical
 pub mod Limits
+pub mod KeptLaws
+pub mod ShortLaws
+pub mod KeptScans
 pub mod AcceptedSeries
 pub mod SeriesInput
 pub mod AcceptedParameters
@@ -15,6 +18,7 @@ pub mod Precisely
 pub mod SortedLaws
 pub mod TailLaws
 pub mod OwnTests
+pub mod TakenFields
 pub mod AcceptedArchive
 pub mod ArchiveBack
 pub mod ArchiveLengths
@@ -22,5 +26,9 @@ pub mod ArchiveFront
 pub mod ArchiveAgain
 pub mod ArchivePrecisely
 pub mod ArchiveKeeps
+pub mod TakenOut
+pub mod TakenSizes
+pub mod TakenAccepted
+pub mod TornKeeps
 pub mod Examples
 pub mod CallExamples

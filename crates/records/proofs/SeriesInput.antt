@@ -19,7 +19,8 @@ use Rattle.adjustment.specs.Blocks.{noBlock, blockAt, places, placesBefore}
 use Rattle.adjustment.specs.Covariance.{matrices}
 use Rattle.records.specs.Scan.{any, total}
 use Rattle.records.specs.Kinds.{kindAt, kenwardRogerKinds, limits, kenwardRoger}
-use Rattle.records.specs.Series.{coefficients, blockCount, contrastRows, kinds, cellValue, blockOf, badSize, design, phi, beta, betaH, contrast, sigma2}
+use Rattle.records.specs.Shortened.{shortened}
+use Rattle.records.specs.Series.{coefficients, blockCount, contrastRows, kinds, cellValue, blockOf, asSent, badSize, design, phi, beta, betaH, contrast, sigma2}
 use Rattle.records.proofs.ScanLaws.{or-false, total-same, fold-total}
 use Rattle.records.proofs.Limits.{rows-within, columns-within}
 use Rattle.records.proofs.AcceptedSeries.{AcceptedSeries}
@@ -41,7 +42,7 @@ series-sized w s c =
 -- ---- the blocks' parameters
 -- "block parameters at most 3": the matrices are one more
 pub matrices-bound : (w : ℕ) (s : List ℕ) → AcceptedSeries w s → matrices (design s) ≤ 4
-unfolding badSize placesBefore design
+unfolding badSize placesBefore design shortened asSent
 matrices-bound w s c =
     let b : ℕ = blockCount s in
     let n : ℕ = total b (λ i. places (blockOf s i)) in

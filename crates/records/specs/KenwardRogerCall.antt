@@ -14,7 +14,7 @@ use Rattle.records.specs.Layout.{answerBytes}
 use Rattle.tests.specs.KenwardRoger.{Scaled, scaledBy, Run, runOf}
 use Rattle.algebra.specs.Kind.{marks}
 use Rattle.algebra.specs.Reasons.{first}
-use Rattle.records.specs.Series.{reasons, specimens, coefficients, contrastRows, design, phi, sigma2, beta, betaH, contrast}
+use Rattle.records.specs.Series.{reasons, coefficients, contrastRows, design, phi, sigma2, beta, betaH, contrast}
 
 -- ---- what is computed of a file that the reader does not refuse
 module _ (c : Cutoffs) (s : List ℕ) where
@@ -51,9 +51,9 @@ module _ (w : ℕ) (c : Cutoffs) (s : List ℕ) where
   unfoldable pub rotations : ℕ
   rotations = cond (eqb number 0) (adjusted c s .rotations) 0
 
-  -- and the specimens of its run
+  -- and the specimens of its run, which are those that are not torn
   unfoldable pub specimensRun : ℕ
-  specimensRun = cond (eqb number 0) (specimens s) 0
+  specimensRun = cond (eqb number 0) (design s .n) 0
 
   -- what refuses a call, and what it returns for the lent bytes: 1, "lent length is not the stated one", 168 bytes
   unfoldable pub returnedReasons : List ℕ → List (ℕ × Bool)

@@ -6,6 +6,7 @@ pub mod Cells
 pub mod File
 pub mod Order
 pub mod Written
+pub mod Shortened
 pub mod Series
 pub mod Parameters
 pub mod Archive
@@ -15,6 +16,7 @@ pub mod KenwardRogerCall
 pub mod SatterthwaiteCall
 pub mod ArchiveCall
 pub mod ArchiveKeeps
+pub mod TornKeeps
 pub mod Text
 pub mod AnyOrder
 pub mod Bench

@@ -1,9 +1,10 @@
--- Document 01, "kenward_roger.rs (66 lines) and records" and "Refusals": a Kenward–Roger series as its file gives it, and the refusals 2, 12 and 3 to 8, which come before any computing.
+-- Document 01, "kenward_roger.rs (66 lines) and records" and "Refusals", with document 02's "Req 01" and "Req 03": a Kenward–Roger series as its file gives it, the series that is run, and the refusals 2, 12 and 3 to 8, which
+-- come before any computing.
 use Prim.Native.Nat.{ℕ, _+_, _*_, max}
 use mathlib.Core.Bool.{Bool, not, _&&_, _||_, cond}
 use mathlib.Core.List.{List, [], _∷_, _++_}
 use lib.Dec.{eqb, ltb}
-use lib.Ieee.{Float, le}
+use lib.Ieee.{Float, lt, le}
 use Rattle.arithmetic.specs.Numbers.{plusZero, isZero}
 use Rattle.algebra.specs.Table.{row, table}
 use Rattle.algebra.specs.Small.{Rows}
@@ -16,6 +17,7 @@ use Rattle.records.specs.Scan.{any, last, total}
 use Rattle.records.specs.Kinds.{Table, kenwardRogerKinds, kenwardRoger}
 use Rattle.records.specs.File.{count, columnOf, countOf, isCell, cell, rows, columns, present, notFinite, lengthReasons, formReasons}
 use Rattle.records.specs.Order.{orderReasons}
+use Rattle.records.specs.Shortened.{allTorn, shortened}
 
 -- "n and p come from the largest X indices; Z columns, blocks, thetas and contrast rows from their own kind." A series has a specimen and a coefficient: a file with no X misses its
 -- first cell.
@@ -74,15 +76,30 @@ blockOf s b =
       groups = last (count s) (isCell (kinds s) s 3 0 b 0) (countOf s) 0;
     }
 
+-- ---- the design as the file sends it
+unfoldable pub asSent : List ℕ → Design
+asSent s = record {
+  n = specimens s;
+  p = coefficients s;
+  x = table plusZero (specimens s) (coefficients s) (specimens s) (coefficients s) (cellValue s 1);
+  z = table plusZero (specimens s) (zColumns s) (specimens s) (zColumns s) (cellValue s 2);
+  weighted = present s 5;
+  weights = row plusZero (weightCount s) (weightCount s) (λ i. cellValue s 5 i 0);
+  blocks = row noBlock 3 (blockCount s) (blockOf s);
+  count = blockCount s;
+  theta = row plusZero 3 (thetas s) (λ i. cellValue s 4 i 0);
+}
+
+-- ---- what refuses it
 -- 3, "a size outside its limits": a block of other than 1 or 2 effects or without a group, or more than 3 block parameters. Any other size is bounded by 2.
 unfoldable pub badSize : List ℕ → Bool
 badSize s =
     any (blockCount s) (λ b. not (eqb (blockOf s b .effects) 1 || eqb (blockOf s b .effects) 2) || eqb (blockOf s b .groups) 0)
     || ltb 3 (total (blockCount s) (λ b. places (blockOf s b)))
 
--- 6
+-- 6, by document 02, "Req 03": "Only a negative weight is refused with 6"
 unfoldable pub badWeight : List ℕ → Bool
-badWeight s = present s 5 && any (specimens s) (λ i. le (cellValue s 5 i 0) plusZero)
+badWeight s = present s 5 && any (specimens s) (λ i. lt (cellValue s 5 i 0) plusZero)
 
 -- 7, "sum of m·k ≠ Z columns, or theta count ≠ sum of k(k+1)/2"
 unfoldable pub misfit : List ℕ → Bool
@@ -95,8 +112,9 @@ unfoldable pub zeroContrast : List ℕ → Bool
 zeroContrast s = present s 9 && not (any (contrastRows s) (λ r. any (coefficients s) (λ c. not (isZero (cellValue s 9 r c)))))
 
 -- "Refusals, lowest number first": what refuses a file before anything is computed, in order: its length, its form, its sizes, its values. w is the limit of specimens.
+-- "Req 03": "A series with all weights zero falls under 3, in 3's place"
 unfoldable pub sizeReasons : List ℕ → List (ℕ × Bool)
-sizeReasons s = (3, badSize s) ∷ []
+sizeReasons s = (3, badSize s || allTorn (asSent s)) ∷ []
 
 unfoldable pub valueReasons : List ℕ → List (ℕ × Bool)
 valueReasons s =
@@ -111,7 +129,7 @@ valueReasons s =
 abbrev pub contentReasons : ℕ → List ℕ → List (ℕ × Bool)
 contentReasons w s = formReasons (kenwardRoger w) (kinds s) s ++ (sizeReasons s ++ valueReasons s)
 
--- document 01's list, for records "in any order": "length not a multiple of 16", then the rest
+-- document 01's list, with 3 and 6 as "Req 03" has them, for records "in any order": "length not a multiple of 16", then the rest
 unfoldable pub anyOrderReasons : ℕ → List ℕ → List (ℕ × Bool)
 anyOrderReasons w s = lengthReasons s ++ contentReasons w s
 
@@ -123,18 +141,9 @@ unfoldable pub refusal : ℕ → List ℕ → ℕ
 refusal w s = first (reasons w s)
 
 -- ---- the series of a file that is not refused
+-- Document 02, "Req 03": "The answer equals the definition's on the shortened series": the design without its torn specimens
 unfoldable pub design : List ℕ → Design
-design s = record {
-  n = specimens s;
-  p = coefficients s;
-  x = table plusZero (specimens s) (coefficients s) (specimens s) (coefficients s) (cellValue s 1);
-  z = table plusZero (specimens s) (zColumns s) (specimens s) (zColumns s) (cellValue s 2);
-  weighted = present s 5;
-  weights = row plusZero (weightCount s) (weightCount s) (λ i. cellValue s 5 i 0);
-  blocks = row noBlock 3 (blockCount s) (blockOf s);
-  count = blockCount s;
-  theta = row plusZero 3 (thetas s) (λ i. cellValue s 4 i 0);
-}
+design s = shortened (asSent s)
 
 unfoldable pub phi : List ℕ → Rows
 phi s = table plusZero 6 6 (coefficients s) (coefficients s) (cellValue s 6)

@@ -9,7 +9,7 @@ ghost use Rattle.records.specs.KenwardRogerCall.{adjusted};
 ghost use Rattle.records.specs.Archive.{archiveBytes};
 ghost use Rattle.records.specs.ArchiveCall.{seriesArchive, archivingReturned, archivingWritten};
 ghost use Rattle.records_sheet.specs.joints.Sheet.{firstSlots};
-ghost use Rattle.records_refusals.specs.joints.Room.{Room, SeriesRead};
+ghost use Rattle.records_refusals.specs.joints.Room.{Room, SeriesRead, SeriesShort};
 use arithmetic_cutoffs::Cutoffs;
 use arithmetic_cutoffs::document_cutoffs;
 use records::Sizes;
@@ -36,7 +36,7 @@ fn put_series(
     w: &[[f64; 6]; 6],
     archive: &mut [u8],
 ) -> u32
-    requires { ⌜ SeriesRead limit (now s) z (now firsts) (now sheet) × (length (now archive) ≡ 7184) ⌝ }
+    requires { ⌜ SeriesShort limit (now s) z (now firsts) (now sheet) × (length (now archive) ≡ 7184) ⌝ }
     requires { ⌜ (now «phi_a» ≡ adjusted c (now s) .phiA) × (now ps ≡ adjusted c (now s) .ps) × (now w ≡ adjusted c (now s) .w) ⌝ }
     ensures { λ r. ⌜ r ≡ length (archiveBytes (seriesArchive c (now (s .entry)))) ⌝ }
     ensures { λ _. ⌜ now (archive .exit) ≡ sets (now (archive .entry)) 0 (archiveBytes (seriesArchive c (now (s .entry)))) ⌝ }
@@ -52,12 +52,12 @@ fn put_series(
     told(put_archive(archive, p, n, &phi, phi_a, ps, w, sigma2))
 }
 
-// The same from the series' bytes and sheet: the adjustment's number where it refuses, and then the lent bytes stay as they are.
+// The same from the series' bytes and sheet, on which the torn specimens are left out: the adjustment's number where it refuses, and then the lent bytes stay as they are.
 fn adjust_and_put(
     limit: usize,
     c: Cutoffs,
     s: &[u8],
-    sheet: &[f64],
+    sheet: &mut [f64],
     work: &mut [f64],
     narrow: &mut [f64],
     archive: &mut [u8],
@@ -69,6 +69,7 @@ fn adjust_and_put(
 {
     let z = records_sizes::series_sizes(s);
     let firsts = records_sheet::first_slots(0, z);
+    let n = records_torn::shorten(z, &firsts, sheet);
     let blank = algebra_products::zeros();
     let mut phi_a = blank;
     let mut ps = [blank; 4];
@@ -79,8 +80,9 @@ fn adjust_and_put(
         c,
         s,
         z,
+        n,
         &firsts,
-        sheet,
+        &sheet[..],
         work,
         narrow,
         &mut phi_a,
@@ -91,7 +93,18 @@ fn adjust_and_put(
     if late != 0 {
         return late;
     }
-    put_series(limit, c, s, z, &firsts, sheet, &phi_a, &ps, &w, archive)
+    put_series(
+        limit,
+        c,
+        s,
+        z,
+        &firsts,
+        &sheet[..],
+        &phi_a,
+        &ps,
+        &w,
+        archive,
+    )
 }
 
 // The archive of a file, whatever its bytes are, with a limit of specimens. What is lent for the reading and for the adjustment has the room that the limit asks for.
@@ -116,7 +129,7 @@ pub fn archive_series(
     if early != 0 {
         return early;
     }
-    adjust_and_put(limit, c, s, &sheet[..], work, narrow, archive)
+    adjust_and_put(limit, c, s, sheet, work, narrow, archive)
 }
 
 // The call with its cutoffs, at the panel, whose limit is 24 specimens: the records, and 7,184 bytes for the archive. Returns its length, or the number of the refusal, and then leaves the bytes as they are.

@@ -7,7 +7,7 @@ ghost use Rattle.records_contrast.specs.joints.Contrast.{nonzeros, zeroC
 use records::Sizes;
 
 // One of the m numbers from `at` on is not zero.
-fn any_nonzero(sheet: &[f64], at: usize, m: usize) -> bool
+pub fn any_nonzero(sheet: &[f64], at: usize, m: usize) -> bool
     requires { ⌜ at + m ≤ length (now sheet) ⌝ }
     ensures { λ b. ⌜ b ≡ nonzeros (now (sheet .entry)) at m ⌝ }
 {

@@ -11,7 +11,7 @@ use Rattle.tests.specs.declared.Entry.{Entry}
 use Rattle.tests.specs.Answer.{noEntry}
 use Rattle.records.specs.Layout.{answerBytes}
 use Rattle.tests.specs.Entries.{runRefusal, runEntries}
-use Rattle.records.specs.Series.{refusal, specimens}
+use Rattle.records.specs.Series.{refusal, design}
 use Rattle.records.specs.KenwardRogerCall.{adjusted, run, number, entries, rotations, specimensRun, returned, written}
 use Rattle.records.proofs.CallLaws.{fileAdjustmentRefusal, number-is, returned-is}
 
@@ -58,7 +58,7 @@ module _ (w : ℕ) (c : Cutoffs) (s : List ℕ) where
   unfolding rotations
   own-rotations n e z = e ∙ rw (eq-eqb (number w c s) 0 (sym z))
 
-  own-specimens : (n : ℕ) → n ≡ specimens s → 0 ≡ number w c s → n ≡ specimensRun w c s
+  own-specimens : (n : ℕ) → n ≡ design s .n → 0 ≡ number w c s → n ≡ specimensRun w c s
   unfolding specimensRun
   own-specimens n e z = e ∙ rw (eq-eqb (number w c s) 0 (sym z))
 
@@ -74,7 +74,7 @@ module _ (w : ℕ) (c : Cutoffs) (s : List ℕ) where
     run-rotations true m n e f p = p ∙ no-rotations 10 (pivot-number r a true e refl) (omega arith)
     run-rotations false m n e f p = p ∙ own-rotations m f (no-number r a false e refl)
 
-    pub run-specimens : (b : Bool) (m n : ℕ) → b ≡ run c s .refused → m ≡ specimens s → n ≡ cond b 0 m → n ≡ specimensRun w c s
+    pub run-specimens : (b : Bool) (m n : ℕ) → b ≡ run c s .refused → m ≡ design s .n → n ≡ cond b 0 m → n ≡ specimensRun w c s
     run-specimens true m n e f p = p ∙ no-specimens 10 (pivot-number r a true e refl) (omega arith)
     run-specimens false m n e f p = p ∙ own-specimens m f (no-number r a false e refl)
 

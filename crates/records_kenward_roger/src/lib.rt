@@ -10,7 +10,7 @@ ghost use Rattle.records.specs.Series.{sizes, kinds, design, phi, sigma2};
 ghost use Rattle.records_sheet.specs.joints.Sheet.{firstSlots};
 ghost use Rattle.adjustment.specs.Adjusted.{adjustmentRefusal};
 ghost use Rattle.adjustment_adjusted.specs.joints.FromInformation.{accepted};
-ghost use Rattle.records_refusals.specs.joints.Room.{Room, SeriesRead};
+ghost use Rattle.records_refusals.specs.joints.Room.{Room, SeriesRead, SeriesShort};
 ghost use Rattle.records.specs.KenwardRogerCall.{adjusted, run, number, entries, rotations, specimensRun, returned, written};
 use adjustment_kr_vcov_adj::vcov_adj16_with_pw;
 use arithmetic_cutoffs::Cutoffs;
@@ -24,13 +24,14 @@ use tests::Entry;
 use tests_entries::answer_of;
 use tests_entries::no_entry;
 
-// The adjustment of a series that the reader takes, from its sheet, in lent slices with room for six squares of as many rows as it has specimens, and for six parts of so many rows of 6: no more is cleared
-// than the series uses. Returns 0, or 9, 10 or 4: then what is lent for answers stays as it is.
+// The adjustment of a series that the reader takes, from its sheet, on which n specimens are left that are not torn, in lent slices with room for six squares of as many rows, and for six parts of so many
+// rows of 6: no more is cleared than the series uses. Returns 0, or 9, 10 or 4: then what is lent for answers stays as it is.
 pub fn kenward_roger_modcomp_data(
     limit: usize,
     c: Cutoffs,
     s: &[u8],
     z: Sizes,
+    n: usize,
     firsts: &[usize; 34],
     sheet: &[f64],
     work: &mut [f64],
@@ -40,7 +41,7 @@ pub fn kenward_roger_modcomp_data(
     w: &mut [[f64; 6]; 6],
     rotations: &mut usize,
 ) -> u32
-    requires { ⌜ SeriesRead limit (now s) z (now firsts) (now sheet) × (6 * (limit * limit) ≤ length (now work)) × (36 * limit ≤ length (now narrow)) ⌝ }
+    requires { ⌜ SeriesShort limit (now s) z (now firsts) (now sheet) × (n ≡ design (now s) .n) × (6 * (limit * limit) ≤ length (now work)) × (36 * limit ≤ length (now narrow)) ⌝ }
     ensures { λ r. ⌜ r ≡ adjustmentRefusal c (design (now (s .entry))) (phi (now (s .entry))) (sigma2 (now (s .entry))) ⌝ }
     ensures { λ r. ⌜ now («phi_a» .exit) ≡ accepted r (adjusted c (now (s .entry)) .phiA) (now («phi_a» .entry)) ⌝ }
     ensures { λ r. ⌜ now (ps .exit) ≡ accepted r (adjusted c (now (s .entry)) .ps) (now (ps .entry)) ⌝ }
@@ -48,7 +49,6 @@ pub fn kenward_roger_modcomp_data(
     ensures { λ r. ⌜ now (rotations .exit) ≡ accepted r (adjusted c (now (s .entry)) .rotations) (now (rotations .entry)) ⌝ }
 {
     let p = z.coefficients;
-    let n = z.specimens;
     let squares = 6 * (n * n);
     let parts = 36 * n;
     // X, Z, the blocks, the thetas, the weights, Φ and sigma2 start here.
@@ -59,6 +59,7 @@ pub fn kenward_roger_modcomp_data(
     let weights = firsts[5];
     let square = firsts[6];
     let variance = firsts[7];
+    let weighed = weights + records_kinds::given(z.weighted, n);
     let blocks = records_series::blocks_of(s, z.blocks);
     let theta = records_sheet_parts::three_at(sheet, thetas, z.thetas);
     let phi = cells_at(sheet, square, p, p);
@@ -72,7 +73,7 @@ pub fn kenward_roger_modcomp_data(
         z.columns,
         z.columns,
         z.weighted,
-        &sheet[weights..square],
+        &sheet[weights..weighed],
         blocks,
         z.blocks,
         theta,
@@ -101,7 +102,7 @@ pub fn tests_of(
     w: [[f64; 6]; 6],
     refused: &mut bool,
 ) -> [Entry; 7]
-    requires { ⌜ SeriesRead limit (now s) z (now firsts) (now sheet) ⌝ }
+    requires { ⌜ SeriesShort limit (now s) z (now firsts) (now sheet) ⌝ }
     requires { ⌜ («phi_a» ≡ adjusted c (now s) .phiA) × (ps ≡ adjusted c (now s) .ps) × (w ≡ adjusted c (now s) .w) ⌝ }
     ensures { λ r. ⌜ r ≡ run c (now (s .entry)) .entries ⌝ }
     ensures { λ r. ⌜ now (refused .exit) ≡ run c (now (s .entry)) .refused ⌝ }
@@ -146,12 +147,12 @@ fn counted(refused: bool, made: usize) -> usize
     made
 }
 
-// The run of a series that the reader takes: its number, its entries, the rotations that its adjustment made, and its specimens.
+// The run of a series that the reader takes: its number, its entries, the rotations that its adjustment made, and its specimens. Those that are torn are left out on its sheet.
 fn run_of(
     limit: usize,
     c: Cutoffs,
     s: &[u8],
-    sheet: &[f64],
+    sheet: &mut [f64],
     work: &mut [f64],
     narrow: &mut [f64],
     told: &mut u32,
@@ -166,6 +167,7 @@ fn run_of(
 {
     let z = records_sizes::series_sizes(s);
     let firsts = records_sheet::first_slots(0, z);
+    let n = records_torn::shorten(z, &firsts, sheet);
     let blank = algebra_products::zeros();
     let mut phi_a = blank;
     let mut ps = [blank; 4];
@@ -176,8 +178,9 @@ fn run_of(
         c,
         s,
         z,
+        n,
         &firsts,
-        sheet,
+        &sheet[..],
         work,
         narrow,
         &mut phi_a,
@@ -192,9 +195,20 @@ fn run_of(
         return [no_entry(); 7];
     }
     let mut refused = false;
-    let es = tests_of(limit, c, s, z, &firsts, sheet, phi_a, ps, w, &mut refused);
+    let es = tests_of(
+        limit,
+        c,
+        s,
+        z,
+        &firsts,
+        &sheet[..],
+        phi_a,
+        ps,
+        w,
+        &mut refused,
+    );
     *made = counted(refused, count);
-    *pulled = counted(refused, z.specimens);
+    *pulled = counted(refused, n);
     answer_of(refused, es, told)
 }
 
@@ -224,7 +238,7 @@ pub fn judge(
         *pulled = 0;
         return [no_entry(); 7];
     }
-    run_of(limit, c, s, &sheet[..], work, narrow, told, made, pulled)
+    run_of(limit, c, s, sheet, work, narrow, told, made, pulled)
 }
 
 // The same at the panel, whose limit is 24 specimens: room for every cell that it allows, for six squares of 24 rows of 24 and for six parts of 24 rows of 6.

@@ -2,13 +2,13 @@
 use Prim.Native.Nat.{ℕ, _+_, _*_, _%_, _<_, _≤_}
 use native.Mathlib.Omega.{arith}
 use mathlib.Core.Path.{_≡_, refl, sym, ap, _∙_, subst}
-use mathlib.Core.Bool.{Bool, true, false, _&&_, cond}
+use mathlib.Core.Bool.{Bool, true, false, not, _&&_, _||_, cond}
 use mathlib.Core.List.{List, _++_}
 use lib.Dec.{eqb, lit≤}
 use lib.ListN.{length, getD}
-use lib.Ieee.{Float, nan, le}
+use lib.Ieee.{Float, nan, lt, le}
 use borrow.Author.Tests.{eqb-true, eq-eqb, ne-eqb, not-false}
-use Rattle.arithmetic.specs.Numbers.{plusZero}
+use Rattle.arithmetic.specs.Numbers.{plusZero, isZero}
 use Rattle.algebra.specs.Table.{row}
 use Rattle.algebra.specs.Reasons.{first}
 use Rattle.algebra.proofs.ReasonLaws.{Line, NoneHolds, first-none, first-append}
@@ -20,8 +20,11 @@ use Rattle.records.specs.Kinds.{width, Table, kindAt, kindsOf, kenwardRogerKind
 use Rattle.records.specs.Cells.{firstSlot, slotCount}
 use Rattle.records.specs.File.{count, badRecord, again, beyond, notFinite, present, lengthReasons, formReasons}
 use Rattle.records.specs.Order.{orderReasons}
-use Rattle.records.specs.Series.{specimens, coefficients, blockCount, contrastRows, sizes, kinds, cellValue, sigma2, blockOf, badSize, badWeight, misfit, zeroContrast, sizeReasons, valueReasons, reasons, refusal}
-use Rattle.records.proofs.ScanLaws.{any-same}
+use Rattle.records.specs.Shortened.{torn, allTorn, keptSpecimens}
+use Rattle.records.specs.Series.{specimens, coefficients, blockCount, sizes, kinds, cellValue, sigma2, blockOf, asSent, badSize, badWeight, misfit, zeroContrast, sizeReasons, valueReasons, reasons, refusal}
+use Rattle.records.proofs.ScanLaws.{any-same, any-hit}
+use Rattle.records.proofs.KeptLaws.{kept-same}
+use Rattle.records.proofs.ShortLaws.{torn-is}
 use Rattle.records.proofs.Limits.{Below}
 use Rattle.records_sizes.specs.joints.Gathered.{sizesOf, tableOf}
 use Rattle.records_sheet.specs.joints.Sheet.{Small, firstSlots, sheetAfter}
@@ -30,9 +33,10 @@ use Rattle.records_sheet_parts.proofs.Read.{Flat, flat-slots, line-cell, alone-
 use Rattle.records_form.proofs.FormLaws.{rawNumberBy, sizes-below, sizes-fit}
 use Rattle.records_block_limits.specs.joints.Checks.{badSizeIn, misfitIn}
 use Rattle.records_block_limits.proofs.BlockLaws.{size-read, misfit-read}
-use Rattle.records_contrast.specs.joints.Contrast.{zeroContrastIn}
+use Rattle.records_contrast.specs.joints.Contrast.{nonzeros, zeroContrastIn}
 use Rattle.records_contrast.proofs.ContrastLaws.{contrast-read}
-use Rattle.records_refusals.specs.joints.Checks.{notPositive, badWeightIn, sheetRefusal}
+use Rattle.records_torn.specs.joints.Packed.{tornAt, keptIn}
+use Rattle.records_refusals.specs.joints.Checks.{negatives, badWeightIn, allTornIn, sheetRefusal}
 
 -- ---- where the weights, sigma2 and the contrast stand
 module _ (z : Sizes) where
@@ -75,6 +79,11 @@ and-same : (a b c : Bool) → (a ≡ true → b ≡ c) → a && b ≡ a && c
 and-same true b c h = h refl
 and-same false b c h = refl
 
+-- whether a question is asked at all, of some numbers, or with each of them
+none-stays : (b : Bool) (n : ℕ) (p : ℕ → Bool) → 1 ≤ n → b && not (any n (λ i. not (p i))) ≡ not (any n (λ i. not (b && p i)))
+none-stays true n p l = refl
+none-stays false n p l = sym (ap not (any-hit n (λ i. true) 0 l refl))
+
 module _ (s : List ℕ) (within : any (count s) (beyond (kindsOf 0 (sizes s)) s) ≡ false) (N : ℕ) (room : slotCount (kindsOf 0 (sizes s)) ≤ N) where
   abbrev u : Table
   u = kindsOf 0 (sizes s)
@@ -90,11 +99,30 @@ module _ (s : List ℕ) (within : any (count s) (beyond (kindsOf 0 (sizes s)) s)
   unfolding sizes
   weighted-flat h = subst (λ (b : Bool). Flat (kindAt u 5) (cond b (specimens s) 0) 1) h (weight-flat (sizes s))
 
+  -- a weight on the sheet is the file's
+  weight-cell : present s 5 ≡ true → (i : ℕ) → i < specimens s → getD sheet (firstSlot u 5 + i) nan ≡ cellValue s 5 i 0
+  unfolding kindsOf
+  weight-cell h i l = line-cell 0 (sizes s) s within N room 5 (specimens s) i (weighted-flat h) l
+
   weight-read : badWeightIn (sizes s) sheet (firstSlot u 5) ≡ badWeight s
-  unfolding badWeightIn badWeight notPositive kindsOf sizes
+  unfolding badWeightIn badWeight negatives sizes
   weight-read =
-      and-same (present s 5) (any (specimens s) (λ i. le (getD sheet (firstSlot u 5 + i) nan) plusZero)) (any (specimens s) (λ i. le (cellValue s 5 i 0) plusZero))
-      (λ h. any-same (specimens s) (λ i. le (getD sheet (firstSlot u 5 + i) nan) plusZero) (λ i. le (cellValue s 5 i 0) plusZero) (λ i l. ap (λ (x : Float). le x plusZero) (line-cell 0 (sizes s) s within N room 5 (specimens s) i (weighted-flat h) l)))
+      and-same (present s 5) (any (specimens s) (λ i. lt (getD sheet (firstSlot u 5 + i) nan) plusZero)) (any (specimens s) (λ i. lt (cellValue s 5 i 0) plusZero))
+      (λ h. any-same (specimens s) (λ i. lt (getD sheet (firstSlot u 5 + i) nan) plusZero) (λ i. lt (cellValue s 5 i 0) plusZero) (λ i l. ap (λ (x : Float). lt x plusZero) (weight-cell h i l)))
+
+  -- the sheet tells which specimens are torn, and so which are kept and whether all are torn
+  torn-cell : (i : ℕ) → i < specimens s → present s 5 && tornAt sheet (firstSlot u 5) i ≡ torn (asSent s) i
+  torn-cell i l = and-same (present s 5) (tornAt sheet (firstSlot u 5) i) (isZero (cellValue s 5 i 0)) (λ h. ap isZero (weight-cell h i l)) ∙ sym (torn-is s i l)
+
+  pub kept-on-sheet : keptIn (sizes s) sheet ≡ keptSpecimens (asSent s)
+  unfolding keptIn sizes asSent
+  kept-on-sheet = kept-same (specimens s) (λ i. present s 5 && tornAt sheet (firstSlot u 5) i) (torn (asSent s)) torn-cell
+
+  all-torn-read : allTornIn (sizes s) sheet (firstSlot u 5) ≡ allTorn (asSent s)
+  unfolding allTornIn nonzeros allTorn sizes asSent
+  all-torn-read =
+      none-stays (present s 5) (specimens s) (tornAt sheet (firstSlot u 5)) (omega arith)
+      ∙ ap not (any-same (specimens s) (λ i. not (present s 5 && tornAt sheet (firstSlot u 5) i)) (λ i. not (torn (asSent s) i)) (λ i l. ap not (torn-cell i l)))
 
   zero-read : zeroContrastIn (sizes s) sheet (firstSlot u 9) ≡ zeroContrast s
   unfolding zeroContrast kindsOf sizes
@@ -109,7 +137,7 @@ abbrev pub rawNumber : ℕ → List ℕ → ℕ
 rawNumber w s = rawNumberBy (kindsOf 0 (limits w)) (tableOf 0 s) s
 
 abbrev lateNumber : List ℕ → ℕ
-lateNumber s = cond (badSize s) 3 (cond (any (count s) (notFinite s)) 4 (cond (le (sigma2 s) plusZero) 5 (cond (badWeight s) 6 (cond (misfit s) 7 (cond (zeroContrast s) 8 0)))))
+lateNumber s = cond (badSize s || allTorn (asSent s)) 3 (cond (any (count s) (notFinite s)) 4 (cond (le (sigma2 s) plusZero) 5 (cond (badWeight s) 6 (cond (misfit s) 7 (cond (zeroContrast s) 8 0)))))
 
 pub refusal-cases : (w : ℕ) (s : List ℕ) → refusal w s ≡ cond (eqb (rawNumber w s) 0) (lateNumber s) (rawNumber w s)
 unfolding refusal reasons lengthReasons orderReasons formReasons sizeReasons valueReasons first kindsOf sizesOf
@@ -173,21 +201,34 @@ module _ (w : ℕ) (s : List ℕ) (z : Sizes) (h : Sound w s z) where
       let l = h .few in
       e ∙ rw (eb, n) (size-read s (omega arith))
 
+  -- its sheet has room for its cells, which lie within its sizes
+  own-within : any (count s) (beyond (kindsOf 0 (sizes s)) s) ≡ false
+  own-within = subst (λ (y : Sizes). any (count s) (beyond (kindsOf 0 y) s) ≡ false) (h .sized) (h .within)
+
+  own-room : (N : ℕ) → slotCount (kindsOf 0 (limits w)) ≤ N → slotCount (kindsOf 0 (sizes s)) ≤ N
+  own-room N l = let f = h .fit in subst (λ (y : Sizes). slotCount (kindsOf 0 y) ≤ N) (h .sized) (omega arith)
+
+  -- what the code finds of all weights is what the file says of them
+  pub all-torn-is : (N : ℕ) (fs : List ℕ) (xs : List Float) (b : Bool) → slotCount (kindsOf 0 (limits w)) ≤ N → fs ≡ firstSlots (kindsOf 0 z) → xs ≡ sheetAfter N (kindsOf 0 z) s (count s) → b ≡ allTornIn z xs (getD fs 5 0) → b ≡ allTorn (asSent s)
+  all-torn-is N fs xs b l ef ex e = e ∙ rw (starts z 5 fs (lit≤ tt) ef, ex, h .sized) (all-torn-read s own-within N (own-room N l))
+
   pub size-refuses : badSize s ≡ true → 3 ≡ refusal w s
   size-refuses b = sym (late-is ∙ rw b)
 
-  pub value-refuses : badSize s ≡ false → any (count s) (notFinite s) ≡ true → 4 ≡ refusal w s
-  value-refuses b v = sym (late-is ∙ rw (b, v))
+  -- the later ones, of a file of good sizes
+  module _ (b : badSize s ≡ false) where
+    pub torn-refuses : allTorn (asSent s) ≡ true → 3 ≡ refusal w s
+    torn-refuses a = sym (late-is ∙ rw (b, a))
 
-  pub sheet-refuses : (N : ℕ) (bs : List Block) (xs : List Float) (r : ℕ) → badSize s ≡ false → any (count s) (notFinite s) ≡ false → slotCount (kindsOf 0 (limits w)) ≤ N → bs ≡ row noBlock 3 (z .blocks) (blockOf s) → xs ≡ sheetAfter N (kindsOf 0 z) s (count s)
-      → r ≡ sheetRefusal z bs xs → r ≡ refusal w s
-  unfolding sizes
-  sheet-refuses N bs xs r b v l eb ex e =
-      let n : z .blocks ≡ blockCount s = ap (λ (y : Sizes). y .blocks) (h .sized) in
-      let m = h .few in
-      let f = h .fit in
-      let q = subst (λ (y : Sizes). any (count s) (beyond (kindsOf 0 y) s) ≡ false) (h .sized) (h .within) in
-      let k = subst (λ (y : Sizes). slotCount (kindsOf 0 y) ≤ N) (h .sized) (omega arith) in
-      let a : sheetRefusal z bs xs ≡ cond (le (sigma2 s) plusZero) 5 (cond (badWeight s) 6 (cond (misfit s) 7 (cond (zeroContrast s) 8 0))) = rw (ex, eb, n, h .sized) (sheet-read s q N k (omega arith)) in
-      let d : refusal w s ≡ cond (le (sigma2 s) plusZero) 5 (cond (badWeight s) 6 (cond (misfit s) 7 (cond (zeroContrast s) 8 0))) = late-is ∙ rw (b, v) in
-      e ∙ a ∙ sym d
+    pub value-refuses : allTorn (asSent s) ≡ false → any (count s) (notFinite s) ≡ true → 4 ≡ refusal w s
+    value-refuses a v = sym (late-is ∙ rw (b, a, v))
+
+    pub sheet-refuses : (N : ℕ) (bs : List Block) (xs : List Float) (r : ℕ) → allTorn (asSent s) ≡ false → any (count s) (notFinite s) ≡ false → slotCount (kindsOf 0 (limits w)) ≤ N → bs ≡ row noBlock 3 (z .blocks) (blockOf s) → xs ≡ sheetAfter N (kindsOf 0 z) s (count s)
+        → r ≡ sheetRefusal z bs xs → r ≡ refusal w s
+    unfolding sizes
+    sheet-refuses N bs xs r a v l eb ex e =
+        let n : z .blocks ≡ blockCount s = ap (λ (y : Sizes). y .blocks) (h .sized) in
+        let m = h .few in
+        let f : sheetRefusal z bs xs ≡ cond (le (sigma2 s) plusZero) 5 (cond (badWeight s) 6 (cond (misfit s) 7 (cond (zeroContrast s) 8 0))) = rw (ex, eb, n, h .sized) (sheet-read s own-within N (own-room N l) (omega arith)) in
+        let d : refusal w s ≡ cond (le (sigma2 s) plusZero) 5 (cond (badWeight s) 6 (cond (misfit s) 7 (cond (zeroContrast s) 8 0))) = late-is ∙ rw (b, a, v) in
+        e ∙ f ∙ sym d

@@ -9,21 +9,21 @@ ghost use Rattle.records.specs.Cells.{slotCount};
 ghost use Rattle.records.specs.File.{count};
 ghost use Rattle.records.specs.Series.{kinds, refusal};
 ghost use Rattle.records_sheet.specs.joints.Sheet.{Small, firstSlots, sheetAfter};
-ghost use Rattle.records_refusals.specs.joints.Checks.{notPositive, badWeightIn, sheetRefusal};
+ghost use Rattle.records_refusals.specs.joints.Checks.{negatives, badWeightIn, allTornIn, sheetRefusal};
 ghost use Rattle.records_refusals.specs.joints.Room.{Room};
 use records::Sizes;
 use records_block_limits::bad_size;
 use records_block_limits::misfit;
 use records_series::blocks_of;
 
-// One of the m numbers from `at` on is not above zero.
-fn any_not_positive(sheet: &[f64], at: usize, m: usize) -> bool
+// One of the m numbers from `at` on is below zero.
+fn any_negative(sheet: &[f64], at: usize, m: usize) -> bool
     requires { ⌜ at + m ≤ length (now sheet) ⌝ }
-    ensures { λ b. ⌜ b ≡ notPositive (now (sheet .entry)) at m ⌝ }
+    ensures { λ b. ⌜ b ≡ negatives (now (sheet .entry)) at m ⌝ }
 {
     let mut j = 0;
     while j < m {
-        if sheet[at + j] <= 0.0 {
+        if sheet[at + j] < 0.0 {
             return true;
         }
         j += 1;
@@ -31,13 +31,24 @@ fn any_not_positive(sheet: &[f64], at: usize, m: usize) -> bool
     false
 }
 
-// A weight that is not above zero: number 6. The weights start at `at`.
+// A weight below zero: number 6. The weights start at `at`.
 fn bad_weight(z: Sizes, sheet: &[f64], at: usize) -> bool
     requires { ⌜ at + cond (z .weighted) (z .specimens) 0 ≤ length (now sheet) ⌝ }
     ensures { λ r. ⌜ r ≡ badWeightIn z (now (sheet .entry)) at ⌝ }
 {
     if z.weighted {
-        return any_not_positive(sheet, at, z.specimens);
+        return any_negative(sheet, at, z.specimens);
+    }
+    false
+}
+
+// No specimen has a weight other than zero: number 3. The weights start at `at`.
+fn all_torn(z: Sizes, sheet: &[f64], at: usize) -> bool
+    requires { ⌜ at + cond (z .weighted) (z .specimens) 0 ≤ length (now sheet) ⌝ }
+    ensures { λ r. ⌜ r ≡ allTornIn z (now (sheet .entry)) at ⌝ }
+{
+    if z.weighted {
+        return !records_contrast::any_nonzero(sheet, at, z.specimens);
     }
     false
 }
@@ -86,10 +97,14 @@ pub fn refusal(w: usize, s: &[u8], flags: &mut [bool], sheet: &mut [f64]) -> u32
     if bad_size(blocks, z.blocks) {
         return 3;
     }
+    let firsts = records_sheet::first_slots(0, z);
+    records_sheet::fill_sheet(0, z, &firsts, s, sheet);
+    let weights = firsts[5];
+    if all_torn(z, &sheet[..], weights) {
+        return 3;
+    }
     if records_file::any_not_finite(s) {
         return 4;
     }
-    let firsts = records_sheet::first_slots(0, z);
-    records_sheet::fill_sheet(0, z, &firsts, s, sheet);
     sheet_refusal(z, blocks, &firsts, &sheet[..])
 }

@@ -8,7 +8,8 @@ use lib.Dec.{eqb, ltb}
 use borrow.Author.Tests.{eqb-true, eqb-false, ltb-false, not-false}
 use Rattle.records.specs.Scan.{any, total}
 use Rattle.records.specs.Kinds as table
-use Rattle.records.specs.Series.{specimens, coefficients, zColumns, blockCount, thetas, contrastRows, blockOf, design, sizes, badSize, misfit}
+use Rattle.records.specs.Shortened.{shortened}
+use Rattle.records.specs.Series.{specimens, coefficients, zColumns, blockCount, thetas, contrastRows, blockOf, asSent, design, sizes, badSize, misfit}
 use Rattle.adjustment.specs.Blocks.{places, noBlock, blockAt, columnsBefore, placesBefore}
 use Rattle.records.proofs.ScanLaws.{or-false, any-none, fold-total}
 use Rattle.records.proofs.Limits.{series-below}
@@ -101,7 +102,7 @@ pub block-read : (s : List ℕ) → blockCount s ≤ 3 → (b : ℕ) → b < blo
 block-read s l b h = row-at noBlock 3 (blockCount s) (blockOf s) b noBlock h l
 
 pub sound-blocks : (w : ℕ) → 1 ≤ w → (s : List ℕ) → AcceptedSeries w s → SoundBlocks s
-unfolding design columnsBefore placesBefore
+unfolding design asSent shortened columnsBefore placesBefore
 sound-blocks w g s a =
     let l = limits w g s a .blocks in
     let k = blocked w s a in

@@ -3,15 +3,14 @@ use Prim.Native.Nat.{ℕ, zero, suc, _+_, _*_, _<_, _≤_}
 use native.Mathlib.Omega.{arith}
 use mathlib.Core.Path.{_≡_, refl, ap, ap₂, sym, _∙_}
 use mathlib.Core.Bool.{Bool, true, false, cond}
-use mathlib.Core.List.{List, [], _∷_}
-use lib.ListN.{length, getD, set, replicate, take, drop, length-replicate, length-drop}
-use lib.Seq.{getD-take, getD-drop, ext-getD, length-take-le}
+use mathlib.Core.List.{List, _∷_}
+use lib.ListN.{getD, set, replicate}
 use lib.Ieee.{Float, nan}
 use Rattle.arithmetic.specs.Numbers.{plusZero}
 use Rattle.algebra.specs.Fold.{span}
 use Rattle.algebra.specs.Table.{row, table, blank}
-use Rattle.algebra.proofs.FoldLaws.{fold-ext, fold-keeps, fold-start, length-span}
-use Rattle.algebra.proofs.TableLaws.{row-at, table-row, table-ext, length-table}
+use Rattle.algebra.proofs.FoldLaws.{fold-ext, fold-keeps, fold-start}
+use Rattle.algebra.proofs.TableLaws.{table-ext}
 use Rattle.records.specs.declared.Kind.{Kind}
 use Rattle.records.specs.declared.Sizes.{Sizes}
 use Rattle.records.specs.Scan.{any, last}
@@ -19,17 +18,13 @@ use Rattle.records.specs.Kinds.{width, kindAt, kindsOf, kindNumbers, Table}
 use Rattle.records.specs.Cells.{slots, firstSlot, slotCount, offset, slot}
 use Rattle.records.specs.File.{count, valueOf, beyond, isCell, cell}
 use Rattle.records.proofs.ScanLaws.{any-none, last-holds}
-use Rattle.records.proofs.Slots.{Inside, sized-inside, cell-names, packed}
-use Rattle.algebra_large.specs.joints.Slab.{rowsAt}
+use Rattle.records.proofs.Slots.{Inside, sized-inside, cell-names}
+use Rattle.records.proofs.ShortLaws.{row-ext}
 use Rattle.records_sheet.specs.joints.Sheet.{firstSlots, sheetAfter}
-use Rattle.records_sheet.proofs.Sheets.{cell-value, length-sheet, firsts-at, ends-within}
+use Rattle.records_sheet.proofs.Sheets.{cell-value, firsts-at, ends-within}
 use Rattle.records_sheet_parts.specs.joints.Parts.{numbersAt, cellsAt, stackAt}
 
 -- ---- rows and tables
-row-ext : {A : Type 0} (z : A) (C n : ℕ) (f g : ℕ → A) → ((i : ℕ) → i < n → f i ≡ g i) → row z C n f ≡ row z C n g
-unfolding row
-row-ext {A} z C n f g h = fold-ext 0 n (λ k ys. set ys k (f k)) (λ k ys. set ys k (g k)) (replicate C z) (λ k _ l b. ap (λ (x : A). set b k x) (h k l))
-
 -- a row of which nothing is filled, and one that is filled with what stands there
 no-row : {A : Type 0} (z : A) (C : ℕ) (f : ℕ → A) → row z C 0 f ≡ replicate C z
 unfolding row
@@ -43,21 +38,6 @@ set-filler {A} z (suc C) (suc k) = ap (λ (l : List A). z ∷ l) (set-filler z C
 filler-row : {A : Type 0} (z : A) (C n : ℕ) → row z C n (λ i. z) ≡ replicate C z
 unfolding row
 filler-row z C n = fold-keeps (λ ys. ys ≡ replicate C z) 0 n (λ k ys. set ys k z) (replicate C z) refl (λ k _ _ b e. rw e (set-filler z C k))
-
--- a row or a table that is full has no cell of its filler
-full-row : {A : Type 0} (z y d : A) (n : ℕ) (f : ℕ → A) → row z n n f ≡ row y n n f
-unfolding row
-full-row z y d n f =
-    let a : length (row z n n f) ≡ n = length-span 0 n f (replicate n z) ∙ length-replicate n z in
-    let b : length (row y n n f) ≡ n = length-span 0 n f (replicate n y) ∙ length-replicate n y in
-    ext-getD d (row z n n f) (row y n n f) (a ∙ sym b) (λ i l. row-at z n n f i d (omega arith) (omega arith) ∙ sym (row-at y n n f i d (omega arith) (omega arith)))
-
-full-table : {A : Type 0} (z y d : A) (r c : ℕ) (f : ℕ → ℕ → A) → table z r c r c f ≡ table y r c r c f
-full-table z y d r c f =
-    let a = length-table z r c r c f in
-    let b = length-table y r c r c f in
-    ext-getD [] (table z r c r c f) (table y r c r c f) (a ∙ sym b)
-    (λ i l. table-row z r c r c f i (omega arith) (omega arith) ∙ full-row z y d c (f i) ∙ sym (table-row y r c r c f i (omega arith) (omega arith)))
 
 -- ---- where a kind's cells stand
 -- a kind of one count, with r rows and c columns; and of n counts
@@ -180,37 +160,3 @@ module _ (call : ℕ) (z : Sizes) (s : List ℕ) (sized : any (count s) (beyond 
   stack-read k n p f =
       fold-ext 0 n (λ m ys. set ys m (table plusZero 6 6 p p (λ i j. getD sheet (firstSlot t k + m * (p * p) + i * p + j) nan))) (λ m ys. set ys m (table plusZero 6 6 p p (cell t s k m))) (replicate 4 (blank plusZero 6 6))
       (λ m _ l b. ap (λ (x : List (List Float)). set b m x) (table-ext plusZero 6 6 p p (λ i j. getD sheet (firstSlot t k + m * (p * p) + i * p + j) nan) (cell t s k m) (λ i j hi hj. stack-cell k n p p m i j f l hi hj)))
-
-  -- ---- parts of the sheet as they are lent
-  pub part-length : (k m : ℕ) → k < kindNumbers → slots (kindAt t k) ≡ m → length (take m (drop (firstSlot t k) sheet)) ≡ m
-  part-length k m l e =
-      let a = ends-within t k l in
-      let b = length-drop (firstSlot t k) sheet in
-      let d = length-sheet N t s (count s) in
-      length-take-le m (drop (firstSlot t k) sheet) (omega arith)
-
-  part-at : (k m j : ℕ) → j < m → getD (take m (drop (firstSlot t k) sheet)) j nan ≡ getD sheet (firstSlot t k + j) nan
-  part-at k m j l = getD-take m (drop (firstSlot t k) sheet) j nan l ∙ getD-drop (firstSlot t k) sheet j nan
-
-  pub part-line : (k m : ℕ) → k < kindNumbers → Flat (kindAt t k) m 1 → take m (drop (firstSlot t k) sheet) ≡ row plusZero m m (λ i. cell t s k 0 i 0)
-  unfolding row
-  part-line k m l f =
-      let a = part-length k m l (flat-slots (kindAt t k) m 1 f ∙ times m) in
-      let b : length (row plusZero m m (λ i. cell t s k 0 i 0)) ≡ m = length-span 0 m (λ i. cell t s k 0 i 0) (replicate m plusZero) ∙ length-replicate m plusZero in
-      ext-getD nan (take m (drop (firstSlot t k) sheet)) (row plusZero m m (λ i. cell t s k 0 i 0)) (a ∙ sym b)
-      (λ i h. part-at k m i (omega arith) ∙ line-cell k m i f (omega arith) ∙ sym (row-at plusZero m m (λ i. cell t s k 0 i 0) i nan (omega arith) (omega arith)))
-    where
-      times : (m : ℕ) → m * 1 ≡ m
-      times m = omega arith
-
-  pub part-table : (k r c : ℕ) → Flat (kindAt t k) r c → rowsAt c 0 r c (take (r * c) (drop (firstSlot t k) sheet)) ≡ table plusZero r c r c (cell t s k 0)
-  unfolding rowsAt
-  part-table k r c f =
-      full-table nan plusZero nan r c (λ i j. getD (take (r * c) (drop (firstSlot t k) sheet)) (0 + i * c + j) nan)
-      ∙ table-ext plusZero r c r c (λ i j. getD (take (r * c) (drop (firstSlot t k) sheet)) (0 + i * c + j) nan) (cell t s k 0) (λ i j hi hj. here i j hi hj)
-    where
-      here : (i j : ℕ) → i < r → j < c → getD (take (r * c) (drop (firstSlot t k) sheet)) (0 + i * c + j) nan ≡ cell t s k 0 i j
-      here i j hi hj =
-          let h = packed i r j c hi hj in
-          let e : firstSlot t k + (0 + i * c + j) ≡ firstSlot t k + i * c + j = omega arith in
-          part-at k (r * c) (0 + i * c + j) (omega arith) ∙ ap (λ (x : ℕ). getD sheet x nan) e ∙ flat-cell k r c i j f hi hj

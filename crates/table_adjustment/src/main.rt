@@ -16,11 +16,12 @@ fn at_most(n: usize, m: usize) -> usize
 }
 
 // The adjustment of a file that the reader takes, from its sheet. An accepted series has one place for each theta, and one G more.
-fn print_adjustment(file: &[u8], sheet: &[f64])
+fn print_adjustment(file: &[u8], sheet: &mut [f64])
     requires { ⌜ SeriesRead 24 (now file) (sizes (now file)) (firstSlots (kinds (now file))) (now sheet) ⌝ }
 {
     let z = records_sizes::series_sizes(file);
     let firsts = records_sheet::first_slots(0, z);
+    let kept = records_torn::shorten(z, &firsts, sheet);
     let p = at_most(z.coefficients, 6);
     let n = at_most(z.thetas, 3) + 1;
     let blank = algebra_products::zeros();
@@ -35,8 +36,9 @@ fn print_adjustment(file: &[u8], sheet: &[f64])
         document_cutoffs(),
         file,
         z,
+        kept,
         &firsts,
-        sheet,
+        &sheet[..],
         &mut work,
         &mut narrow,
         &mut phi_a,
@@ -65,7 +67,7 @@ fn print_case(file: &[u8]) {
     let mut flags = [false; 1024];
     let mut sheet = [0.0; 1024];
     if records_refusals::refusal(24, file, &mut flags, &mut sheet) == 0 {
-        print_adjustment(file, &sheet);
+        print_adjustment(file, &mut sheet);
     }
 }
 

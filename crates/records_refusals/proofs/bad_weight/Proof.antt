@@ -7,21 +7,21 @@ use Rattle.records_refusals.proofs.bad_weight.Statement.{statement}
 use Rattle.records_refusals.proofs.bad_weight.Tie as tie
 use Rattle.records_refusals.proofs.bad_weight.Reads as reads
 use Rattle.records_refusals.proofs.bad_weight.Lts as lts
-use Rattle.records_refusals.proofs.any_not_positive.Reads as any-not-positive-reads
+use Rattle.records_refusals.proofs.any_negative.Reads as any-negative-reads
 
-any-not-positive-requires : tie.Need-any-not-positive-requires
-any-not-positive-requires c κs =
+any-negative-requires : tie.Need-any-negative-requires
+any-negative-requires c κs =
     let a = c .before .before .args in
     let e = ap (λ (b : Bool). cond b (a .z .specimens) 0) (c .if1 .taken) in
     omega (arith, c .before .before .pre)
 
 returns : tie.Need-returns
 unfolding badWeightIn
-returns c = rw (c .before .if1 .taken) (c .any-not-positive .ensures)
+returns c = rw (c .before .if1 .taken) (c .any-negative .ensures)
 
 returns-2 : tie.Need-returns-2
 unfolding badWeightIn
 returns-2 c = rw (c .if1 .left)
 
 pub bad-weight-spec : {M : Type 1} → statement M
-bad-weight-spec = tie.close (tie.spec any-not-positive-requires returns returns-2)
+bad-weight-spec = tie.close (tie.spec any-negative-requires returns returns-2)

@@ -1,10 +1,10 @@
 -- Not needed to check document 01: names that join the code to its definitions.
--- The refusals 5 to 8 as the code makes them, on the sheet of crates/records_sheet/specs/joints/Sheet.antt and on an array of blocks.
+-- The refusals 3, of a series that is all torn, and 5 to 8 as the code makes them, on the sheet of crates/records_sheet/specs/joints/Sheet.antt and on an array of blocks.
 use Prim.Native.Nat.{ℕ, _+_}
-use mathlib.Core.Bool.{Bool, _&&_}
+use mathlib.Core.Bool.{Bool, not, _&&_}
 use mathlib.Core.List.{List, [], _∷_}
 use lib.ListN.{getD}
-use lib.Ieee.{Float, nan, le}
+use lib.Ieee.{Float, nan, lt, le}
 use Rattle.arithmetic.specs.Numbers.{plusZero}
 use Rattle.adjustment.specs.declared.Block.{Block}
 use Rattle.algebra.specs.Reasons.{first}
@@ -13,15 +13,19 @@ use Rattle.records.specs.Scan.{any}
 use Rattle.records.specs.Kinds.{Table, kindsOf}
 use Rattle.records.specs.Cells.{firstSlot}
 use Rattle.records_block_limits.specs.joints.Checks.{misfitIn}
-use Rattle.records_contrast.specs.joints.Contrast.{zeroContrastIn}
+use Rattle.records_contrast.specs.joints.Contrast.{nonzeros, zeroContrastIn}
 
--- one of the m numbers from a place on is not above zero
-unfoldable pub notPositive : List Float → ℕ → ℕ → Bool
-notPositive sheet at m = any m (λ j. le (getD sheet (at + j) nan) plusZero)
+-- one of the m numbers from a place on is below zero
+unfoldable pub negatives : List Float → ℕ → ℕ → Bool
+negatives sheet at m = any m (λ j. lt (getD sheet (at + j) nan) plusZero)
 
 -- refusal 6, by where the weights start
 unfoldable pub badWeightIn : Sizes → List Float → ℕ → Bool
-badWeightIn z sheet at = z .weighted && notPositive sheet at (z .specimens)
+badWeightIn z sheet at = z .weighted && negatives sheet at (z .specimens)
+
+-- refusal 3 of a series whose weights are all zero, by where they start
+unfoldable pub allTornIn : Sizes → List Float → ℕ → Bool
+allTornIn z sheet at = z .weighted && not (nonzeros sheet at (z .specimens))
 
 -- refusals 5 to 8, lowest number first: sigma2 is kind 7, the weights 5 and the contrast 9
 unfoldable pub sheetRefusal : Sizes → List Block → List Float → ℕ

@@ -13,6 +13,7 @@ use Rattle.records.specs.Cells.{slotCount}
 use Rattle.records.specs.File.{count}
 use Rattle.records.specs.Series.{refusal, sizes, kinds}
 use Rattle.records_sheet.specs.joints.Sheet.{firstSlots, sheetAfter}
+use Rattle.records_torn.specs.joints.Packed.{shortSheet}
 
 -- flags that are all clear and a sheet that is all +0, each with a slot for every cell that the limits allow; w is a number of specimens that a byte can name
 pub record Room (w : ℕ) (flags : List Bool) (sheet : List Float) : Type 0 where
@@ -31,4 +32,14 @@ pub record SeriesRead (w : ℕ) (s : List ℕ) (z : Sizes) (firsts : List ℕ) (
   pub sized : z ≡ sizes s
   pub starts : firsts ≡ firstSlots (kinds s)
   pub numbers : sheet ≡ sheetAfter (length sheet) (kinds s) s (count s)
+  pub written : slotCount (kenwardRoger w) ≤ length sheet
+
+-- the same once its torn specimens are left out on the sheet
+pub record SeriesShort (w : ℕ) (s : List ℕ) (z : Sizes) (firsts : List ℕ) (sheet : List Float) : Type 0 where
+  pub some : 1 ≤ w
+  pub most : w ≤ 256
+  pub taken : refusal w s ≡ 0
+  pub sized : z ≡ sizes s
+  pub starts : firsts ≡ firstSlots (kinds s)
+  pub numbers : sheet ≡ shortSheet (sizes s) (sheetAfter (length sheet) (kinds s) s (count s))
   pub written : slotCount (kenwardRoger w) ≤ length sheet
