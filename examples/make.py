@@ -34,18 +34,19 @@ def inverse(a):
 
 
 def series(x, z, blocks, theta, sigma2, beta, contrast=(), hypothesis=(), weights=()):
-    """X and Z by rows; blocks as (effects k, groups m); the covariance of the coefficients in residual units is (XᵀΣ⁻¹X)⁻¹."""
-    n = len(x)
-    sigma = [[float(i == j) / (weights[i] if weights else 1.0) for j in range(n)] for i in range(n)]
+    """X and Z by rows; blocks as (effects k, groups m); the covariance of the coefficients in residual units is (XᵀΣ⁻¹X)⁻¹ of the specimens that are not torn."""
+    left = [i for i in range(len(x)) if not weights or weights[i] != 0]
+    sigma = [[float(i == j) / (weights[i] if weights else 1.0) for j in left] for i in left]
     column = 0
     for (k, m), t in zip(blocks, theta):
         assert k == 1, "this little script knows blocks of one effect"
         for g in range(m):
-            for i in range(n):
-                for j in range(n):
-                    sigma[i][j] += t * t * z[i][column + g] * z[j][column + g]
+            for r, i in zip(sigma, left):
+                for c, j in enumerate(left):
+                    r[c] += t * t * z[i][column + g] * z[j][column + g]
         column += m
-    phi = inverse(times(times(transposed(x), inverse(sigma)), x))
+    kept = [x[i] for i in left]
+    phi = inverse(times(times(transposed(kept), inverse(sigma)), kept))
     out = [record(1, i, j, v) for i, r in enumerate(x) for j, v in enumerate(r)]
     out += [record(2, i, j, v) for i, r in enumerate(z) for j, v in enumerate(r) if v != 0]
     out += [record(3, b, k, count=m) for b, (k, m) in enumerate(blocks)]
@@ -76,7 +77,20 @@ BATCHES = series(
     hypothesis=[0.0, 2.0],
 )
 
-# The same with a second grouping, the operator, and both coefficients tested together; the second row says the first again in other units.
+# The same after one film tore outside the glue, the fifth: its weight is 0, and it counts as absent. The other pulls weigh 1, as pulls without a weight do.
+TORN = series(
+    x=[[1.0, float(i % 2)] for i in range(12)],
+    z=[[float(i // 3 == g) for g in range(4)] for i in range(12)],
+    blocks=[(1, 4)],
+    theta=[0.75],
+    sigma2=4.0,
+    beta=[41.5, 5.25],
+    contrast=[[0.0, 1.0]],
+    hypothesis=[0.0, 2.0],
+    weights=[float(i != 4) for i in range(12)],
+)
+
+# The pulls of batches.rec with a second grouping, the operator, and both coefficients tested together; the second row says the first again in other units.
 OPERATORS = series(
     x=[[1.0, float(i % 2)] for i in range(12)],
     z=[[float(i // 3 == g) for g in range(4)] + [float(i % 5 % 3 == g) for g in range(3)] for i in range(12)],
@@ -126,6 +140,7 @@ def rises(data):
 for name, data in (
     ("pull", PULL),
     ("batches", BATCHES),
+    ("torn", TORN),
     ("operators", OPERATORS),
     ("recipes", RECIPES),
     ("pastes", PASTES),

@@ -42,10 +42,10 @@ enum pull_number {
                                beyond the sizes; in an archive also a record in response units whose
                                bits are not its residual one's times or divided by sigma2 */
     PULL_SIZE = 3,          /* a size outside its limits: a block's k not 1 or 2, m = 0, more than
-                               three block parameters */
+                               three block parameters; or all weights zero */
     PULL_NOT_FINITE = 4,    /* an input not finite; or some number of the adjustment's output */
     PULL_SIGMA2 = 5,        /* sigma2 <= 0 */
-    PULL_WEIGHT = 6,        /* a weight <= 0 */
+    PULL_WEIGHT = 6,        /* a weight < 0 */
     PULL_BLOCKS = 7,        /* sum of m*k is not the number of Z columns, or the number of thetas is
                                not the sum of k(k+1)/2 */
     PULL_ZERO_CONTRAST = 8, /* Kenward-Roger: the contrast is all zero */
@@ -74,6 +74,15 @@ enum pull_number {
  *
  * Both pointers point to at least as many bytes as their length says, and are
  * not NULL even where the length is 0. No alignment is asked.
+ *
+ * A weight (kind 5) of 0, +0 or -0, says that the film tore outside the glue:
+ * the specimen is absent. Its records are asked for and must be finite, as any
+ * other's (2 and 4); then its rows of X and Z and its weight are dropped, and
+ * the answer is that of the specimens that are left. All sizes but the number of
+ * specimens stay as sent: a column of Z whose only records were a torn
+ * specimen's still counts (7), and is a column of zeros. A series of torn
+ * specimens alone is refused with 3, before 4. Without weights no specimen is
+ * torn.
  *
  * Returns 0, and then all 168 answer bytes are written; or the number of the
  * refusal (1 to 10 or 12), and then every answer byte keeps its contents.
@@ -115,7 +124,8 @@ uint32_t pull_satterthwaite(const uint8_t *records, size_t records_length,
 
 /* The archive of a series: its adjusted matrices, as a record file.
  *
- * records         a series, as for pull_kenward_roger. Read, never written.
+ * records         a series, as for pull_kenward_roger; what is archived is that
+ *                 of the specimens that are not torn. Read, never written.
  * records_length  the number of bytes at records.
  * archive         the bytes that the archive is written to. They may not
  *                 overlap the records.

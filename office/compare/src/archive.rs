@@ -10,11 +10,13 @@ use crate::cases::{self, families, file};
 use crate::judge::{caught, compare, Manner, Outcome, UNTOUCHED};
 use crate::live::Plan;
 use crate::shrink::{shrink_pair, shrink_while, text};
+use crate::torn;
 use oracle::archive::{archive_fill, archive_test_fill};
 use oracle::calls::{ENTRY, KR_ANSWER};
 use reader::archive::{test_records, LENT, SHORTEST};
 use reader::archive_tries::{random_pair, varied, Pair};
 use reader::random::Random;
+use reader::torn::Torn;
 use reader::tries::Call;
 use std::collections::BTreeMap;
 
@@ -80,15 +82,18 @@ pub struct Summary {
     /// Of the tests that answered: entries, and those inside.
     pub entries: usize,
     pub inside: usize,
+    /// The series with torn specimens, by the writer's number.
+    pub torn: torn::Tally,
 }
 
 impl Summary {
     fn lines(&self) -> String {
         format!(
             "archive: {} series, refused by number {:?}, {} archived; the test from each by number {:?};\n\
-             archive: {} other pairs by number {:?}; of {} tests {} inside",
+             archive: {} other pairs by number {:?}; of {} tests {} inside\n\
+             archive: {}",
             self.series, self.writer, self.archived, self.own, self.pairs, self.other, self.entries,
-            self.inside
+            self.inside, self.torn.line()
         )
     }
 
@@ -141,9 +146,14 @@ const ARCHIVE_SEEDS: u64 = 1 << 32;
 /// One series of a family and what goes beside it; whether all is the same.
 pub fn one(family: &str, seed: u64, plan: &Plan, summary: &mut Summary) -> bool {
     let series = file(Call::KenwardRoger, family, seed);
+    if plan.untorn && Torn::of(&series).is_some() {
+        return true;
+    }
     let mut random = Random::new(!seed);
     summary.series += 1;
     let archive = panel(&series);
+    let refused = if (archive.number as usize) < SHORTEST { archive.number } else { 0 };
+    summary.torn.add(&series, refused);
     if manner(&series).is_some() {
         report_series(&series, plan);
         return false;

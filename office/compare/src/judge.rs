@@ -1,6 +1,6 @@
 //! One file through the panel and through the oracle.
 
-use oracle::calls::{both_runs, entry_bytes, satterthwaite_fill, ENTRY, KR_ANSWER};
+use oracle::calls::{both_runs, entry_bytes, satterthwaite_fill, series_to_run, ENTRY, KR_ANSWER};
 use reader::tries::Call;
 use std::panic::{catch_unwind, AssertUnwindSafe};
 
@@ -53,7 +53,7 @@ pub(crate) fn caught(run: impl FnOnce() -> Result<Outcome, String>) -> Result<Ou
 
 fn kenward_roger(file: &[u8]) -> Result<Outcome, String> {
     let refused = |number| Outcome { number, answer: vec![UNTOUCHED; KR_ANSWER] };
-    let series = match reader::read(file) {
+    let series = match series_to_run(file) {
         Ok(series) => series,
         Err(number) => return Ok(refused(number)),
     };

@@ -6,9 +6,11 @@
 //! - `shrink`: a smaller file that differs in the same manner.
 //! - `live`: the comparison of many files, and its summary.
 //! - `archive`: the same for the archive's two functions.
+//! - `torn`: how many of the files had torn specimens.
 
 pub mod archive;
 pub mod cases;
 pub mod judge;
 pub mod live;
 pub mod shrink;
+pub mod torn;

@@ -3,8 +3,10 @@
 use crate::cases::{self, families, file, name};
 use crate::judge::{compare, describe, oracle, panel, Outcome};
 use crate::shrink::{shrink, text};
+use crate::torn;
 use oracle::calls::ENTRY;
 use oracle::trace;
+use reader::torn::Torn;
 use reader::tries::Call;
 use std::collections::BTreeMap;
 use std::path::PathBuf;
@@ -21,6 +23,9 @@ pub struct Plan {
     pub seed: u64,
     /// One family alone.
     pub family: Option<String>,
+    /// Files with torn specimens are passed over: what is left is the same to a
+    /// library from before document 02's "Req 03".
+    pub untorn: bool,
     /// Each family and seed before its call, for a call that does not come back.
     pub trace: bool,
     /// Where failing files are written.
@@ -36,6 +41,8 @@ pub struct Summary {
     pub lines: Vec<String>,
     /// In how many files each branch of document 01 was taken.
     pub branches: BTreeMap<&'static str, usize>,
+    /// The Kenward–Roger files with torn specimens.
+    pub torn: torn::Tally,
 }
 
 /// Counts of one family.
@@ -96,11 +103,15 @@ pub fn run(plan: &Plan) -> Summary {
             summary.lines.push(line);
         }
     }
+    println!("{}: {}", name(Call::KenwardRoger), summary.torn.line());
     summary
 }
 
 fn one(call: Call, family: &str, seed: u64, plan: &Plan, summary: &mut Summary, tally: &mut Tally) {
     let bytes = file(call, family, seed);
+    if plan.untorn && Torn::of(&bytes).is_some() {
+        return;
+    }
     // The making of a file runs series too: their branches do not count.
     trace::take();
     let (panel, oracle) = (panel(call, &bytes), oracle(call, &bytes));
@@ -109,6 +120,10 @@ fn one(call: Call, family: &str, seed: u64, plan: &Plan, summary: &mut Summary, 
     }
     summary.files += 1;
     tally.add(&panel);
+    // The other call has no specimens.
+    if call == Call::KenwardRoger {
+        summary.torn.add(&bytes, panel.number);
+    }
     if compare(&panel, &oracle).is_some() {
         summary.failures += 1;
         let flag = if call == Call::Satterthwaite { " --satterthwaite" } else { "" };

@@ -15,6 +15,7 @@ const USAGE: &str = "usage: compare [FLAGS]
                      pairs of damaged files beside each (usually 20000)
   --seed S           another seed (usually 1)
   --family NAME      one family alone
+  --untorn           pass over files with torn specimens (a weight of zero)
   --branches         also print in how many files each branch of document 01 was taken
   --trace            print each family and seed before its call
   --case FAMILY SEED one case again, as a difference prints it
@@ -70,9 +71,12 @@ fn all(flags: &Flags) -> bool {
         summary.branches.iter().for_each(|(branch, files)| println!("  {branch}: {files}"));
     }
     println!(
-        "{} files, {} archives and {} other pairs, {} differ; seed {}, {} s",
+        "{} files ({} with torn specimens), {} archives ({} of such series) and {} other pairs, \
+         {} differ; seed {}, {} s",
         summary.files,
+        summary.torn.files,
         archives.archived,
+        archives.torn.accepted(),
         archives.pairs,
         summary.failures + archives.failures,
         flags.plan.seed,
@@ -104,8 +108,15 @@ fn single(flags: &Flags, title: &str, bytes: &[u8]) -> bool {
 fn flags(mut words: impl Iterator<Item = String>) -> Option<Flags> {
     let office = Path::new(env!("CARGO_MANIFEST_DIR")).parent().expect("compare lies in office");
     let folder = office.join("target/compare");
-    let plan =
-        Plan { files: 27_000, archives: 20_000, seed: 1, family: None, trace: false, folder };
+    let plan = Plan {
+        files: 27_000,
+        archives: 20_000,
+        seed: 1,
+        family: None,
+        untorn: false,
+        trace: false,
+        folder,
+    };
     let mut flags = Flags {
         plan,
         branches: false,
@@ -121,6 +132,7 @@ fn flags(mut words: impl Iterator<Item = String>) -> Option<Flags> {
             "--seed" => flags.plan.seed = words.next()?.parse().ok()?,
             "--family" => flags.plan.family = Some(known_family(words.next()?)?),
             "--branches" => flags.branches = true,
+            "--untorn" => flags.plan.untorn = true,
             "--trace" => flags.plan.trace = true,
             "--case" => {
                 flags.case = Some((known_family(words.next()?)?, words.next()?.parse().ok()?))

@@ -1,11 +1,12 @@
-//! Makes a failing file small: whole parts of the series go first, then single
-//! records, then the digits of the numbers. Each step is kept if the file
+//! Makes a failing file small: torn specimens go first or are made whole, then whole
+//! parts of the series go, then single records, then the digits of the numbers. Each step is kept if the file
 //! still differs in the same manner. No step but the sorting moves a record past
 //! another, so a file that rises still does.
 
 use crate::judge::manner;
 use reader::archive::{read_archive, Archive};
 use reader::archive_tries::Pair;
+use reader::torn::is_torn;
 use reader::tries::Call;
 use reader::{
     Record, A, ARCHIVED_SIGMA, BETA, BETA_H, BLOCK, CONTRAST, JACOBIAN, PHI, RESIDUAL_P,
@@ -58,6 +59,7 @@ pub fn shrink_while(bytes: &[u8], fails: &dyn Fn(&[u8]) -> bool) -> Vec<u8> {
     let mut search = Search { fails, best: File::from_bytes(bytes), left: TRIES };
     loop {
         let before = search.best.clone();
+        search.torn();
         search.parts();
         search.single_records();
         search.order();
@@ -143,6 +145,19 @@ impl Search<'_> {
         self.try_file(File { records, rest })
     }
 
+    /// Torn specimens: all of them dropped or made whole, then each. So one that
+    /// is left has to be torn.
+    fn torn(&mut self) {
+        self.try_records(|rs| torn_rows(rs).into_iter().rev().fold(rs.to_vec(), without_row));
+        self.try_records(|rs| torn_rows(rs).into_iter().fold(rs.to_vec(), made_whole));
+        for row in torn_rows(&self.best.records).into_iter().rev() {
+            let dropped = self.try_records(|rs| without_row(rs.to_vec(), row));
+            if !dropped {
+                self.try_records(|rs| made_whole(rs.to_vec(), row));
+            }
+        }
+    }
+
     /// Specimens, coefficients, contrast rows, blocks, groups, parameters, and
     /// kinds that may be absent.
     fn parts(&mut self) {
@@ -196,8 +211,7 @@ impl Search<'_> {
     /// Each value to a simpler one.
     fn numbers(&mut self) {
         for at in 0..self.best.records.len() {
-            let bits = self.best.records[at].bits;
-            for simple in simpler(f64::from_bits(bits)) {
+            for simple in simpler_value(&self.best.records[at]) {
                 let taken = self.try_records(|rs| {
                     let mut out = rs.to_vec();
                     out[at].bits = simple.to_bits();
@@ -209,6 +223,31 @@ impl Search<'_> {
             }
         }
     }
+}
+
+/// The rows whose weight is zero.
+fn torn_rows(records: &[Record]) -> Vec<u8> {
+    let torn = |r: &&Record| r.kind == WEIGHTS && is_torn(f64::from_bits(r.bits));
+    records.iter().filter(torn).map(|r| r.row).collect()
+}
+
+fn without_row(records: Vec<Record>, row: u8) -> Vec<Record> {
+    without_index(&records, Part::Specimen, row.into())
+}
+
+/// The specimen of a row with the weight 1.
+fn made_whole(mut records: Vec<Record>, row: u8) -> Vec<Record> {
+    let own = records.iter_mut().filter(|r| r.kind == WEIGHTS && r.row == row);
+    own.for_each(|r| r.bits = 1f64.to_bits());
+    records
+}
+
+/// Values simpler than a record's. A weight neither becomes zero nor ceases to
+/// be: that would tear its specimen, or make it whole.
+fn simpler_value(record: &Record) -> Vec<f64> {
+    let value = f64::from_bits(record.bits);
+    let alike = |v: &f64| record.kind != WEIGHTS || is_torn(*v) == is_torn(value);
+    simpler(value).into_iter().filter(alike).collect()
 }
 
 /// Numbers simpler than x, the simplest first.
@@ -408,6 +447,61 @@ mod tests {
         assert_eq!(series.blocks, [Block { m: 2, k: 1 }]);
         assert_eq!(series.contrast.map(|l| l.rows), Some(1));
         assert!(small.len() <= 16 * 15, "{} bytes\n{}", small.len(), text(&small));
+    }
+
+    /// A series of which every other specimen is torn.
+    fn torn_file(n: usize, seed: u64) -> Vec<u8> {
+        let blocks = vec![Block { m: 4, k: 1 }; 2];
+        let series = series_of_sizes(&mut Random::new(seed), n, 4, blocks, 3);
+        let weight = |i| if i % 2 == 0 { [-0.0, 0.0][i / 2 % 2] } else { 1.5 + i as f64 };
+        kr_bytes(&reader::Series { weights: Some((0..n).map(weight).collect()), ..series })
+    }
+
+    /// Of a failure that needs a torn specimen one is left, beside one that is
+    /// not.
+    #[test]
+    fn one_torn_specimen_is_left() {
+        let file = torn_file(20, 7);
+        let fails = |bytes: &[u8]| match reader::read(bytes) {
+            Ok(s) => s.weights.iter().flatten().any(|&w| is_torn(w)),
+            Err(_) => false,
+        };
+        assert!(fails(&file));
+        let small = shrink_while(&file, &fails);
+        let series = reader::read(&small).expect("it still fails, so it is accepted");
+        assert_eq!((series.x.rows, series.x.cols), (2, 1), "{}", text(&small));
+        let weights = series.weights.expect("weights");
+        assert_eq!(weights.iter().filter(|&&w| is_torn(w)).count(), 1, "{weights:?}");
+        assert!(weights.contains(&1.0), "{weights:?}");
+    }
+
+    /// A failure that needs weights and no torn specimen has none, and one that
+    /// needs a row of a torn specimen has it whole.
+    #[test]
+    fn torn_specimens_go_or_are_made_whole() {
+        let file = torn_file(12, 8);
+        let weighted = |bytes: &[u8]| reader::read(bytes).is_ok_and(|s| s.weights.is_some());
+        let small = shrink_while(&file, &weighted);
+        assert_eq!(torn_rows(&File::from_bytes(&small).records), [0u8; 0], "{}", text(&small));
+        let first = file[8..16].to_vec();
+        let row = |bytes: &[u8]| {
+            let cell = bytes.chunks(16).any(|r| r[0] == X && r[8..] == first);
+            cell && reader::read(bytes).is_ok_and(|s| s.weights.is_some())
+        };
+        assert!(row(&file) && torn_rows(&File::from_bytes(&file).records).contains(&0));
+        let small = shrink_while(&file, &row);
+        assert_eq!(torn_rows(&File::from_bytes(&small).records), [0u8; 0], "{}", text(&small));
+        assert!(row(&small));
+    }
+
+    /// Torn specimens alone: one of them is left.
+    #[test]
+    fn a_series_of_torn_specimens() {
+        let all: Vec<Record> = File::from_bytes(&torn_file(10, 9)).records;
+        let zero = |r: Record| if r.kind == WEIGHTS { Record { bits: 0, ..r } } else { r };
+        let file = File { records: all.into_iter().map(zero).collect(), rest: Vec::new() };
+        let small = shrink_while(&file.to_bytes(), &|bytes| reader::read(bytes) == Err(3));
+        assert_eq!(small.len(), 16 * 5, "{}", text(&small));
     }
 
     /// Of records out of order the pair that falls is left.

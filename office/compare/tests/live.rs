@@ -3,11 +3,30 @@
 
 use compare::archive;
 use compare::live::{run, Plan};
+use compare::torn::Tally;
 use std::path::Path;
 
 fn plan() -> Plan {
     let folder = Path::new(env!("CARGO_TARGET_TMPDIR")).join("compare");
-    Plan { files: 27_000, archives: 20_000, seed: 2, family: None, trace: false, folder }
+    Plan {
+        files: 27_000,
+        archives: 20_000,
+        seed: 2,
+        family: None,
+        untorn: false,
+        trace: false,
+        folder,
+    }
+}
+
+/// Thousands of files with torn specimens, most of them accepted.
+fn enough_torn(torn: &Tally) {
+    let enough = torn.files >= 4_000
+        && torn.accepted() >= 2_000
+        && torn.column_lost >= 500
+        && torn.all >= 100
+        && torn.not_finite >= 200;
+    assert!(enough, "{}", torn.line());
 }
 
 #[test]
@@ -15,6 +34,7 @@ fn archives_agree_in_every_bit() {
     let summary = archive::run(&plan());
     assert!(summary.archived >= 20_000, "{} archives", summary.archived);
     assert!(summary.pairs >= 40_000, "{} pairs", summary.pairs);
+    enough_torn(&summary.torn);
     assert_eq!(summary.failures, 0, "series or pairs differ; see above");
 }
 
@@ -22,5 +42,6 @@ fn archives_agree_in_every_bit() {
 fn the_panel_and_the_oracle_agree_in_every_bit() {
     let summary = run(&plan());
     assert!(summary.files >= 27_000, "{} files", summary.files);
+    enough_torn(&summary.torn);
     assert_eq!(summary.failures, 0, "files differ; see above");
 }

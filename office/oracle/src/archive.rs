@@ -5,9 +5,9 @@
 //! lme-rs's on these matrices, with the mark of the marked run, which scales
 //! them again by marked steps.
 
-use crate::calls::{self, Entries, KR_ANSWER};
+use crate::calls::{self, series_to_run, Entries, KR_ANSWER};
 use crate::reader::archive::{read_both, Archive, LENT};
-use crate::reader::{read, Refusal, Series};
+use crate::reader::{Refusal, Series};
 use crate::{lme_run, marked};
 use listed_algebra::Matrix;
 
@@ -38,7 +38,7 @@ pub fn adjusted(series: &Series) -> Result<Result<Archive, Refusal>, String> {
 
 /// The writer: no test is run.
 pub fn archive(bytes: &[u8]) -> Result<Vec<u8>, Refusal> {
-    let series = read(bytes)?;
+    let series = series_to_run(bytes)?;
     let archive = adjusted(&series).unwrap_or_else(|text| panic!("{text}"))?;
     Ok(archive.to_bytes())
 }

@@ -11,8 +11,9 @@ use crate::random::{
     kr_case, power, satt_case, Random, KR_FAMILIES, MORE_KR_FAMILIES, SATT_FAMILIES, SHUFFLED,
 };
 use crate::reader::archive::{read_archive, test_records};
+use crate::reader::torn::Torn;
 use crate::reader::{self, order, Record, Series};
-use crate::{ddf, known_archive, known_order, kr_vcov_adj, lme_run, trace};
+use crate::{ddf, known_archive, known_order, known_torn, kr_vcov_adj, lme_run, trace};
 use ::reader::vectors::hex;
 use listed_algebra::Matrix;
 use ndarray::{Array1, Array2};
@@ -106,9 +107,10 @@ fn pulltest_lines() {
 /// Every known case, with what document 01 says of it.
 #[test]
 fn known_cases() {
-    let calls: [(Vec<known::Known>, fn(&[u8]) -> String); 5] = [
+    let calls: [(Vec<known::Known>, fn(&[u8]) -> String); 6] = [
         (known::kenward_roger(), pulltest),
         (known_order::kenward_roger(), pulltest),
+        (known_torn::kenward_roger(), pulltest),
         (known::satterthwaite(), satterthwaite_line),
         (known_order::satterthwaite(), satterthwaite_line),
         (known_archive::series(), archive_lines),
@@ -319,38 +321,50 @@ fn verdicts(text: &str) -> String {
     text.replace(" inside", "").replace(" outside", "")
 }
 
-/// A run that is inside keeps its verdicts in every unit (demand 3). This
-/// would show a mark that is set too generously.
+/// A run that is inside keeps its verdicts in every unit (demand 3), with torn
+/// specimens too. This would show a mark that is set too generously.
 #[test]
 fn inside_runs_keep_their_verdicts() {
     let mut random = Random::new(77);
-    let mut tried = 0;
+    let mut tried = Shifted::default();
     for _ in 0..60 {
         for family in ["small", "contrasts", "extreme", "singular", "negative", "late"] {
-            tried += shifted(&mut random, kr_case, family, pulltest, false);
+            tried.one(&mut random, kr_case, family, pulltest, false);
         }
         for family in ["plain", "equal", "singular", "extreme", "extreme", "extreme"] {
-            tried += shifted(&mut random, satt_case, family, satterthwaite_line, true);
+            tried.one(&mut random, satt_case, family, satterthwaite_line, true);
         }
     }
-    assert!(tried > 300, "{tried}");
+    assert!(tried.inside > 300 && tried.torn > 30, "{tried:?}");
 }
 
-fn shifted(
-    random: &mut Random,
-    case: fn(&mut Random, &str) -> Vec<u8>,
-    family: &str,
-    output: fn(&[u8]) -> String,
-    satt: bool,
-) -> u32 {
-    let bytes = case(random, family);
-    let text = output(&bytes);
-    if text.contains("refused") || text.contains("outside") {
-        return 0;
+/// Inside runs that were tried in another unit.
+#[derive(Debug, Default)]
+struct Shifted {
+    inside: u32,
+    /// With torn specimens.
+    torn: u32,
+}
+
+impl Shifted {
+    fn one(
+        &mut self,
+        random: &mut Random,
+        case: fn(&mut Random, &str) -> Vec<u8>,
+        family: &str,
+        output: fn(&[u8]) -> String,
+        satt: bool,
+    ) {
+        let bytes = case(random, family);
+        let text = output(&bytes);
+        if text.contains("refused") || text.contains("outside") {
+            return;
+        }
+        let other = output(&converted(random, &bytes, satt));
+        assert_eq!(verdicts(&text), verdicts(&other), "{family} {}", hex(&bytes));
+        self.inside += 1;
+        self.torn += u32::from(Torn::of(&bytes).is_some());
     }
-    let other = output(&converted(random, &bytes, satt));
-    assert_eq!(verdicts(&text), verdicts(&other), "{family} {}", hex(&bytes));
-    1
 }
 
 /// docs/DIFFERENCES.md, "The late refusal 4 is document 01's own": there lme-rs

@@ -2,6 +2,8 @@
 //! rank, and the mark of the marked run. The two runs must agree in everything
 //! that both have; if they do not, the oracle stops, since then one of them is
 //! wrong. The archive's two calls are in `archive`.
+//!
+//! A file becomes the series that is run in one place, `series_to_run`.
 
 use crate::lme_run::{self, same, Verdict, Verdicts};
 use crate::marked::{self, Entry, Tested};
@@ -156,9 +158,15 @@ pub(crate) fn entries_of_both(
     }
 }
 
+/// The series of a file as lme-rs and the marked run are given it: without its
+/// torn specimens, which both then know nothing of.
+pub fn series_to_run(bytes: &[u8]) -> Result<Series, Refusal> {
+    read(bytes).map(Series::without_torn)
+}
+
 /// The Kenward–Roger call.
 pub fn kenward_roger(bytes: &[u8]) -> Result<Entries, Refusal> {
-    let series = read(bytes)?;
+    let series = series_to_run(bytes)?;
     both_runs(&series).unwrap_or_else(|text| panic!("{text}")).map(|runs| runs.entries())
 }
 

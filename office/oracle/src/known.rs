@@ -171,7 +171,7 @@ pub fn kenward_roger() -> Vec<Known> {
     out.push(("sigma2 = -0", changed(&records, 7, |r| r.bits = 1 << 63), "refused 5|"));
     let weights = |w: f64| Series { weights: Some(vec![1.0, w]), ..base.clone() };
     out.push(("weight -1", kr_bytes(&weights(-1.0)), "refused 6|"));
-    out.push(("weight -0", kr_bytes(&weights(-0.0)), "refused 6|"));
+    out.push(("weight -0", kr_bytes(&weights(-0.0)), "coef 0 rank 1 F 3ffccccccccccccd df 3ff0000000000000 inside|test rank 1 F 3ffccccccccccccd df 3ff0000000000000 inside|"));
     out.push(("weight 2", kr_bytes(&weights(2.0)), "coef 0"));
     let two_thetas = Series {
         z: Matrix::identity(2),

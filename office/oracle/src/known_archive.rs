@@ -6,6 +6,7 @@ use crate::known::{
     self, changed, example_k, identity_series, kr_bytes, pulltest_series, rec, rows, with, without,
     Known,
 };
+use crate::known_torn::{self, example_with_a_torn_pull};
 use crate::random::{file, kr_records, power, series_of_sizes, Random};
 use crate::reader::archive::{read_archive, test_records, Archive};
 use crate::reader::{order, Block, Record, Series};
@@ -168,6 +169,8 @@ pub fn series() -> Vec<Known> {
         ),
     ];
     out.extend(numbered(&records));
+    out.push(("a torn pull beside the example's", kr_bytes(&example_with_a_torn_pull()), EXAMPLE));
+    out.extend(known_torn::archived());
     out
 }
 

@@ -20,12 +20,14 @@ pub mod calls;
 pub mod known;
 pub mod known_archive;
 pub mod known_order;
+pub mod known_torn;
 pub mod lme_run;
 pub mod make;
 pub mod make_archive;
 pub mod marked;
 pub mod print;
 pub mod random;
+pub mod torn;
 pub mod trace;
 
 #[cfg(test)]

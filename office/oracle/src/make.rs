@@ -3,7 +3,8 @@
 use crate::known::{self, Known};
 use crate::print::{pulltest, satterthwaite_line};
 use crate::random::{kr_case, satt_case, Random, KR_FAMILIES, SATT_FAMILIES, SHUFFLED};
-use crate::{known_order, make_archive, trace};
+use crate::{known_order, known_torn, make_archive, trace};
+use ::reader::torn::Torn;
 use ::reader::vectors::{hex, unhex};
 use std::collections::BTreeMap;
 use std::fmt::Write as _;
@@ -21,14 +22,21 @@ pub fn line(bytes: &[u8], output: &str) -> String {
 #[derive(Default)]
 struct Tally {
     cases: u32,
-    /// In how many cases each refusal, mark, none and branch occurred.
+    /// In how many cases each refusal, mark, none and branch occurred, and torn
+    /// specimens.
     hits: BTreeMap<String, u32>,
 }
 
 impl Tally {
-    fn add(&mut self, output: &str) {
+    fn add(&mut self, file: &[u8], output: &str) {
         self.cases += 1;
         let mut seen: Vec<String> = trace::take().into_keys().map(String::from).collect();
+        if Torn::of(file).is_some() {
+            seen.push("torn specimens".to_string());
+            if !output.starts_with("refused") {
+                seen.push("torn specimens, answered".to_string());
+            }
+        }
         if let Some(number) = output.strip_prefix("refused ") {
             seen.push(format!("refused {}", number.trim_end()));
         } else {
@@ -65,8 +73,9 @@ struct List {
     name: &'static str,
     known: Vec<Known>,
     families: &'static [&'static str],
-    /// The order's cases made by hand.
+    /// The order's cases made by hand, and those of torn specimens.
     known_order: Vec<Known>,
+    known_torn: Vec<Known>,
     case: fn(&mut Random, &str) -> Vec<u8>,
     output: fn(&[u8]) -> String,
 }
@@ -80,7 +89,7 @@ struct Written {
 
 impl List {
     /// The known cases, `count` random ones shared among all families, then the
-    /// cases of the order.
+    /// cases of the order and of torn specimens.
     fn write(self, seed: u64, count: usize) -> Written {
         let mut out = Written::default();
         self.by_hand(&mut out, "known", &self.known);
@@ -91,6 +100,9 @@ impl List {
         }
         self.by_hand(&mut out, "order", &self.known_order);
         self.random(&mut out, SHUFFLED, seed, families, SHUFFLED_CASES);
+        if !self.known_torn.is_empty() {
+            self.by_hand(&mut out, "torn", &self.known_torn);
+        }
         out
     }
 
@@ -117,7 +129,7 @@ impl List {
         // The making of a case runs series too: their branches do not count.
         trace::take();
         let text = (self.output)(bytes);
-        tally.add(&text);
+        tally.add(bytes, &text);
         out.lines += &line(bytes, &text);
     }
 }
@@ -129,6 +141,7 @@ fn lists() -> [List; 2] {
             known: known::kenward_roger(),
             families: &KR_FAMILIES,
             known_order: known_order::kenward_roger(),
+            known_torn: known_torn::kenward_roger(),
             case: kr_case,
             output: pulltest,
         },
@@ -137,6 +150,8 @@ fn lists() -> [List; 2] {
             known: known::satterthwaite(),
             families: &SATT_FAMILIES,
             known_order: known_order::satterthwaite(),
+            // This call has no specimens.
+            known_torn: Vec::new(),
             case: satt_case,
             output: satterthwaite_line,
         },
@@ -144,7 +159,7 @@ fn lists() -> [List; 2] {
 }
 
 /// `oracle make-vectors DIR SEED COUNT`: COUNT cases for each call, and those
-/// of the order.
+/// of the order and of torn specimens.
 pub fn make_vectors(folder: &Path, seed: u64, count: usize) -> io::Result<()> {
     fs::create_dir_all(folder)?;
     let mut summary = format!(

@@ -1,10 +1,10 @@
 //! What the program `pulltest` prints, and more for the `bits` command.
 
 use crate::archive::{archive, archive_test};
-use crate::calls::{both_runs, kenward_roger, satterthwaite, BothRuns, Entries};
+use crate::calls::{both_runs, kenward_roger, satterthwaite, series_to_run, BothRuns, Entries};
 use crate::marked::{Entry, Moments};
 use crate::reader::archive::test_records;
-use crate::reader::{read, Refusal};
+use crate::reader::Refusal;
 use ::reader::vectors::hex;
 use listed_algebra::Matrix;
 
@@ -74,7 +74,8 @@ fn moments(name: &str, m: &Moments) -> String {
 
 /// `pulltest`'s lines and the numbers behind them.
 pub fn bits_report(bytes: &[u8]) -> String {
-    let runs = read(bytes).and_then(|s| both_runs(&s).unwrap_or_else(|text| panic!("{text}")));
+    let run = |s| both_runs(&s).unwrap_or_else(|text| panic!("{text}"));
+    let runs = series_to_run(bytes).and_then(run);
     match runs {
         Err(number) => refused(number),
         Ok(runs) => lines(&runs.entries()) + &numbers(&runs),

@@ -1,7 +1,8 @@
 //! Random series, by families. A family aims at branches of document 01; the
 //! seed alone decides what comes out.
 
-use crate::reader::{self, order, Block, Record, SattSeries, Series};
+use crate::reader::{self, order, torn::is_torn, Block, Record, SattSeries, Series};
+use crate::torn::torn;
 use crate::{calls, marked};
 use listed_algebra::{cholesky, inverse, product, Matrix, Plain};
 
@@ -198,7 +199,7 @@ fn sizes(r: &mut Random) -> (usize, usize) {
 pub fn kr_case(r: &mut Random, family: &str) -> Vec<u8> {
     if family == "damaged" {
         let series = random_series_of(r, "small");
-        let good = kr_file(r, &series);
+        let good = sent_file(r, &series);
         return damage(r, good, false);
     }
     if family == "damaged-any" {
@@ -209,14 +210,22 @@ pub fn kr_case(r: &mut Random, family: &str) -> Vec<u8> {
         return out_of_order(r, |r| kr_case(r, family), |file| calls::kenward_roger(file).is_ok());
     }
     let series = random_series_of(r, family);
-    kr_file(r, &series)
+    sent_file(r, &series)
+}
+
+/// The file of a series, of some of them with torn specimens. These are drawn
+/// apart, so that every other file is what it would be without them.
+fn sent_file(r: &mut Random, series: &Series) -> Vec<u8> {
+    let mut apart = r.apart();
+    let file = kr_file(r, series);
+    torn(&mut apart, series).map_or(file, |sent| kr_file(&mut apart, &sent))
 }
 
 /// A file of any size and sort, damaged once to three times.
 fn damaged_any(r: &mut Random) -> Vec<u8> {
     let family = r.pick(&["sizes", "slopes", "contrasts", "extreme"]);
     let series = random_series_of(r, family);
-    let mut bytes = kr_file(r, &series);
+    let mut bytes = sent_file(r, &series);
     for _ in 0..1 + r.below(3) {
         if bytes.len() >= 16 {
             bytes = damage(r, bytes, false);
@@ -608,14 +617,16 @@ fn list(out: &mut Vec<Record>, kind: u8, values: &[f64]) {
     }
 }
 
-/// The records of a series. Zero cells of Z may be left out, the last column's
-/// first cell never, since the columns are counted by what is there.
+/// The records of a series. Zero cells of Z may be left out, one of the last
+/// column's never, since the columns are counted by what is there: that of the
+/// first torn specimen, or the first cell.
 pub fn kr_records(s: &Series, keep_zeros: bool) -> Vec<Record> {
     let mut out = Vec::new();
     grid(&mut out, reader::X, 0, &s.x);
+    let counted = s.weights.iter().flatten().position(|&w| is_torn(w)).unwrap_or(0);
     for i in 0..s.z.rows {
         for j in 0..s.z.cols {
-            let last = i == 0 && j + 1 == s.z.cols;
+            let last = i == counted && j + 1 == s.z.cols;
             if keep_zeros || last || s.z[(i, j)] != 0.0 {
                 out.push(record(reader::Z, i, j, 0, s.z[(i, j)]));
             }

@@ -1,4 +1,5 @@
-//! Document 01's example of a series, as a record file.
+//! Document 01's example of a series, as a record file, and the same with a pull
+//! that tore.
 
 /// One record of 16 bytes.
 pub fn record(kind: u8, row: u8, column: u8, count: u32, value: f64) -> [u8; 16] {
@@ -16,6 +17,26 @@ pub fn records() -> Vec<u8> {
     [
         record(1, 0, 0, 0, 1.0), // X
         record(1, 1, 0, 0, 1.0),
+        record(6, 0, 0, 0, 0.5), // Φ
+        record(7, 0, 0, 0, 8.0), // sigma2
+        record(8, 0, 0, 0, 6.0), // β
+        record(9, 0, 0, 0, 1.0), // contrast
+    ]
+    .concat()
+}
+
+/// The same with weights, and with a third pull whose film tore outside the
+/// glue: its weight is 0. The others weigh 1, as specimens without a weight do,
+/// so the answers are those of [`records`]. What the torn pull's row of X holds
+/// does not matter, as long as it is finite.
+pub fn records_with_a_torn_pull() -> Vec<u8> {
+    [
+        record(1, 0, 0, 0, 1.0), // X
+        record(1, 1, 0, 0, 1.0),
+        record(1, 2, 0, 0, -7.5),
+        record(5, 0, 0, 0, 1.0), // weights
+        record(5, 1, 0, 0, 1.0),
+        record(5, 2, 0, 0, 0.0),
         record(6, 0, 0, 0, 0.5), // Φ
         record(7, 0, 0, 0, 8.0), // sigma2
         record(8, 0, 0, 0, 6.0), // β

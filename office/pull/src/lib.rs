@@ -6,6 +6,9 @@
 //! code that runs in the stand's panel, so with its bits.
 //! [`satterthwaite`] tests a contrast of a file of its own kinds.
 //!
+//! A specimen whose weight (kind 5) is zero is torn: its film tore outside the
+//! glue. It counts as absent, in [`kenward_roger`] and in [`archive`].
+//!
 //! [`archive`] keeps what the tests of a series need of it: the adjusted
 //! matrices, in response units and as the tests use them. [`archive_test`] makes
 //! the tests from that archive later, with the series' β and contrast
@@ -83,6 +86,21 @@ mod c {
 }
 
 /// Judges a series by Kenward–Roger.
+///
+/// A specimen of weight 0, +0 or -0, is torn. Its records are asked for and must
+/// be finite, as any other's; then its rows of X and Z and its weight are
+/// dropped, and the answer is that of the specimens that are left. All sizes but
+/// the number of specimens stay as sent. A weight below zero is refused
+/// ([`Refusal::Weight`]), and so is a series of torn specimens alone
+/// ([`Refusal::Size`]).
+///
+/// ```
+/// use pull::example;
+/// // A third pull that tore changes nothing.
+/// let torn = example::records_with_a_torn_pull();
+/// assert_eq!(pull::kenward_roger(&torn)?, pull::kenward_roger(&example::records())?);
+/// # Ok::<(), pull::Refusal>(())
+/// ```
 pub fn kenward_roger(records: &[u8]) -> Result<Run, Refusal> {
     let mut answer = [0; KENWARD_ROGER_BYTES];
     match kenward_roger_fill(records, &mut answer) {
@@ -127,7 +145,8 @@ pub fn satterthwaite_fill(records: &[u8], answer: &mut [u8]) -> u32 {
 ///
 /// No test is run. A series that is refused by a test alone, by
 /// [`Refusal::Pivot`], is archived, and the test from its archive is refused
-/// alike.
+/// alike. Torn specimens are dropped, as [`kenward_roger`] says, and the archive
+/// knows nothing of them.
 ///
 /// ```
 /// let series = pull::example::records();

@@ -22,13 +22,15 @@ pub enum Refusal {
     /// response units (kinds 11 to 13) whose bits are not those of its record in
     /// residual units, multiplied with or divided by sigma2.
     Records,
-    /// 3: a size outside its limits.
+    /// 3: a size outside its limits; or every weight is zero, so that no specimen
+    /// is left.
     Size,
     /// 4: an input, or a number of the adjustment's output, is not finite.
     NotFinite,
     /// 5: sigma2 is not above zero.
     Sigma2,
-    /// 6: a weight is not above zero.
+    /// 6: a weight is below zero. Zero, of either sign, is not refused: its
+    /// specimen is torn, and counts as absent.
     Weight,
     /// 7: the blocks do not fit the random columns or the thetas.
     Blocks,
@@ -89,10 +91,10 @@ impl fmt::Display for Refusal {
         let text = match self {
             Length => "the bytes lent for the answer have another length than the stated one",
             Records => "the record file is damaged or incomplete, or an archive's units do not fit",
-            Size => "a size is outside its limits",
+            Size => "a size is outside its limits, or every weight is zero",
             NotFinite => "an input, or a number of the adjustment, is not finite",
             Sigma2 => "sigma2 is not above zero",
-            Weight => "a weight is not above zero",
+            Weight => "a weight is below zero",
             Blocks => "the blocks do not fit the random columns or the thetas",
             ZeroContrast => "the contrast is all zero",
             Cholesky => "the covariance of the specimens is not positive definite",

@@ -13,6 +13,7 @@ use pull::{ARCHIVE_BYTES, KENWARD_ROGER_BYTES, SHORTEST_ARCHIVE};
 use reader::archive::{read_archive, read_both};
 use reader::archive_tries::ArchiveTries;
 use reader::random::Random;
+use reader::torn::Torn;
 use reader::tries::{Call, Tries};
 use reader::vectors::{self, hex, kenward_roger_outcome};
 use std::collections::BTreeMap;
@@ -266,14 +267,21 @@ fn hostile_series() {
     let tries = Tries::new(Call::KenwardRoger);
     let mut memory = [Fenced::new(), Fenced::new()];
     let mut tally: BTreeMap<u32, u64> = BTreeMap::new();
+    let (mut torn, mut torn_archived) = (0, 0);
     for seed in 0..CALLS {
         let mut random = Random::new(seed);
         let file = tries.file(&mut random);
         let number = one_series(&file, &mut random, &mut memory)
             .unwrap_or_else(|text| panic!("seed {seed}: {text}"));
         *tally.entry(number).or_default() += 1;
+        if Torn::of(&file).is_some() {
+            torn += 1;
+            torn_archived += u64::from(number as usize >= SHORTEST_ARCHIVE);
+        }
     }
     println!("pull_archive: {CALLS} calls, by number returned or length: {tally:?}");
+    println!("  {torn} series with torn specimens, {torn_archived} of them archived");
+    assert!(torn_archived > 1_000, "{torn_archived} archived");
     for number in [1, 2, 3, 4, 5, 6, 7, 8, 9, 12, SHORTEST_ARCHIVE as u32] {
         assert!(tally.get(&number).is_some_and(|&n| n >= 20), "{number} was hardly met: {tally:?}");
     }

@@ -1,4 +1,4 @@
-/* pull.h from C: document 01's examples, refusals, other lengths. */
+/* pull.h from C: document 01's examples, a torn pull, refusals, other lengths. */
 
 #include "pull.h"
 
@@ -87,6 +87,47 @@ static int kenward_roger(void)
     for (i = 24; i < 144; i++)
         if (answer[i] != 0)
             return failed("an unused entry");
+    return 0;
+}
+
+/* The example with weights, and with a third pull whose film tore: the same answer. */
+static int torn(void)
+{
+    uint8_t records[160], whole[96], answer[PULL_KENWARD_ROGER_BYTES], expected[PULL_KENWARD_ROGER_BYTES];
+    uint8_t kept[PULL_KENWARD_ROGER_BYTES], row;
+
+    example(whole);
+    if (pull_kenward_roger(whole, sizeof whole, expected, sizeof expected) != PULL_ACCEPTED)
+        return failed("the example is refused");
+    for (row = 0; row < 3; row++) {
+        record(records + 16 * row, 1, row, 0, row == 2 ? 1e300 : 1.0);
+        record(records + 48 + 16 * row, 5, row, 0, row == 2 ? 0.0 : 1.0);
+    }
+    memcpy(records + 96, whole + 32, 64);
+    if (pull_kenward_roger(records, sizeof records, answer, sizeof answer) != PULL_ACCEPTED)
+        return failed("a torn pull");
+    if (memcmp(answer, expected, sizeof answer) != 0)
+        return failed("a torn pull has changed the answer");
+    record(records + 80, 5, 2, 0, -0.0);
+    if (pull_kenward_roger(records, sizeof records, answer, sizeof answer) != PULL_ACCEPTED)
+        return failed("a pull torn by -0");
+    if (memcmp(answer, expected, sizeof answer) != 0)
+        return failed("a pull torn by -0 has changed the answer");
+
+    memset(answer, 0xa5, sizeof answer);
+    memset(kept, 0xa5, sizeof kept);
+    record(records + 64, 5, 1, 0, -1.0);
+    if (pull_kenward_roger(records, sizeof records, answer, sizeof answer) != PULL_WEIGHT)
+        return failed("a weight of -1 beside a zero");
+    record(records + 32, 1, 2, 0, HUGE_VAL);
+    if (pull_kenward_roger(records, sizeof records, answer, sizeof answer) != PULL_NOT_FINITE)
+        return failed("a torn pull that is not finite");
+    record(records + 48, 5, 0, 0, 0.0);
+    record(records + 64, 5, 1, 0, -0.0);
+    if (pull_kenward_roger(records, sizeof records, answer, sizeof answer) != PULL_SIZE)
+        return failed("all pulls torn");
+    if (memcmp(answer, kept, sizeof answer) != 0)
+        return failed("a refusal has written answer bytes");
     return 0;
 }
 
@@ -199,6 +240,8 @@ static int archive(void)
 int main(void)
 {
     if (kenward_roger() != 0)
+        return 1;
+    if (torn() != 0)
         return 1;
     if (satterthwaite() != 0)
         return 1;

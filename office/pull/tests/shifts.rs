@@ -4,16 +4,19 @@
 //! outside whose verdict changes.
 //!
 //! The series are the stored vectors, those with some of their values replaced
-//! by random ones, and random small files.
+//! by random ones or with torn specimens, and random small files.
 
 use reader::random::Random;
 use reader::shift::Shift;
+use reader::torn::{with_torn, Torn};
 use reader::tries::{Call, Tries};
 use reader::vectors::{self, hex};
 use reader::{Record, BLOCK};
 
 /// Shifts of inside series, at least, for each call.
 const INSIDE: usize = 20_000;
+/// Of these with torn specimens, at least; the Satterthwaite call has none.
+const TORN: usize = 4_000;
 /// Shifts of each stored vector as it is.
 const EACH: usize = 4;
 
@@ -30,6 +33,8 @@ struct Seen {
     inside: usize,
     /// Inside series that are inside in the other unit too.
     both: usize,
+    /// Inside series with torn specimens.
+    torn: usize,
     outside: usize,
     outside_changed: usize,
     /// Inside series by the bytes of their file, in steps of 640.
@@ -65,6 +70,7 @@ impl Function {
         if inside(&before) {
             assert!(same, "{shift:?} of {}: {before:02x?}, then {after:02x?}", hex(file));
             seen.inside += 1;
+            seen.torn += usize::from(Torn::of(file).is_some());
             seen.both += usize::from(after.is_ok_and(|a| inside(&a)));
             seen.lengths[(file.len() / 640).min(15)] += 1;
         } else {
@@ -89,10 +95,10 @@ impl Function {
         let tries = Tries::new(self.call);
         while seen.inside < INSIDE {
             let stored = &stored[random.below(stored.len())].file;
-            let file = if random.once_in(2) {
-                varied(&mut random, stored)
-            } else {
-                tries.file(&mut random)
+            let file = match random.below(8) {
+                0..=3 => varied(&mut random, stored),
+                4 if self.call == Call::KenwardRoger => with_torn(&mut random, stored),
+                _ => tries.file(&mut random),
             };
             self.shifted(&file, &mut random, &mut seen);
         }
@@ -100,11 +106,13 @@ impl Function {
             "{:?}: {} shifts of inside series, no verdict changed, {} inside in both units;",
             self.call, seen.inside, seen.both
         );
+        println!("  {} of them with torn specimens;", seen.torn);
         println!("  by the length of the file, in steps of 40 records: {:?};", seen.lengths);
         println!("  {} of series outside, {} verdicts changed", seen.outside, seen.outside_changed);
         let (file, shift) = seen.example.expect("a verdict of a series outside changes");
         println!("  the shortest of these: {shift:?} of {}", hex(&file));
         assert!(seen.outside_changed >= 20, "the mark means little");
+        assert!(self.call == Call::Satterthwaite || seen.torn >= TORN, "{} torn", seen.torn);
     }
 }
 

@@ -24,6 +24,24 @@ fn changed(at: usize, record: [u8; 16]) -> Vec<u8> {
     file
 }
 
+/// The example with weights.
+fn weighted(weights: [f64; 2]) -> Vec<u8> {
+    let file = example::records();
+    let record = |row: u8| example::record(5, row, 0, 0, weights[row as usize]);
+    [&file[..32], &record(0), &record(1), &file[32..]].concat()
+}
+
+/// A torn pull beside the example's, by either call that has specimens.
+#[test]
+fn a_torn_pull() {
+    let (torn, file) = (example::records_with_a_torn_pull(), example::records());
+    assert_eq!(kenward_roger(&torn), kenward_roger(&file));
+    assert_eq!(pull::archive(&torn), pull::archive(&file));
+    let one = kenward_roger(&weighted([0.0, 1.0])).expect("it is accepted");
+    assert_eq!(one.coefficients[0].f, Some(1.8));
+    assert_eq!(Refusal::Weight.to_string(), "a weight is below zero");
+}
+
 #[test]
 fn refusals() {
     let cases = [
@@ -34,6 +52,8 @@ fn refusals() {
         (changed(2, example::record(6, 0, 0, 0, 0.0)), Refusal::Pivot),
         (changed(2, example::record(9, 0, 0, 0, 1.0)), Refusal::Order),
         (changed(1, example::record(1, 0, 0, 0, 2.0)), Refusal::Order),
+        (weighted([1.0, -1.0]), Refusal::Weight),
+        (weighted([0.0, -0.0]), Refusal::Size),
     ];
     for (file, refusal) in cases {
         assert_eq!(kenward_roger(&file), Err(refusal));

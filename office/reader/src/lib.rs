@@ -6,6 +6,9 @@
 //! show; then 3, 4, and so on. So the reading goes: length, order, records,
 //! cells, sizes, then the values.
 //!
+//! A specimen whose weight is zero is torn, and counts as absent. The reader gives
+//! the series as it was sent; `torn` has what is left of it.
+//!
 //! It was written from documents 01 and 02 and the project's decisions, and shares
 //! nothing with the panel's reader, so that the one can be held to the other.
 //! Beside it: random numbers, random files (`tries`) and the stored vectors, for the
@@ -19,6 +22,7 @@ pub mod archive_tries;
 pub mod order;
 pub mod random;
 pub mod shift;
+pub mod torn;
 pub mod tries;
 pub mod vectors;
 
@@ -72,7 +76,8 @@ pub struct Block {
     pub k: usize,
 }
 
-/// An accepted series of the Kenward–Roger call.
+/// An accepted series of the Kenward–Roger call, as it was sent: torn specimens
+/// are in it.
 #[derive(Debug, Clone, PartialEq)]
 pub struct Series {
     pub x: Matrix,
@@ -311,9 +316,10 @@ pub fn read(bytes: &[u8]) -> Result<Series, Refusal> {
         contrast: contrast(&cells, p)?,
         beta_h: cells.optional_list(BETA_H, p)?,
     };
-    // 3: sizes outside their limits that no index has caught.
+    // 3: sizes outside their limits that no index has caught, and no specimen left.
     if shapes.iter().any(|&(m, k)| m == 0 || !(k == 1 || k == 2))
         || parameters(&shapes) > BLOCK_PARAMETERS.into()
+        || all_torn(&series.weights)
     {
         return Err(BAD_SIZE);
     }
@@ -323,7 +329,7 @@ pub fn read(bytes: &[u8]) -> Result<Series, Refusal> {
     if series.sigma2 <= 0.0 {
         return Err(SIGMA2);
     }
-    if series.weights.iter().flatten().any(|&w| w <= 0.0) {
+    if series.weights.iter().flatten().any(|&w| w < 0.0) {
         return Err(WEIGHT);
     }
     let columns: u64 = shapes.iter().map(|&(m, k)| m * k).sum();
@@ -371,6 +377,11 @@ fn contrast(cells: &Cells, p: usize) -> Result<Option<Matrix>, Refusal> {
     } else {
         Ok(None)
     }
+}
+
+/// Whether weights are there and all of them are zero.
+fn all_torn(weights: &Option<Vec<f64>>) -> bool {
+    weights.iter().any(|w| w.iter().all(|&w| torn::is_torn(w)))
 }
 
 /// Whether a contrast is there and has no cell that is not zero.

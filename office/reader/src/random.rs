@@ -8,6 +8,11 @@ impl Random {
         Random(seed)
     }
 
+    /// Numbers apart: what is drawn of them does not move those that follow here.
+    pub fn apart(&self) -> Random {
+        Random(self.0 ^ 0x746f_726e_6669_6c6d)
+    }
+
     pub fn bits(&mut self) -> u64 {
         self.0 = self.0.wrapping_add(0x9e37_79b9_7f4a_7c15);
         let mut z = self.0;

@@ -2,9 +2,11 @@
 //! files that are right or nearly so, and stored vectors with some of their
 //! bytes changed. Most of them a call must refuse. Most have their records in
 //! order, since a file that does not rise is refused before they are looked at.
+//! Some series have torn specimens: weights of zero, of either sign.
 
 use crate::order::{block_twice, disturbed, sorted, sorted_once};
 use crate::random::Random;
+use crate::torn::{spoiled, with_torn};
 use crate::vectors;
 use crate::{read, read_satterthwaite, Record, Refusal, BLOCK};
 
@@ -63,6 +65,9 @@ impl Call {
 /// Short files only: a million calls are to be made.
 const LONGEST: usize = 30 * 16;
 
+/// One series in so many is torn before it is changed.
+const TORN_ONE_IN: usize = 5;
+
 /// Maker of files for one call.
 pub struct Tries {
     call: Call,
@@ -81,14 +86,16 @@ impl Tries {
             0 | 1 => (0..r.below(100)).map(|_| r.bits() as u8).collect(),
             2 | 3 => self.random_records(r),
             4..=9 => {
-                let mut file = self.small(r);
+                let small = self.small(r);
+                let mut file = self.torn(r, small);
                 for _ in 0..r.below(3) {
                     self.change(r, &mut file);
                 }
                 placed(r, file)
             }
             _ => {
-                let mut file = self.stored[r.below(self.stored.len())].clone();
+                let stored = self.stored[r.below(self.stored.len())].clone();
+                let mut file = self.torn(r, stored);
                 for _ in 0..r.below(5) {
                     self.change(r, &mut file);
                 }
@@ -124,6 +131,19 @@ impl Tries {
             Call::Satterthwaite => small_satterthwaite(r),
         };
         records.into_iter().flat_map(Record::to_bytes).collect()
+    }
+
+    /// A series, now and then with torn specimens. The other call has none.
+    fn torn(&self, r: &mut Random, file: Vec<u8>) -> Vec<u8> {
+        if self.call == Call::Satterthwaite || !r.once_in(TORN_ONE_IN) {
+            return file;
+        }
+        let torn = with_torn(r, &file);
+        if r.once_in(6) {
+            spoiled(r, &torn)
+        } else {
+            torn
+        }
     }
 
     /// One change.

@@ -3,6 +3,7 @@
 
 use reader::order;
 use reader::random::Random;
+use reader::torn::Torn;
 use reader::tries::{Call, Tries};
 use reader::Record;
 use std::collections::BTreeMap;
@@ -51,4 +52,26 @@ fn tries_reach_each_refusal() {
         few.iter().for_each(|&number| least(number, 100));
         [0, 2, 12].into_iter().for_each(|number| least(number, 10_000));
     }
+}
+
+/// Of 100,000 files thousands have torn specimens and are accepted; those with no
+/// other specimen, with a torn row that is not finite, and with a weight below
+/// zero are met often.
+#[test]
+fn tries_have_torn_specimens() {
+    let tries = Tries::new(Call::KenwardRoger);
+    let (mut accepted, mut all, mut not_finite, mut below_zero) = (0, 0, 0, 0);
+    for seed in 0..100_000 {
+        let file = tries.file(&mut Random::new(seed));
+        let Some(torn) = Torn::of(&file) else { continue };
+        match Call::KenwardRoger.verdict(&file) {
+            Ok(_) => accepted += 1,
+            Err(3) if torn.all => all += 1,
+            Err(4) if torn.not_finite => not_finite += 1,
+            Err(6) => below_zero += 1,
+            Err(_) => {}
+        }
+    }
+    println!("{accepted} accepted, {all} all torn, {not_finite} not finite, {below_zero} below 0");
+    assert!(accepted > 2_000 && all > 500 && not_finite > 100 && below_zero > 30);
 }

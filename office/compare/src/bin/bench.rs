@@ -15,15 +15,21 @@
 //! `bench --archive [ROUNDS]` has the archive's two functions beside the direct
 //! call instead, by the panel alone.
 //!
-//! `bench --calls RUN SIZE COUNT` only calls one of the three (0 to 2) or of the
-//! archive's two (3: `pull_archive`, 4: `pull_archive_test`), on the series of
-//! one size of the first table (0 to 9), COUNT times each: for a program that
-//! counts instructions.
+//! `bench --torn [ROUNDS]` has what torn specimens cost, by the panel alone: series
+//! with every other specimen torn, beside the same specimens without a zero weight,
+//! and beside the file of those that are left.
+//!
+//! `bench --calls RUN SIZE COUNT` only calls one of the three (0 to 2), of the
+//! archive's two (3: `pull_archive`, 4: `pull_archive_test`) or of the torn ones
+//! (5: torn, 6: whole, 7: left), on the series of one size of the first table (0 to
+//! 9), COUNT times each: for a program that counts instructions.
 
-use oracle::random::{kr_file, series_of_sizes};
+use oracle::calls::series_to_run;
+use oracle::random::{file, kr_file, kr_records, series_of_sizes};
 use oracle::{lme_run, marked};
 use reader::random::Random;
-use reader::{read, Block};
+use reader::torn::shortened;
+use reader::{Block, Series};
 use std::hint::black_box;
 use std::time::Instant;
 
@@ -73,19 +79,68 @@ struct Files {
     tests: Vec<u8>,
 }
 
-fn panel(files: &Files) {
+/// A file with every other specimen torn, the same file with none, and the file
+/// without the torn ones, all of which the panel accepts.
+struct TornFiles {
+    torn: Vec<u8>,
+    whole: Vec<u8>,
+    left: Vec<u8>,
+}
+
+fn torn(files: &TornFiles) {
+    call(&files.torn);
+}
+
+fn whole(files: &TornFiles) {
+    call(&files.whole);
+}
+
+fn left(files: &TornFiles) {
+    call(&files.left);
+}
+
+/// One call of the panel.
+fn call(series: &[u8]) {
     let mut answer = [0; pull::KENWARD_ROGER_BYTES];
-    black_box(pull::kenward_roger_fill(black_box(&files.series), &mut answer));
+    black_box(pull::kenward_roger_fill(black_box(series), &mut answer));
     black_box(answer);
 }
 
+const TORN_RUNS: [fn(&TornFiles); 3] = [torn, whole, left];
+
+/// Accepted series of a size with weights, and with every other one zero.
+fn torn_files(size: &Size) -> Vec<TornFiles> {
+    let mut random = Random::new(1000 * size.n as u64 + 10 * size.p as u64 + size.rows as u64);
+    let mut out = Vec::new();
+    for _ in 0..1000 {
+        let series = series_of_sizes(&mut random, size.n, size.p, size.blocks.clone(), size.rows);
+        let weights: Vec<f64> = (0..size.n).map(|_| random.positive()).collect();
+        let zeros = weights.iter().enumerate().map(|(i, &w)| if i % 2 == 1 { 0.0 } else { w });
+        let of = |weights| file(&kr_records(&Series { weights, ..series.clone() }, false));
+        let torn = of(Some(zeros.collect()));
+        let files = TornFiles { left: shortened(&torn), torn, whole: of(Some(weights)) };
+        let accepted = |file: &[u8]| pull::kenward_roger(file).is_ok();
+        if [&files.torn, &files.whole, &files.left].into_iter().all(|file| accepted(file)) {
+            out.push(files);
+        }
+        if out.len() == SERIES {
+            return out;
+        }
+    }
+    panic!("too few accepted series of n = {}, p = {}", size.n, size.p)
+}
+
+fn panel(files: &Files) {
+    call(&files.series);
+}
+
 fn lme_rs(files: &Files) {
-    let series = read(black_box(&files.series)).expect("it is accepted");
+    let series = series_to_run(black_box(&files.series)).expect("it is accepted");
     black_box(lme_run::each_step_once(&series).expect("it is accepted"));
 }
 
 fn marked_run(files: &Files) {
-    let series = read(black_box(&files.series)).expect("it is accepted");
+    let series = series_to_run(black_box(&files.series)).expect("it is accepted");
     black_box(marked::kenward_roger_run(&series).expect("it is accepted"));
 }
 
@@ -128,7 +183,7 @@ fn files(size: &Size) -> Vec<Files> {
 }
 
 /// Microseconds for one call, over all files, `times` times.
-fn time(run: Run, files: &[Files], times: usize) -> f64 {
+fn time<F>(run: fn(&F), files: &[F], times: usize) -> f64 {
     let began = Instant::now();
     for _ in 0..times {
         files.iter().for_each(run);
@@ -140,18 +195,17 @@ fn least(times: Vec<f64>) -> f64 {
     times.into_iter().fold(f64::INFINITY, f64::min)
 }
 
-/// The least time of each of three runs.
-fn measure(runs: [Run; 3], size: &Size, rounds: usize) -> [f64; 3] {
-    let files = files(size);
+/// The least time of each of three runs on these files.
+fn measure<F>(runs: [fn(&F); 3], files: &[F], rounds: usize) -> [f64; 3] {
     // Once to warm up, and to know how often a round has to call.
     let times = runs.map(|run| {
-        let once = time(run, &files, 1).max(0.01) * files.len() as f64;
+        let once = time(run, files, 1).max(0.01) * files.len() as f64;
         (LEAST / once).ceil() as usize
     });
     let mut measured = [Vec::new(), Vec::new(), Vec::new()];
     for _ in 0..rounds {
         for (i, run) in runs.into_iter().enumerate() {
-            measured[i].push(time(run, &files, times[i]));
+            measured[i].push(time(run, files, times[i]));
         }
     }
     measured.map(least)
@@ -197,7 +251,12 @@ fn calls(words: &[String]) {
     let [run, size, count] = numbers[..] else {
         panic!("--calls RUN SIZE COUNT");
     };
-    let files = files(&sizes()[size]);
+    let size = &sizes()[size];
+    if run >= 5 {
+        let (files, run) = (torn_files(size), TORN_RUNS[run - 5]);
+        return (0..count).for_each(|_| files.iter().for_each(run));
+    }
+    let files = files(size);
     let run = [RUNS[0], RUNS[1], RUNS[2], ARCHIVE_RUNS[1], ARCHIVE_RUNS[2]][run];
     (0..count).for_each(|_| files.iter().for_each(run));
 }
@@ -212,11 +271,34 @@ fn archives(rounds: usize) {
         "n", "p", "archive", "rows", "direct µs", "archive µs", "test µs"
     );
     for size in sizes() {
-        let length = files(&size)[0].archive.len();
-        let [direct, archive, test] = measure(ARCHIVE_RUNS, &size, rounds);
+        let files = files(&size);
+        let length = files[0].archive.len();
+        let [direct, archive, test] = measure(ARCHIVE_RUNS, &files, rounds);
         println!(
             "{:>3} {:>2} {length:>8} {:>4} {direct:>11.2} {archive:>11.2} {test:>11.2}",
             size.n, size.p, size.rows
+        );
+    }
+}
+
+/// The series of the first table that have four specimens and more.
+fn torn_series(rounds: usize) {
+    println!(
+        "One call, reading included; least of {rounds} rounds; {SERIES} series of each size.\n"
+    );
+    println!(
+        "{:>3} {:>4} {:>2} {:>9} {:>4} {:>11} {:>11} {:>11}",
+        "n", "torn", "p", "Z columns", "rows", "torn µs", "whole µs", "left µs"
+    );
+    for size in sizes().into_iter().filter(|size| size.n >= 4) {
+        let [torn, whole, left] = measure(TORN_RUNS, &torn_files(&size), rounds);
+        println!(
+            "{:>3} {:>4} {:>2} {:>9} {:>4} {torn:>11.2} {whole:>11.2} {left:>11.2}",
+            size.n,
+            size.n / 2,
+            size.p,
+            columns(&size),
+            size.rows
         );
     }
 }
@@ -230,17 +312,20 @@ fn main() {
     if words.first().is_some_and(|w| w == "--archive") {
         return archives(rounds);
     }
+    if words.first().is_some_and(|w| w == "--torn") {
+        return torn_series(rounds);
+    }
     println!("One call, reading included; least of {rounds} rounds; {SERIES} series of each size.");
     println!("The ratios are the panel's time over the other's.\n");
     head();
     for size in sizes() {
-        line(&size, measure(RUNS, &size, rounds));
+        line(&size, measure(RUNS, &files(&size), rounds));
     }
     println!("\nGrowth with n: p = 3, three blocks of two groups, two contrast rows.\n");
     head();
     let mut measured = Vec::new();
     for size in growth() {
-        let times = measure(RUNS, &size, rounds);
+        let times = measure(RUNS, &files(&size), rounds);
         line(&size, times);
         measured.push((size.n, times));
     }
