@@ -65,30 +65,26 @@ PULL = b"".join([
     record(1, 0, 0, 1.0), record(1, 1, 0, 1.0), record(6, value=0.5), record(7, value=8.0), record(8, value=6.0), record(9, value=1.0),
 ])
 
-# Two recipes on twelve specimens from four batches, three of each; the batch is the random effect. Is recipe B stronger by more than 2?
-BATCHES = series(
-    x=[[1.0, float(i % 2)] for i in range(12)],
-    z=[[float(i // 3 == g) for g in range(4)] for i in range(12)],
-    blocks=[(1, 4)],
-    theta=[0.75],
-    sigma2=4.0,
-    beta=[41.5, 5.25],
-    contrast=[[0.0, 1.0]],
-    hypothesis=[0.0, 2.0],
-)
+
+def batches(weights=()):
+    """Two recipes on twelve specimens from four batches, three of each; the batch is the random effect. Is recipe B stronger by more than 2?"""
+    return series(
+        x=[[1.0, float(i % 2)] for i in range(12)],
+        z=[[float(i // 3 == g) for g in range(4)] for i in range(12)],
+        blocks=[(1, 4)],
+        theta=[0.75],
+        sigma2=4.0,
+        beta=[41.5, 5.25],
+        contrast=[[0.0, 1.0]],
+        hypothesis=[0.0, 2.0],
+        weights=weights,
+    )
+
+
+BATCHES = batches()
 
 # The same after one film tore outside the glue, the fifth: its weight is 0, and it counts as absent. The other pulls weigh 1, as pulls without a weight do.
-TORN = series(
-    x=[[1.0, float(i % 2)] for i in range(12)],
-    z=[[float(i // 3 == g) for g in range(4)] for i in range(12)],
-    blocks=[(1, 4)],
-    theta=[0.75],
-    sigma2=4.0,
-    beta=[41.5, 5.25],
-    contrast=[[0.0, 1.0]],
-    hypothesis=[0.0, 2.0],
-    weights=[float(i != 4) for i in range(12)],
-)
+TORN = batches(weights=[float(i != 4) for i in range(12)])
 
 # The pulls of batches.rec with a second grouping, the operator, and both coefficients tested together; the second row says the first again in other units.
 OPERATORS = series(
