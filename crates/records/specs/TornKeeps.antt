@@ -39,7 +39,7 @@ module _ (w : ℕ) (c : Cutoffs) (d : Design) (s answer : List ℕ) where
   designWritten = cond (eqb designReturned 0) (answerBytes (designRun c d s .entries)) answer
 
 -- ---- the file with the torn rows' records taken out and the others numbered anew
--- "1 X; 2 Z; 5 weight": the kinds of which a row is a specimen
+-- "1 X; 2 Z (absent is 0); .. 5 weight": the kinds of which a row is a specimen
 unfoldable pub ofSpecimen : ℕ → Bool
 ofSpecimen kind = eqb kind 1 || eqb kind 2 || eqb kind 5
 
@@ -58,7 +58,8 @@ renumbered s i = cond (ofSpecimen (kindOf s i)) (set (recordAt s i) 1 (newRow s 
 unfoldable pub withoutTorn : List ℕ → List ℕ
 withoutTorn s = sequence (count s) (λ i. cond (ofTorn s i) [] (renumbered s i))
 
--- record i is of a column of Z that loses its last record: it has none in a row that is kept. "sizes but n stay as sent", so that such a column stays in the series, as zeros; in the file it would be gone.
+-- record i is of a column of Z that loses its last record: it has none in a row that is kept. "sizes but n stay as sent", so that such a column stays in the series, as zeros; a file has its columns by the largest index,
+-- and the file without the record may have fewer.
 unfoldable pub columnLost : List ℕ → ℕ → Bool
 columnLost s i = eqb (kindOf s i) 2 && not (any (count s) (λ j. eqb (kindOf s j) 2 && eqb (columnOf s j) (columnOf s i) && not (torn (asSent s) (rowOf s j))))
 
