@@ -10,8 +10,8 @@ use lib.Ieee.{Float, binary64, ofBits}
 use lib.Ieee.Bits.{ofBits-toBits, toBits-lt}
 use Rattle.records.specs.Bytes.{byte, bytesOf}
 use Rattle.records.specs.File.{count, kindOf, rowOf, columnOf, countOf, bitsOf, valueOf}
+use Rattle.records.specs.Alike.{Alike, Stays}
 use Rattle.converter.specs.Converted.{Change, rewritten, newBits, converted}
-use Rattle.converter.specs.ReadAlike.{Alike}
 use Rattle.records.proofs.WrittenLaws.{long-bytes, word-same, long-same}
 use Rattle.converter.proofs.Bytes.{length-converted, byte-kept, byte-other, byte-new}
 use Rattle.converter.proofs.Rewritten.{rewritten-fits}
@@ -53,6 +53,9 @@ module _ (g : Change) (s : List ℕ) where
   -- the value of a kind that is not rewritten stays; that of one that is becomes what the change makes of it
   pub value-other : (i : ℕ) → g .rewrites (kindOf s i) ≡ false → valueOf (converted g s) i ≡ valueOf s i
   value-other i e = ap (ofBits binary64) (bits-other i e)
+
+  pub kept-stays : (k : ℕ) → g .rewrites k ≡ false → Stays s (converted g s) k
+  kept-stays k e i q = value-other i (ap (g .rewrites) q ∙ e)
 
   pub value-new : (i : ℕ) → i < count s → g .rewrites (kindOf s i) ≡ true → valueOf (converted g s) i ≡ rewritten g (kindOf s i) (countOf s i) (rowOf s i) (columnOf s i) (valueOf s i)
   unfolding newBits

@@ -24,7 +24,8 @@ use Rattle.converter.specs.Converted.{kenwardRogerShift, kenwardRogerCha
 use Rattle.converter.specs.ReadAlike.{Exact, ReadAlike}
 use Rattle.converter.proofs.Among.{among}
 use Rattle.converter.proofs.ReadAlike.{exact-cells}
-use Rattle.converter.proofs.Series.{series-numbered, series-alike, kinds-same}
+use Rattle.records.proofs.SameSeries.{kinds-same}
+use Rattle.converter.proofs.Series.{series-numbered, series-alike}
 use Rattle.converter.proofs.Refusals.{reasons-same}
 
 -- sigma2, the cells of β and those of the contrast are, scaled, f64 numbers again; so are those of β_H where there is a contrast
@@ -118,7 +119,7 @@ module _ (k : ℤ) (m : ℕ → ℤ) (s : List ℕ) (within : any (count s) (bey
 
   product : (z r c : ℕ) → kenwardRogerChange k m .rewrites z ≡ true → cellValue s' z r c ≡ mul binary64 (cellValue s z r c) (powerOfTwo (kenwardRogerShift k m z 0 r c))
   unfolding rewritten
-  product z r c e = ap (λ (t : Table). cell t s' z 0 r c) (kinds-same k m s) ∙ alike .newCell within z 0 r c e (series-numbered k m (sizes s) z e)
+  product z r c e = ap (λ (t : Table). cell t s' z 0 r c) (kinds-same (alike .alike)) ∙ alike .newCell within z 0 r c e (series-numbered k m (sizes s) z e)
 
   pub sigma2-product : sigma2 s' ≡ mul binary64 (sigma2 s) (powerOfTwo (k +ℤ k))
   unfolding kenwardRogerShift

@@ -2,7 +2,6 @@
 pub mod Bytes
 pub mod Rewritten
 pub mod Fields
-pub mod SameFile
 pub mod Cells
 pub mod ReadAlike
 pub mod Among

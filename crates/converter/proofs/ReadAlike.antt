@@ -9,17 +9,18 @@ use lib.Ieee.{Float, binary64, fits}
 use Rattle.arithmetic.specs.Numbers.{plusZero, isFinite}
 use Rattle.arithmetic.specs.Scale.{scale}
 use Rattle.arithmetic.proofs.PlainLaws.{finite-scale}
-use Rattle.records.specs.Scan.{any, last}
+use Rattle.records.specs.Scan.{any}
 use Rattle.records.specs.Kinds.{Table, kindAt, valueHolds}
-use Rattle.records.specs.File.{count, kindOf, rowOf, columnOf, countOf, bitsOf, valueOf, cellCount, cellRow, cellColumn, isCell, cell, again, beyond, notFinite}
-use Rattle.records.proofs.ScanLaws.{any-none, any-same, last-both}
+use Rattle.records.specs.Alike.{Alike}
+use Rattle.records.specs.File.{count, kindOf, rowOf, columnOf, countOf, bitsOf, valueOf, cellCount, cellRow, cellColumn, cell, again, beyond, notFinite}
+use Rattle.records.proofs.ScanLaws.{any-none, any-same}
 use Rattle.records.proofs.Slots.{Inside, sized-inside, Names, cell-names}
 use Rattle.records.proofs.CellLaws.{own-cell}
+use Rattle.records.proofs.SameFile.{count-same, rows-same, columns-same, present-same, cell-both, cell-stays, length-same, falls-same, form-same}
 use Rattle.converter.specs.Converted.{Change, rewritten, converted}
-use Rattle.converter.specs.ReadAlike.{moves, movesRecord, Exact, OnFloats, Alike, numbered, ConvertedReadsAlike}
+use Rattle.converter.specs.ReadAlike.{moves, movesRecord, Exact, OnFloats, numbered, ConvertedReadsAlike}
 use Rattle.converter.proofs.Rewritten.{rewritten-zero, rewritten-scales}
-use Rattle.converter.proofs.Fields.{converted-alike, bits-other, value-other, value-new}
-use Rattle.converter.proofs.SameFile.{count-same, rows-same, columns-same, present-same, isCell-same, length-same, falls-same, form-same}
+use Rattle.converter.proofs.Fields.{converted-alike, bits-other, value-other, kept-stays, value-new}
 use Rattle.converter.proofs.Cells.{own-fields}
 
 module _ (g : Change) (s : List ℕ) where
@@ -53,21 +54,14 @@ module _ (g : Change) (s : List ℕ) where
 
   -- ---- the cells
   module _ (t : Table) (k n r c : ℕ) where
-    -- any relation between +0 and +0 and between the values of the records that name the cell holds of the cell
-    cell-both : (R : Float → Float → Type 0) → R plusZero plusZero → ((i : ℕ) → i < count s → isCell t s k n r c i ≡ true → R (valueOf s i) (valueOf s' i)) → R (cell t s k n r c) (cell t s' k n r c)
-    unfolding cell
-    cell-both R z h =
-        subst (λ (m : ℕ). R (last (count s) (isCell t s k n r c) (valueOf s) plusZero) (last m (isCell t s' k n r c) (valueOf s') plusZero)) (sym (count-same a))
-        (last-both R (count s) (isCell t s k n r c) (isCell t s' k n r c) (valueOf s) (valueOf s') plusZero plusZero (λ i l. sym (isCell-same a t k n r c i)) z h)
-
     cell-kept : g .rewrites k ≡ false → cell t s' k n r c ≡ cell t s k n r c
-    cell-kept e = cell-both (λ x y. y ≡ x) refl (λ i l p. value-other g s i (ap (g .rewrites) (cell-names t s k n r c i p .kind) ∙ e))
+    cell-kept e = cell-stays a t k n r c (kept-stays g s k e)
 
     -- what holds of each record by its own fields, holds of the cell by its indices
     cell-moves : (R : ℕ → ℕ → ℕ → ℕ → Float → Float → Type 0) → R k n r c plusZero plusZero
         → ((i : ℕ) → i < count s → g .rewrites (kindOf s i) ≡ true → R (kindOf s i) (countOf s i) (rowOf s i) (columnOf s i) (valueOf s i) (valueOf s' i))
         → any (count s) (beyond t s) ≡ false → g .rewrites k ≡ true → numbered (kindAt t k) ≡ false → R k n r c (cell t s k n r c) (cell t s' k n r c)
-    cell-moves R z h b e f = cell-both (R k n r c) z (λ i l p. go i l (cell-names t s k n r c i p))
+    cell-moves R z h b e f = cell-both a t k n r c (R k n r c) z (λ i l p. go i l (cell-names t s k n r c i p))
       where
         go : (i : ℕ) → i < count s → Names t s k n r c i → R k n r c (valueOf s i) (valueOf s' i)
         go i l q =

@@ -6,7 +6,6 @@ use mathlib.Core.Bool.{Bool, true, false, _||_, cond}
 use mathlib.Core.List.{List}
 use lib.Dec.{T}
 use lib.IntN.{ℤ, negℤ}
-use lib.ListN.{length}
 use lib.Ieee.{binary64, fits}
 use Rattle.arithmetic.specs.Scale.{scale}
 use Rattle.records.specs.declared.Field.{Field}
@@ -15,7 +14,8 @@ use Rattle.records.specs.declared.Value.the-variants.{Float}
 use Rattle.records.specs.declared.Kind.{Kind}
 use Rattle.records.specs.Scan.{any}
 use Rattle.records.specs.Kinds.{Table, kindAt}
-use Rattle.records.specs.File.{count, kindOf, rowOf, columnOf, paddingOf, countOf, valueOf, cell, rows, columns, present, beyond, notFinite, lengthReasons, formReasons}
+use Rattle.records.specs.File.{count, kindOf, rowOf, columnOf, countOf, valueOf, cell, rows, columns, present, beyond, notFinite, lengthReasons, formReasons}
+use Rattle.records.specs.Alike.{Alike}
 use Rattle.records.specs.Order.{falls}
 use Rattle.converter.specs.Converted.{Change, rewritten, converted}
 
@@ -36,15 +36,6 @@ abbrev pub OnFloats : Change → Table → Type 0
 OnFloats g limit = (k : ℕ) → g .rewrites k ≡ true → kindAt limit k .value ≡ Float
 
 -- ---- two files
--- of one length, whose records have the same fields: they may differ in the value bits alone
-pub record Alike (s s' : List ℕ) : Type 0 where
-  pub size : length s' ≡ length s
-  pub kind : (i : ℕ) → kindOf s' i ≡ kindOf s i
-  pub place : (i : ℕ) → rowOf s' i ≡ rowOf s i
-  pub column : (i : ℕ) → columnOf s' i ≡ columnOf s i
-  pub padding : (i : ℕ) → paddingOf s' i ≡ paddingOf s i
-  pub number : (i : ℕ) → countOf s' i ≡ countOf s i
-
 -- a kind with a field that is a number, as a block's k and m, and so no part of a cell's name
 unfoldable pub isNumber : Field → Bool
 isNumber (Index limit) = false

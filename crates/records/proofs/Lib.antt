@@ -3,6 +3,8 @@ pub mod ScanLaws
 pub mod Slots
 pub mod WrittenLaws
 pub mod CellLaws
+pub mod SameFile
+pub mod SameSeries
 pub mod ReadBack
 pub mod InOrder
 pub mod Canonical

@@ -5,6 +5,7 @@ pub mod Kinds
 pub mod Cells
 pub mod File
 pub mod Order
+pub mod Alike
 pub mod Written
 pub mod Shortened
 pub mod Series

@@ -1,16 +1,19 @@
 -- Two files whose records have the same fields (`Alike`) get the same answers to every question on cells and sizes, with any table of kinds.
-use Prim.Native.Nat.{ℕ, _+_, _-_, _/_, _%_}
-use mathlib.Core.Path.{_≡_, ap, _∙_}
-use mathlib.Core.Bool.{Bool, not, _&&_, _||_, cond}
+use Prim.Native.Nat.{ℕ, _+_, _-_, _/_, _%_, _<_}
+use mathlib.Core.Path.{_≡_, refl, sym, ap, _∙_, subst}
+use mathlib.Core.Bool.{Bool, true, not, _&&_, _||_, cond}
 use mathlib.Core.List.{List, [], _∷_}
 use lib.Dec.{eqb}
+use lib.Ieee.{Float}
+use Rattle.arithmetic.specs.Numbers.{plusZero}
 use Rattle.records.specs.declared.Kind.{Kind}
-use Rattle.records.specs.Scan.{any, most}
+use Rattle.records.specs.Scan.{any, most, last}
 use Rattle.records.specs.Kinds.{Table, kindAt, kindNumbers, valueHolds}
-use Rattle.records.specs.File.{count, kindOf, rowOf, columnOf, paddingOf, bitsOf, outOf, badRecord, cellCount, cellRow, cellColumn, isCell, again, has, rows, columns, present, beyond, missing, lengthReasons, formReasons}
+use Rattle.records.specs.File.{count, kindOf, rowOf, columnOf, paddingOf, bitsOf, valueOf, outOf, badRecord, cellCount, cellRow, cellColumn, isCell, again, has, cell, rows, columns, present, beyond, missing, lengthReasons, formReasons}
 use Rattle.records.specs.Order.{matrixOf, standsBefore, falls}
-use Rattle.records.proofs.ScanLaws.{any-same, most-same}
-use Rattle.converter.specs.ReadAlike.{Alike}
+use Rattle.records.specs.Alike.{Alike, Stays}
+use Rattle.records.proofs.ScanLaws.{any-same, most-same, last-both}
+use Rattle.records.proofs.Slots.{cell-names}
 
 module _ {s s' : List ℕ} (a : Alike s s') where
   pub count-same : count s' ≡ count s
@@ -71,6 +74,18 @@ module _ {s s' : List ℕ} (a : Alike s s') where
       ∙ ap (λ (b : Bool). b || not (eqb (paddingOf s' i) 0) || not (valueHolds (kindAt t (kindOf s i) .value) (bitsOf s' i))) (outOf-same (kindAt t (kindOf s i)) i)
       ∙ ap (λ (n : ℕ). outOf (kindAt t (kindOf s i)) s i || not (eqb n 0) || not (valueHolds (kindAt t (kindOf s i) .value) (bitsOf s' i))) (a .padding i)
       ∙ ap (λ (b : Bool). outOf (kindAt t (kindOf s i)) s i || not (eqb (paddingOf s i) 0) || not b) h
+
+  -- ---- the cells
+  module _ (t : Table) (k n r c : ℕ) where
+    -- any relation between +0 and +0 and between the values of the records that name the cell holds of the cell
+    pub cell-both : (R : Float → Float → Type 0) → R plusZero plusZero → ((i : ℕ) → i < count s → isCell t s k n r c i ≡ true → R (valueOf s i) (valueOf s' i)) → R (cell t s k n r c) (cell t s' k n r c)
+    unfolding cell
+    cell-both R z h =
+        subst (λ (m : ℕ). R (last (count s) (isCell t s k n r c) (valueOf s) plusZero) (last m (isCell t s' k n r c) (valueOf s') plusZero)) (sym count-same)
+        (last-both R (count s) (isCell t s k n r c) (isCell t s' k n r c) (valueOf s) (valueOf s') plusZero plusZero (λ i l. sym (isCell-same t k n r c i)) z h)
+
+    pub cell-stays : Stays s s' k → cell t s' k n r c ≡ cell t s k n r c
+    cell-stays h = cell-both (λ x y. y ≡ x) refl (λ i l p. h i (cell-names t s k n r c i p .kind))
 
   -- ---- the refusals
   pub length-same : lengthReasons s' ≡ lengthReasons s
