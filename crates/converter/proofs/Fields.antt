@@ -9,7 +9,7 @@ use lib.Dec.{lit<}
 use lib.Ieee.{Float, binary64, ofBits}
 use lib.Ieee.Bits.{ofBits-toBits, toBits-lt}
 use Rattle.records.specs.Bytes.{byte, bytesOf}
-use Rattle.records.specs.File.{count, kindOf, rowOf, columnOf, countOf, bitsOf, valueOf}
+use Rattle.records.specs.File.{count, kindOf, rowOf, columnOf, countOf, bitsOf, firstValueOf, valueOf}
 use Rattle.records.specs.Alike.{Alike, Stays}
 use Rattle.converter.specs.Converted.{Change, rewritten, newBits, converted}
 use Rattle.records.proofs.WrittenLaws.{long-bytes, word-same, long-same}
@@ -36,6 +36,10 @@ module _ (g : Change) (s : List ℕ) where
     where
       on : (i o : ℕ) → 16 * i + 8 + o ≡ 16 * i + (8 + o)
       on i o = omega arith
+
+  -- the first of them too
+  pub first-other : (i : ℕ) → g .rewrites (kindOf s i) ≡ false → firstValueOf (converted g s) i ≡ firstValueOf s i
+  first-other i e = byte-other g s i 8 (lit< tt) e
 
   abbrev newValue : ℕ → Float
   newValue i = rewritten g (kindOf s i) (countOf s i) (rowOf s i) (columnOf s i) (valueOf s i)

@@ -13,10 +13,11 @@ use Rattle.records.specs.Scan.{any}
 use Rattle.records.specs.Kinds.{Table, kenwardRoger, limits}
 use Rattle.records.specs.File.{count, cell, beyond, formReasons}
 use Rattle.records.specs.Order.{orderReasons}
-use Rattle.records.specs.Series.{sizes, kinds, cellValue, sigma2, sizeReasons, valueReasons, reasons}
+use Rattle.records.specs.Series.{sizes, kinds, cellValue, sigma2, miscounted, blockReasons, sizeReasons, valueReasons, reasons}
 use Rattle.records.proofs.SameSeries as same
 use Rattle.converter.specs.Converted.{Change, kenwardRogerShift, kenwardRogerChange, converted}
 use Rattle.converter.specs.ReadAlike.{Exact, ReadAlike}
+use Rattle.converter.proofs.Fields.{first-other}
 use Rattle.converter.proofs.Series.{series-numbered, series-alike, stays, sent-same}
 
 module _ (k : ℤ) (m : ℕ → ℤ) (s : List ℕ) where
@@ -42,7 +43,11 @@ module _ (k : ℤ) (m : ℕ → ℤ) (s : List ℕ) where
     form-same : (w : ℕ) → formReasons (kenwardRoger w) (kinds s') s' ≡ formReasons (kenwardRoger w) (kinds s) s
     form-same w = ap (λ (t : Table). formReasons (kenwardRoger w) t s') (same.kinds-same (alike .alike)) ∙ series-alike k m s (limits w) .sameForm
 
+    -- a block's parameter count stays
+    counted-same : any (count s') (miscounted s') ≡ any (count s) (miscounted s)
+    counted-same = same.miscounted-same (alike .alike) (λ i q. first-other (kenwardRogerChange k m) s i (ap (kenwardRogerChange k m .rewrites) q))
+
     -- with every limit of specimens
     pub reasons-same : (w : ℕ) → reasons w (converted (kenwardRogerChange k m) s) ≡ reasons w s
-    unfolding reasons orderReasons sizeReasons valueReasons
-    reasons-same w = rw (alike .sameLength, alike .sameOrder, form-same w, same.badSize-same (alike .alike), sent-same k m s, alike .sameFinite h, sigma2-same, same.badWeight-same (alike .alike) (stays k m s 5 refl), same.misfit-same (alike .alike), same.zeroContrast-same (alike .alike) zero-same)
+    unfolding reasons orderReasons blockReasons sizeReasons valueReasons
+    reasons-same w = rw (alike .sameLength, alike .sameOrder, form-same w, counted-same, same.badSize-same (alike .alike), sent-same k m s, alike .sameFinite h, sigma2-same, same.badWeight-same (alike .alike) (stays k m s 5 refl), same.misfit-same (alike .alike), same.zeroContrast-same (alike .alike) zero-same)

@@ -31,7 +31,7 @@ movesRecord g s i = moves g (kindOf s i) (countOf s i) (rowOf s i) (columnOf s i
 pub record Exact (g : Change) (s : List ℕ) : Type 0 where
   pub again : (i : ℕ) → i < count s → g .rewrites (kindOf s i) ≡ true → T (fits binary64 (scale (movesRecord g s i) (valueOf s i)))
 
--- it rewrites f64 bits alone: no kind whose value is unused
+-- it rewrites f64 bits alone: no kind whose value is a number in the first byte
 abbrev pub OnFloats : Change → Table → Type 0
 OnFloats g limit = (k : ℕ) → g .rewrites k ≡ true → kindAt limit k .value ≡ Float
 

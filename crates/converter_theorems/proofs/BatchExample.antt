@@ -38,7 +38,7 @@ use Rattle.records.specs.Kinds.{kindAt, holds, width, indexOf, valueHolds, kenw
 use Rattle.records.specs.File.{outOf, badRecord, isCell, again, has, cell as cellOf, rows, columns, beyond, missing, notFinite, lengthReasons, formReasons}
 use Rattle.records.specs.Order.{numbersMatrix, matrixOf, standsBefore, falls, orderReasons}
 use Rattle.records.specs.Shortened.{torn, allTorn, keptBelow, shortened}
-use Rattle.records.specs.Series.{coefficients, sizes, asSent, blockOf as blockAt, badSize, badWeight, misfit, zeroContrast, sizeReasons, valueReasons, reasons, design, phi, beta, betaH, contrast, sigma2}
+use Rattle.records.specs.Series.{coefficients, sizes, asSent, blockOf as blockAt, miscounted, badSize, badWeight, misfit, zeroContrast, blockReasons, sizeReasons, valueReasons, reasons, design, phi, beta, betaH, contrast, sigma2}
 use Rattle.records.specs.Written.{recordOf}
 use Rattle.records.specs.KenwardRogerCall.{run}
 use Rattle.tests.specs.Verdict.{verdict}
@@ -73,7 +73,7 @@ zBytes others =
     recordOf 2 0 0 0 one64
     ++ (recordOf 2 1 0 0 one64
     ++ (recordOf 2 2 1 0 one64
-    ++ (recordOf 2 3 1 0 one64 ++ (recordOf 2 4 2 0 one64 ++ (recordOf 2 5 2 0 one64 ++ (recordOf 3 0 1 3 0 ++ (recordOf 4 0 0 0 0x3fe0000000000000 ++ others)))))))
+    ++ (recordOf 2 3 1 0 one64 ++ (recordOf 2 4 2 0 one64 ++ (recordOf 2 5 2 0 one64 ++ (recordOf 3 0 1 3 1 ++ (recordOf 4 0 0 0 0x3fe0000000000000 ++ others)))))))
 
 -- weights 1, 1, 1, 2, 2, 2
 abbrev weightBytes : List ℕ → List ℕ
@@ -113,7 +113,7 @@ abbrev batchInput : Input
 batchInput = record { sigma2 = fin false 1 (pos 2); beta = fin false 3 (pos 2) ∷ fin false 1 (pos 1) ∷ replicate 4 plusZero; betaH = fin false 5 (pos 1) ∷ one ∷ replicate 4 plusZero; contrast = (one ∷ plusZero ∷ replicate 4 plusZero) ∷ (one ∷ one ∷ replicate 4 plusZero) ∷ replicate 4 (replicate 6 plusZero) }
 
 reads : Reads batchFile batchDesign batchPhi 2 batchInput
-unfolding design asSent shortened allTorn torn keptBelow phi beta betaH contrast table row blank fold reasons lengthReasons orderReasons falls standsBefore matrixOf numbersMatrix formReasons sizeReasons valueReasons first sizes badSize badWeight misfit zeroContrast blockAt outOf badRecord isCell again has cellOf rows columns beyond missing notFinite kindAt holds width indexOf valueHolds kenwardRogerKinds limits any most last total word long bytesOf isFinite isZero ofBits lt le eq
+unfolding design asSent shortened allTorn torn keptBelow phi beta betaH contrast table row blank fold reasons lengthReasons orderReasons falls standsBefore matrixOf numbersMatrix formReasons blockReasons sizeReasons valueReasons first sizes miscounted badSize badWeight misfit zeroContrast blockAt outOf badRecord isCell again has cellOf rows columns beyond missing notFinite kindAt holds width indexOf valueHolds kenwardRogerKinds limits any most last total word long bytesOf isFinite isZero ofBits lt le eq
 reads = record { design = refl; phi = refl; input = refl; contrast = refl; passes = refl }
 
 two-coefficients : coefficients batchFile ≡ 2

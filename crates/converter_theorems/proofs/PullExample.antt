@@ -37,7 +37,7 @@ use Rattle.records.specs.Kinds.{kindAt, holds, width, indexOf, valueHolds, kenw
 use Rattle.records.specs.File.{outOf, badRecord, isCell, again, has, cell as cellOf, rows, columns, beyond, missing, notFinite, lengthReasons, formReasons}
 use Rattle.records.specs.Order.{numbersMatrix, matrixOf, standsBefore, falls, orderReasons}
 use Rattle.records.specs.Shortened.{torn as isTorn, allTorn, keptBelow, shortened}
-use Rattle.records.specs.Series.{coefficients, sizes, asSent, blockOf as blockAt, badSize, badWeight, misfit, zeroContrast, sizeReasons, valueReasons, reasons, design, phi, beta, betaH, contrast, sigma2}
+use Rattle.records.specs.Series.{coefficients, sizes, asSent, blockOf as blockAt, miscounted, badSize, badWeight, misfit, zeroContrast, blockReasons, sizeReasons, valueReasons, reasons, design, phi, beta, betaH, contrast, sigma2}
 use Rattle.records.specs.Written.{recordOf}
 use Rattle.records.specs.Bench.{pullBytes, pullFile}
 use Rattle.records.specs.KenwardRogerCall.{run, number, entries}
@@ -101,7 +101,7 @@ record BothRead : Type 0 where
   torn : Reads tornFile tornDesign pullPhi 1 pullInput
 
 reads : BothRead
-unfolding design asSent shortened allTorn isTorn keptBelow phi beta betaH contrast table row blank fold reasons lengthReasons orderReasons falls standsBefore matrixOf numbersMatrix formReasons sizeReasons valueReasons first sizes badSize badWeight misfit zeroContrast blockAt outOf badRecord isCell again has cellOf rows columns beyond missing notFinite kindAt holds width indexOf valueHolds kenwardRogerKinds limits any most last total word long bytesOf isFinite isZero ofBits lt le eq
+unfolding design asSent shortened allTorn isTorn keptBelow phi beta betaH contrast table row blank fold reasons lengthReasons orderReasons falls standsBefore matrixOf numbersMatrix formReasons blockReasons sizeReasons valueReasons first sizes miscounted badSize badWeight misfit zeroContrast blockAt outOf badRecord isCell again has cellOf rows columns beyond missing notFinite kindAt holds width indexOf valueHolds kenwardRogerKinds limits any most last total word long bytesOf isFinite isZero ofBits lt le eq
 reads = record {
   whole = record { design = refl; phi = refl; input = refl; contrast = refl; passes = refl };
   torn = record { design = refl; phi = refl; input = refl; contrast = refl; passes = refl };

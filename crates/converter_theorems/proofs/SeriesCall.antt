@@ -23,7 +23,7 @@ use Rattle.algebra.specs.Reasons.{first}
 use Rattle.records.specs.File.{lengthReasons, formReasons}
 use Rattle.records.specs.Order.{orderReasons}
 use Rattle.records.specs.Shortened.{shortened}
-use Rattle.records.specs.Series.{coefficients, contrastRows, asSent, design, phi, sigma2, beta, betaH, contrast, sizeReasons, valueReasons, reasons, refusal}
+use Rattle.records.specs.Series.{coefficients, contrastRows, asSent, design, phi, sigma2, beta, betaH, contrast, blockReasons, sizeReasons, valueReasons, reasons, refusal}
 use Rattle.records.specs.KenwardRogerCall.{adjusted, scaled, run, number, entries}
 use Rattle.tests.specs.Verdict.{verdict, verdicts, RunBears}
 use Rattle.converter_run.specs.joints.ConvertedInput.{Input, runOn, ConvertedInput, Multiplied, RunSizes, WrittenCells, Written, SeriesSurvives}
@@ -55,7 +55,7 @@ module _ (c : Cutoffs) (s : List ℕ) where
 
   module _ (w : ℕ) where
     pub number-is : number w c s ≡ first (listed (reasons w s) (adjustmentRefusal c (design s) (phi s) (sigma2 s)) (run c s .refused))
-    unfolding refusal reasons lengthReasons orderReasons formReasons sizeReasons valueReasons first
+    unfolding refusal reasons lengthReasons orderReasons formReasons blockReasons sizeReasons valueReasons first
     number-is =
         let n : ℕ = adjustmentRefusal c (design s) (phi s) (sigma2 s) in
         call-number c s w

@@ -405,7 +405,7 @@ module _ (w : ℕ) (c : Cutoffs) (s : List ℕ) (e : seriesRefusal w c s ≡ 0) 
 
   -- nor any of the adjustment's
   pub series-adjusted : adjustmentRefusal c (series.design s) (series.phi s) (series.sigma2 s) ≡ 0
-  unfolding seriesRefusal seriesReasons series.refusal series.reasons lengthReasons orderReasons formReasons series.sizeReasons series.valueReasons adjustmentRefusal
+  unfolding seriesRefusal seriesReasons series.refusal series.reasons lengthReasons orderReasons formReasons series.blockReasons series.sizeReasons series.valueReasons adjustmentRefusal
   series-adjusted = sym (first-next (series.reasons w s) (adjustmentReasons c (series.design s) (series.phi s) (series.sigma2 s)) refl series-accepted) ∙ e
 
   -- so each number of the output is finite

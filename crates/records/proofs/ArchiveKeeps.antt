@@ -78,7 +78,7 @@ module _ (w : ℕ) (c : Cutoffs) (s : List ℕ) (e : seriesRefusal w c s ≡ 0) 
 
 -- a series that the direct call accepts is archived
 pub answered-archived : (w : ℕ) (c : Cutoffs) (s : List ℕ) → number w c s ≡ 0 → seriesRefusal w c s ≡ 0
-unfolding number allReasons seriesRefusal seriesReasons series.reasons lengthReasons orderReasons formReasons series.sizeReasons series.valueReasons adjustmentReasons
+unfolding number allReasons seriesRefusal seriesReasons series.reasons lengthReasons orderReasons formReasons series.blockReasons series.sizeReasons series.valueReasons adjustmentReasons
 answered-archived w c s e = first-front (seriesReasons w c s) (testReasons c s) e
 
 -- WHAT IS PROMISED OF AN ARCHIVE

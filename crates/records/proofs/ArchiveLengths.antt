@@ -95,7 +95,7 @@ module _ (w : ℕ) (c : Cutoffs) (s lent : List ℕ) where
 
   -- or a number
   refusal-below : archivingRefusal w c s lent < 128
-  unfolding archivingRefusal archivingReasons seriesReasons series.reasons lengthReasons orderReasons formReasons series.sizeReasons series.valueReasons adjustmentReasons
+  unfolding archivingRefusal archivingReasons seriesReasons series.reasons lengthReasons orderReasons formReasons series.blockReasons series.sizeReasons series.valueReasons adjustmentReasons
   refusal-below = first-below 128 (archivingReasons w c s lent) (omega arith) refl
 
   pub archiving-number : (archivingRefusal w c s lent ≡ 0 → ⊥) → archivingReturned w c s lent < 128

@@ -36,14 +36,14 @@ use Rattle.records.specs.Written.{recordOf}
 use Rattle.records.specs.File.{outOf, badRecord, isCell, again, has, cell as cellOf, rows, columns, beyond, missing, notFinite, lengthReasons, formReasons}
 use Rattle.records.specs.Order.{numbersMatrix, matrixOf, standsBefore, falls, orderReasons}
 use Rattle.records.specs.Shortened.{torn, allTorn, keptBelow, shortened}
-use Rattle.records.specs.Series.{contrastRows, sizes, asSent, blockOf as blockRead, badSize, badWeight, misfit, zeroContrast, sizeReasons, valueReasons, reasons, refusal, design, phi, beta, betaH, contrast, sigma2}
+use Rattle.records.specs.Series.{contrastRows, sizes, asSent, blockOf as blockRead, miscounted, badSize, badWeight, misfit, zeroContrast, blockReasons, sizeReasons, valueReasons, reasons, refusal, design, phi, beta, betaH, contrast, sigma2}
 use Rattle.records.specs.KenwardRogerCall.{adjusted, scaled, run, returned}
 use Rattle.records.proofs.CallLaws.{fileAdjustmentRefusal, number-is, returned-is}
 use Rattle.records.proofs.Examples.{one as oneBits, pulled}
 
 -- 9: "n = 2, one group, Z = 1, 1, theta 1e10"
 abbrev pub nineFile : List ℕ
-nineFile = pulled (recordOf 2 0 0 0 oneBits ++ (recordOf 2 1 0 0 oneBits ++ (recordOf 3 0 1 1 0 ++ recordOf 4 0 0 0 0x4202a05f20000000))) []
+nineFile = pulled (recordOf 2 0 0 0 oneBits ++ (recordOf 2 1 0 0 oneBits ++ (recordOf 3 0 1 1 1 ++ recordOf 4 0 0 0 0x4202a05f20000000))) []
 
 -- 10: "p = 1, Φ = 0"
 abbrev pub tenFile : List ℕ
@@ -96,7 +96,7 @@ record Says : Type 0 where
   pub tenRows : contrastRows tenFile ≡ 0
 
 says : Says
-unfolding design asSent shortened allTorn torn keptBelow phi beta betaH contrast table row blank fold refusal reasons lengthReasons orderReasons falls standsBefore matrixOf numbersMatrix formReasons sizeReasons valueReasons first sizes badSize badWeight misfit zeroContrast blockRead outOf badRecord isCell again has cellOf rows columns beyond missing notFinite kindAt holds width indexOf valueHolds kenwardRogerKinds limits any most last total word long bytesOf isFinite isZero ofBits lt le eq
+unfolding design asSent shortened allTorn torn keptBelow phi beta betaH contrast table row blank fold refusal reasons lengthReasons orderReasons falls standsBefore matrixOf numbersMatrix formReasons blockReasons sizeReasons valueReasons first sizes miscounted badSize badWeight misfit zeroContrast blockRead outOf badRecord isCell again has cellOf rows columns beyond missing notFinite kindAt holds width indexOf valueHolds kenwardRogerKinds limits any most last total word long bytesOf isFinite isZero ofBits lt le eq
 says = record {
   nineTaken = refl;
   nineDesigned = refl;

@@ -11,7 +11,7 @@ use Rattle.algebra.proofs.ReasonLaws.{Line, named, first-append}
 use Rattle.adjustment.specs.Adjusted.{adjustmentReasons, adjustmentRefusal}
 use Rattle.records.specs.File.{lengthReasons, formReasons}
 use Rattle.records.specs.Order.{orderReasons}
-use Rattle.records.specs.Series.{sizeReasons, valueReasons, reasons, refusal, design, phi, sigma2}
+use Rattle.records.specs.Series.{blockReasons, sizeReasons, valueReasons, reasons, refusal, design, phi, sigma2}
 use Rattle.records.specs.Parameters.{valueReasons as parameterValueReasons, reasons as parameterReasons, refusal as parameterRefusal}
 use Rattle.records.specs.KenwardRogerCall.{run, testReasons, allReasons, number, returnedReasons, returned}
 use Rattle.records.specs.SatterthwaiteCall.{outcome, testReasons as satterthwaiteTestReasons, allReasons as satterthwaiteReasons, number as satterthwaiteNumber, returnedReasons as satterthwaiteReturnedReasons, returned as satterthwaiteReturned}
@@ -36,7 +36,7 @@ module _ (c : Cutoffs) (s : List ℕ) where
 
   -- the Kenward–Roger call's number, from the reader's, the adjustment's and the run's
   pub number-is : (w : ℕ) → number w c s ≡ cond (eqb (refusal w s) 0) (cond (eqb fileAdjustmentRefusal 0) (cond (run c s .refused) 10 0) fileAdjustmentRefusal) (refusal w s)
-  unfolding number allReasons refusal reasons lengthReasons orderReasons formReasons sizeReasons valueReasons
+  unfolding number allReasons refusal reasons lengthReasons orderReasons formReasons blockReasons sizeReasons valueReasons
   number-is w =
       first-append (reasons w s) (adjustmentReasons c (design s) (phi s) (sigma2 s) ++ testReasons c s) refl
       ∙ ap (λ (n : ℕ). cond (eqb (first (reasons w s)) 0) n (first (reasons w s))) later-is

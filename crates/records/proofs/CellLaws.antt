@@ -8,7 +8,7 @@ use lib.Ieee.{binary64, fits}
 use lib.Ieee.Bits.{ofBits-fits}
 use borrow.Author.Tests.{not-false}
 use Rattle.arithmetic.specs.Numbers.{plusZero, isFinite}
-use Rattle.records.specs.Scan.{any}
+use Rattle.records.specs.Scan.{any, last}
 use Rattle.records.specs.Kinds.{Table}
 use Rattle.records.specs.File.{count, kindOf, bitsOf, valueOf, cellCount, cellRow, cellColumn, isCell, again, cell, notFinite}
 use Rattle.records.proofs.ScanLaws.{any-none, any-hit, last-at, last-holds}
@@ -22,10 +22,11 @@ pub cell-finite : (t : Table) (s : List ℕ) (k n r c : ℕ) → any (count s) (
 unfolding cell isFinite notFinite
 cell-finite t s k n r c h = last-holds (λ x. isFinite x ≡ true) (count s) (isCell t s k n r c) (valueOf s) plusZero refl (λ i l p. not-false (isFinite (valueOf s i)) (any-none (count s) (notFinite s) i l h))
 
--- where no cell is named twice, the number in the cell of a record is the record's
-pub own-cell : (t : Table) (s : List ℕ) (i : ℕ) → i < count s → any (count s) (again t s) ≡ false → cell t s (kindOf s i) (cellCount t s i) (cellRow t s i) (cellColumn t s i) ≡ valueOf s i
-unfolding cell again
-own-cell t s i l once = last-at (count s) own (valueOf s) plusZero i l (names-cell t s (kindOf s i) (cellCount t s i) (cellRow t s i) (cellColumn t s i) i (record { kind = refl; row = refl; number = refl; column = refl })) (λ j m b. other j m b (own j) refl)
+-- where no cell is named twice, what the last record says that names the cell of record i is what record i says
+pub own-last : {A : Type 0} (t : Table) (s : List ℕ) (f : ℕ → A) (d : A) (i : ℕ) → i < count s → any (count s) (again t s) ≡ false
+    → last (count s) (isCell t s (kindOf s i) (cellCount t s i) (cellRow t s i) (cellColumn t s i)) f d ≡ f i
+unfolding again
+own-last t s f d i l once = last-at (count s) own f d i l (names-cell t s (kindOf s i) (cellCount t s i) (cellRow t s i) (cellColumn t s i) i (record { kind = refl; row = refl; number = refl; column = refl })) (λ j m b. other j m b (own j) refl)
   where
     own : ℕ → Bool
     own = isCell t s (kindOf s i) (cellCount t s i) (cellRow t s i) (cellColumn t s i)
@@ -37,3 +38,8 @@ own-cell t s i l once = last-at (count s) own (valueOf s) plusZero i l (names-ce
         let twice = any-hit j (isCell t s (kindOf s j) (cellCount t s j) (cellRow t s j) (cellColumn t s j)) i m
         (names-cell t s (kindOf s j) (cellCount t s j) (cellRow t s j) (cellColumn t s j) i (record { kind = sym (n .kind); row = sym (n .row); number = sym (n .number); column = sym (n .column) })) in
         sym twice ∙ any-none (count s) (again t s) j b once
+
+-- the number in its cell too
+pub own-cell : (t : Table) (s : List ℕ) (i : ℕ) → i < count s → any (count s) (again t s) ≡ false → cell t s (kindOf s i) (cellCount t s i) (cellRow t s i) (cellColumn t s i) ≡ valueOf s i
+unfolding cell
+own-cell t s i l once = own-last t s (valueOf s) plusZero i l once

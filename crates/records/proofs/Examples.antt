@@ -1,4 +1,4 @@
--- Document 01's `pulltest` example, the refusal table's own examples and examples of document 02's order, read by computation over the definitions.
+-- Document 01's `pulltest` example, the refusal table's own examples and examples of document 02's order, torn specimens and blocks' parameter counts, read by computation over the definitions.
 use Prim.Native.Nat.{ℕ, _+_}
 use mathlib.Core.Path.{_≡_, refl}
 use mathlib.Core.Bool.{true, false}
@@ -16,7 +16,7 @@ use Rattle.records.specs.Written.{recordOf, sequence}
 use Rattle.records.specs.File.{count, outOf, badRecord, isCell, again, has, cell, rows, columns, beyond, missing, notFinite, lengthReasons, formReasons}
 use Rattle.records.specs.Order.{numbersMatrix, matrixOf, standsBefore, falls, orderReasons}
 use Rattle.records.specs.Shortened.{torn, allTorn, keptBelow, shortened}
-use Rattle.records.specs.Series.{sizes, kinds, blockOf, asSent, design, badSize, badWeight, misfit, zeroContrast, sizeReasons, valueReasons, reasons, refusal}
+use Rattle.records.specs.Series.{sizes, kinds, blockOf, asSent, design, miscounted, badSize, badWeight, misfit, zeroContrast, blockReasons, sizeReasons, valueReasons, reasons, refusal}
 use Rattle.records.specs.TornKeeps.{ofSpecimen, ofTorn, newRow, renumbered, withoutTorn, columnLost}
 
 -- the bits of some numbers
@@ -45,19 +45,23 @@ plain = pulled [] []
 abbrev pub with : List ℕ → List ℕ → List ℕ
 with random more = pulled random (recordOf 9 0 0 0 one ++ more)
 
+-- a block of one group with this k and this number in its value bytes
+abbrev pub blockOfOne : ℕ → ℕ → List ℕ
+blockOfOne k bits = recordOf 3 0 k 1 bits
+
 -- the weights 1 and -1, and a block of k = 2 with one group, two columns of Z and two thetas
 abbrev pub oneBadWeight : List ℕ
 oneBadWeight = recordOf 5 0 0 0 one ++ recordOf 5 1 0 0 minusOne
 
 abbrev pub twoThetas : List ℕ
-twoThetas = recordOf 2 0 1 0 one ++ (recordOf 3 0 2 1 0 ++ (recordOf 4 0 0 0 one ++ recordOf 4 1 0 0 one))
+twoThetas = recordOf 2 0 1 0 one ++ (blockOfOne 2 3 ++ (recordOf 4 0 0 0 one ++ recordOf 4 1 0 0 one))
 
 -- one block's number with two k's, and two records of one block that differ in the groups alone
 abbrev pub blockTwice : List ℕ
-blockTwice = with (recordOf 3 0 1 1 0 ++ recordOf 3 0 2 1 0) []
+blockTwice = with (blockOfOne 1 1 ++ blockOfOne 2 3) []
 
 abbrev pub otherGroups : List ℕ
-otherGroups = with (recordOf 3 0 1 1 0 ++ recordOf 3 0 1 2 0) []
+otherGroups = with (blockOfOne 1 1 ++ recordOf 3 0 1 2 1) []
 
 pub record Read : Type 0 where
   pub taken : refusal 24 (with [] []) ≡ 0
@@ -72,8 +76,8 @@ pub record Read : Type 0 where
   pub hypothesisAlone : refusal 24 (pulled [] (recordOf 10 0 0 0 one)) ≡ 2
   pub hypothesis : refusal 24 (with [] (recordOf 10 0 0 0 one)) ≡ 0
   -- 3, "block of k = 3"
-  pub manyEffects : refusal 24 (with (recordOf 3 0 3 1 0) []) ≡ 3
-  pub allEffects : refusal 24 (with (recordOf 3 0 255 1 0) []) ≡ 3
+  pub manyEffects : refusal 24 (with (blockOfOne 3 6) []) ≡ 3
+  pub mostEffects : refusal 24 (with (blockOfOne 22 253) []) ≡ 3
   -- 4, "β = infinity"
   pub infinite : refusal 24 (seriesFile [] one infinity []) ≡ 4
   -- 5, "0"
@@ -82,7 +86,7 @@ pub record Read : Type 0 where
   pub negativeWeight : refusal 24 (with oneBadWeight []) ≡ 6
   -- 7, "k = 2, two thetas"
   pub fewThetas : refusal 24 (with twoThetas []) ≡ 7
-  pub noGroup : refusal 24 (with (recordOf 3 0 1 1 0) []) ≡ 7
+  pub noGroup : refusal 24 (with (blockOfOne 1 1) []) ≡ 7
   -- 8, "row 0"
   pub zeroRow : refusal 24 (pulled [] (recordOf 9 0 0 0 0)) ≡ 8
   -- "lowest number first": a file with two faults gives the lower number
@@ -117,11 +121,11 @@ unfolding falls standsBefore matrixOf numbersMatrix sizes outOf badRecord isCell
 reached = record { rising = refl; good = refl; cellTwice = refl; complete = refl; within = refl }
 
 pub in-order : InOrder
-unfolding refusal reasons lengthReasons orderReasons falls standsBefore matrixOf numbersMatrix formReasons sizeReasons valueReasons first sizes outOf badRecord isCell again has rows columns beyond missing kindAt holds width indexOf valueHolds kenwardRogerKinds limits any most word long bytesOf
+unfolding refusal reasons lengthReasons orderReasons falls standsBefore matrixOf numbersMatrix formReasons blockReasons sizeReasons valueReasons first sizes outOf badRecord isCell again has rows columns beyond missing kindAt holds width indexOf valueHolds kenwardRogerKinds limits any most word long bytesOf
 in-order = record { column = refl; row = refl; kind = refl; equal = refl; groups = refl; byCount = refl; countFalls = refl; afterLength = refl; beforeForm = refl }
 
 pub read : Read
-unfolding refusal reasons lengthReasons orderReasons falls standsBefore matrixOf numbersMatrix formReasons sizeReasons valueReasons first sizes asSent torn allTorn row fold badSize badWeight misfit zeroContrast blockOf outOf badRecord isCell again has cell rows columns beyond missing notFinite kindAt holds width indexOf valueHolds kenwardRogerKinds limits any most last total word long bytesOf isFinite isZero ofBits lt le eq
+unfolding refusal reasons lengthReasons orderReasons falls standsBefore matrixOf numbersMatrix formReasons blockReasons sizeReasons valueReasons first sizes asSent torn allTorn row fold miscounted badSize badWeight misfit zeroContrast blockOf outOf badRecord isCell again has cell rows columns beyond missing notFinite kindAt holds width indexOf valueHolds kenwardRogerKinds limits any most last total word long bytesOf isFinite isZero ofBits lt le eq
 read = record {
   taken = refl;
   noContrast = refl;
@@ -133,7 +137,7 @@ read = record {
   hypothesisAlone = refl;
   hypothesis = refl;
   manyEffects = refl;
-  allEffects = refl;
+  mostEffects = refl;
   infinite = refl;
   zeroVariance = refl;
   negativeWeight = refl;
@@ -158,7 +162,7 @@ secondRow x random = recordOf 1 0 0 0 one ++ (recordOf 1 1 0 0 x ++ (random ++ (
 
 -- a column of Z whose one record is the torn specimen's, a block of one group, and a theta
 abbrev columnOfTorn : List ℕ → List ℕ
-columnOfTorn theta = with (recordOf 2 1 0 0 one ++ (recordOf 3 0 1 1 0 ++ (theta ++ weights one 0))) []
+columnOfTorn theta = with (recordOf 2 1 0 0 one ++ (blockOfOne 1 1 ++ (theta ++ weights one 0))) []
 
 -- three specimens of which the second is torn, and the first and the third as two; the other records of `secondRow`
 abbrev others : List ℕ
@@ -194,7 +198,7 @@ pub record TornRead : Type 0 where
   pub lostTaken : refusal 24 (withoutTorn (columnOfTorn (recordOf 4 0 0 0 one))) ≡ 7
 
 pub torn-read : TornRead
-unfolding withoutTorn sequence ofTorn ofSpecimen renumbered newRow columnLost refusal reasons lengthReasons orderReasons falls standsBefore matrixOf numbersMatrix formReasons sizeReasons valueReasons first sizes asSent design shortened keptBelow torn allTorn table blank row fold badSize badWeight misfit zeroContrast blockOf outOf badRecord isCell again has cell rows columns beyond missing notFinite kindAt holds width indexOf valueHolds kenwardRogerKinds limits any most last total word long bytesOf isFinite isZero ofBits lt le eq
+unfolding withoutTorn sequence ofTorn ofSpecimen renumbered newRow columnLost refusal reasons lengthReasons orderReasons falls standsBefore matrixOf numbersMatrix formReasons blockReasons sizeReasons valueReasons first sizes asSent design shortened keptBelow torn allTorn table blank row fold miscounted badSize badWeight misfit zeroContrast blockOf outOf badRecord isCell again has cell rows columns beyond missing notFinite kindAt holds width indexOf valueHolds kenwardRogerKinds limits any most last total word long bytesOf isFinite isZero ofBits lt le eq
 torn-read = record {
   tornPlus = refl;
   tornMinus = refl;
@@ -211,4 +215,64 @@ torn-read = record {
   takenOut = refl;
   lost = refl;
   lostTaken = refl;
+}
+
+-- ---- document 02, "Req 04"
+-- a series of one column of Z, with this block and one theta
+abbrev oneColumn : List ℕ → List ℕ
+oneColumn block = with (recordOf 2 0 0 0 one ++ (block ++ recordOf 4 0 0 0 one)) []
+
+-- two blocks of one group each, with these numbers in their value bytes
+abbrev twoBlocks : ℕ → ℕ → List ℕ
+twoBlocks a b = with (recordOf 2 0 1 0 one ++ (recordOf 3 0 1 1 a ++ (recordOf 3 1 1 1 b ++ (recordOf 4 0 0 0 one ++ recordOf 4 1 0 0 one)))) []
+
+pub record CountRead : Type 0 where
+  -- "The first of the eight value bytes now holds that number, k(k+1)/2": 1 for k = 1; a block without it, as before, is 13
+  pub right : refusal 24 (oneColumn (blockOfOne 1 1)) ≡ 0
+  pub bare : refusal 24 (oneColumn (blockOfOne 1 0)) ≡ 13
+  pub wrong : refusal 24 (oneColumn (blockOfOne 1 2)) ≡ 13
+  -- in any block
+  pub both : refusal 24 (twoBlocks 1 1) ≡ 0
+  pub second : refusal 24 (twoBlocks 1 3) ≡ 13
+  -- "and the other seven are zero": the second and the last of the eight, and the number as an f64
+  pub secondByte : refusal 24 (oneColumn (blockOfOne 1 0x101)) ≡ 2
+  pub lastByte : refusal 24 (oneColumn (blockOfOne 1 0x0100000000000001)) ≡ 2
+  pub asFloat : refusal 24 (oneColumn (blockOfOne 1 one)) ≡ 2
+  -- "after 2": a cell missing, beyond the sizes; and before that 12
+  pub afterTwo : refusal 24 (with (blockOfOne 1 0 ++ recordOf 5 0 0 0 one) []) ≡ 2
+  pub afterOrder : refusal 24 (with (blockOfOne 1 0 ++ blockOfOne 1 1) []) ≡ 12
+  -- "before 3": k = 3, k = 0, no group, all weights zero
+  pub three : refusal 24 (with (blockOfOne 3 0) []) ≡ 13
+  pub noEffect : refusal 24 (with (blockOfOne 0 0) []) ≡ 3
+  pub noEffectOne : refusal 24 (with (blockOfOne 0 1) []) ≡ 13
+  pub noGroupRight : refusal 24 (with (recordOf 3 0 1 0 1) []) ≡ 3
+  pub noGroupWrong : refusal 24 (with (recordOf 3 0 1 0 0) []) ≡ 13
+  pub tornWrong : refusal 24 (with (blockOfOne 1 0 ++ weights 0 0) []) ≡ 13
+  -- whole numbers: 276 is 20 beyond 256, and 32640 is 128 beyond a multiple of it
+  pub wrapped : refusal 24 (with (blockOfOne 23 20) []) ≡ 13
+  pub most : refusal 24 (with (blockOfOne 255 128) []) ≡ 13
+  pub whole : refusal 24 (with (blockOfOne 23 276) []) ≡ 2
+
+pub count-read : CountRead
+unfolding refusal reasons lengthReasons orderReasons falls standsBefore matrixOf numbersMatrix formReasons blockReasons sizeReasons valueReasons first sizes asSent torn allTorn row fold miscounted badSize badWeight misfit zeroContrast blockOf outOf badRecord isCell again has cell rows columns beyond missing notFinite kindAt holds width indexOf valueHolds kenwardRogerKinds limits any most last total word long bytesOf isFinite isZero ofBits lt le eq
+count-read = record {
+  right = refl;
+  bare = refl;
+  wrong = refl;
+  both = refl;
+  second = refl;
+  secondByte = refl;
+  lastByte = refl;
+  asFloat = refl;
+  afterTwo = refl;
+  afterOrder = refl;
+  three = refl;
+  noEffect = refl;
+  noEffectOne = refl;
+  noGroupRight = refl;
+  noGroupWrong = refl;
+  tornWrong = refl;
+  wrapped = refl;
+  most = refl;
+  whole = refl;
 }

@@ -32,5 +32,7 @@ pub mod TakenOut
 pub mod TakenSizes
 pub mod TakenAccepted
 pub mod TornKeeps
+pub mod CountLaws
+pub mod CountsKeep
 pub mod Examples
 pub mod CallExamples

@@ -1,18 +1,19 @@
 -- A Kenward–Roger series in two files whose records have the same fields (`Alike`): the same sizes and blocks; and the same numbers, of the kinds whose values stay.
 use Prim.Native.Nat.{ℕ, _*_, max}
-use mathlib.Core.Path.{_≡_, ap, ap₂, _∙_, fun-ext}
-use mathlib.Core.Bool.{Bool, not, _&&_, _||_}
+use mathlib.Core.Path.{_≡_, refl, ap, ap₂, _∙_, fun-ext}
+use mathlib.Core.Bool.{Bool, true, false, not, _&&_, _||_}
 use mathlib.Core.List.{List}
 use lib.Dec.{eqb, ltb}
 use lib.Ieee.{Float, lt}
+use borrow.Author.Tests.{eqb-true}
 use Rattle.arithmetic.specs.Numbers.{plusZero, isZero}
 use Rattle.adjustment.specs.declared.Block.{Block}
 use Rattle.adjustment.specs.Blocks.{places}
-use Rattle.records.specs.Scan.{last}
+use Rattle.records.specs.Scan.{any, last}
 use Rattle.records.specs.Kinds.{Table, kenwardRogerKinds}
-use Rattle.records.specs.File.{count, columnOf, countOf, isCell, cell, present}
+use Rattle.records.specs.File.{count, kindOf, columnOf, countOf, firstValueOf, isCell, cell, present}
 use Rattle.records.specs.Alike.{Alike, Stays}
-use Rattle.records.specs.Series.{specimens, coefficients, zColumns, blockCount, thetas, contrastRows, sizes, kinds, cellValue, blockOf, asSent, badSize, badWeight, misfit, zeroContrast, phi}
+use Rattle.records.specs.Series.{specimens, coefficients, zColumns, blockCount, thetas, contrastRows, sizes, kinds, cellValue, blockOf, asSent, parameterCount, miscounted, badSize, badWeight, misfit, zeroContrast, phi, beta, betaH, contrast}
 use Rattle.records.proofs.ScanLaws.{any-same, last-same, total-same}
 use Rattle.records.proofs.SameFile.{count-same, rows-same, columns-same, present-same, isCell-same, cell-stays}
 
@@ -101,3 +102,34 @@ module _ {s s' : List ℕ} (a : Alike s s') where
   zeroContrast-same h =
       rw (rows-same a 9, columns-same a 1)
       (ap (λ (b : Bool). present s 9 && not b) (any-same (contrastRows s) _ _ (λ r l. any-same (coefficients s) _ _ (λ c l. ap not (h r c)))))
+
+  pub beta-same : Stays s s' 8 → beta s' ≡ beta s
+  unfolding beta
+  beta-same h =
+      let p : coefficients s' ≡ coefficients s = ap (max 1) (columns-same a 1) in
+      let x8 = column-same 8 h in
+      cc
+
+  pub betaH-same : Stays s s' 10 → betaH s' ≡ betaH s
+  unfolding betaH
+  betaH-same h =
+      let p : coefficients s' ≡ coefficients s = ap (max 1) (columns-same a 1) in
+      let x10 = column-same 10 h in
+      cc
+
+  pub contrast-same : Stays s s' 9 → contrast s' ≡ contrast s
+  unfolding contrast
+  contrast-same h =
+      let p : coefficients s' ≡ coefficients s = ap (max 1) (columns-same a 1) in
+      let r : contrastRows s' ≡ contrastRows s = rows-same a 9 in
+      let x9 : cellValue s' 9 ≡ cellValue s 9 = matrix-same 9 h in
+      cc
+
+  -- the blocks' parameter counts, where their first value bytes stay
+  pub miscounted-same : ((i : ℕ) → kindOf s i ≡ 3 → firstValueOf s' i ≡ firstValueOf s i) → any (count s') (miscounted s') ≡ any (count s) (miscounted s)
+  unfolding miscounted
+  miscounted-same h = ap (λ (n : ℕ). any n (miscounted s')) (count-same a) ∙ any-same (count s) (miscounted s') (miscounted s) (λ i l. rw (a .kind i, a .column i) (go i (eqb (kindOf s i) 3) refl))
+    where
+      go : (i : ℕ) (b : Bool) → eqb (kindOf s i) 3 ≡ b → b && not (eqb (firstValueOf s' i) (parameterCount s i)) ≡ b && not (eqb (firstValueOf s i) (parameterCount s i))
+      go i true e = ap (λ (n : ℕ). not (eqb n (parameterCount s i))) (h i (eqb-true (kindOf s i) 3 e))
+      go i false e = refl

@@ -7,6 +7,7 @@ use lib.Dec.{eqb}
 use lib.ListN.{length, replicate}
 use Rattle.arithmetic_cutoffs.specs.declared.Cutoffs.{Cutoffs}
 use Rattle.algebra.specs.Reasons.{first}
+use Rattle.tests.specs.declared.Entry.{Entry}
 use Rattle.tests.specs.Answer.{noEntry}
 use Rattle.records.specs.File.{lengthReasons}
 use Rattle.records.specs.Order.{falls, orderReasons}
@@ -20,12 +21,21 @@ use Rattle.records.specs.AnyOrder.{anyOrderList, anyOrderReturned, anyOr
 use Rattle.records.proofs.CallLaws.{returned-is, satterthwaite-returned-is}
 
 -- what is filled in where a call returns 0, though the answer is chosen by the file's number: a call that returns 0 has lent bytes of the stated length, and the file's number is 0
-filled-once-accepted : {A : Type 0} (stated : Bool) (n : ℕ) (full bare : A) (fill : A → List ℕ) (kept : List ℕ)
+pub filled-once-accepted : {A : Type 0} (stated : Bool) (n : ℕ) (full bare : A) (fill : A → List ℕ) (kept : List ℕ)
     → cond (eqb (cond stated n 1) 0) (fill (cond (eqb n 0) full bare)) kept ≡ cond (eqb (cond stated n 1) 0) (fill full) kept
 filled-once-accepted false n full bare fill kept = refl
 filled-once-accepted true n full bare fill kept = go (eqb n 0)
   where
     go : (z : Bool) → cond z (fill (cond z full bare)) kept ≡ cond z (fill full) kept
+    go true = refl
+    go false = refl
+
+-- the text alike
+pub told-once-accepted : (n : ℕ) (full bare : List Entry) → textOf n (cond (eqb n 0) full bare) ≡ textOf n full
+unfolding textOf
+told-once-accepted n full bare = go (eqb n 0)
+  where
+    go : (z : Bool) → cond z (linesText (cond z full bare)) (refusalText n) ≡ cond z (linesText full) (refusalText n)
     go true = refl
     go false = refl
 
@@ -46,12 +56,8 @@ module _ (w : ℕ) (c : Cutoffs) (s : List ℕ) (h : falls s ≡ false) where
       (filled-once-accepted (eqb (length answer) 168) (number w c s) (run c s .entries) (replicate 7 noEntry) answerBytes answer)
 
   sorted-text : textOf (number w c s) (entries w c s) ≡ anyOrderText w c s
-  unfolding entries anyOrderText textOf
-  sorted-text = rw (← sorted-number) (go (eqb (number w c s) 0))
-    where
-      go : (z : Bool) → cond z (linesText (cond z (run c s .entries) (replicate 7 noEntry))) (refusalText (number w c s)) ≡ cond z (linesText (run c s .entries)) (refusalText (number w c s))
-      go true = refl
-      go false = refl
+  unfolding entries anyOrderText
+  sorted-text = rw (← sorted-number) (told-once-accepted (number w c s) (run c s .entries) (replicate 7 noEntry))
 
 -- ---- the Satterthwaite call
 module _ (c : Cutoffs) (s answer : List ℕ) (h : falls s ≡ false) where

@@ -23,7 +23,7 @@ use Rattle.records.specs.Kinds.{holds, width, indexOf, valueHolds, Table
 use Rattle.records.specs.File.{count, kindOf, rowOf, columnOf, paddingOf, bitsOf, outOf, badRecord, cellCount, cellRow, cellColumn, isCell, again, has, beyond, missing, notFinite, present, lengthReasons, formReasons}
 use Rattle.records.specs.Order.{matrixOf, thenBy, standsBefore, falls, orderReasons}
 use Rattle.records.specs.Shortened.{torn, allTorn}
-use Rattle.records.specs.Series.{specimens, sizes, kinds, cellValue, sigma2, blockOf, asSent, badSize, badWeight, misfit, zeroContrast, sizeReasons, valueReasons, reasons, refusal}
+use Rattle.records.specs.Series.{specimens, sizes, kinds, cellValue, sigma2, blockOf, asSent, miscounted, badSize, badWeight, misfit, zeroContrast, blockReasons, sizeReasons, valueReasons, reasons, refusal}
 use Rattle.records.specs.TornKeeps.{ofSpecimen, ofTorn, newRow, withoutTorn, columnLost}
 use Rattle.records.proofs.ScanLaws.{or-false, or-true, any-hit, any-none, none-any, none-any-cells}
 use Rattle.records.proofs.Slots.{Inside, Within, within, cell-names, names-cell}
@@ -126,8 +126,8 @@ has-complete t s k h = go (z .sparse) refl
 
 -- a series of which no reason of the reader's holds is accepted
 accepted-refusal : (w : ℕ) (s : List ℕ) → AcceptedSeries w s → refusal w s ≡ 0
-unfolding refusal reasons lengthReasons orderReasons formReasons sizeReasons valueReasons first
-accepted-refusal w s a = rw (a .whole, a .rises, a .good, a .once, a .complete, a .within, a .sized, a .pulled, a .finite, a .positive, a .weighed, a .fits, a .nonzero)
+unfolding refusal reasons lengthReasons orderReasons formReasons blockReasons sizeReasons valueReasons first
+accepted-refusal w s a = rw (a .whole, a .rises, a .good, a .once, a .complete, a .within, a .counted, a .sized, a .pulled, a .finite, a .positive, a .weighed, a .fits, a .nonzero)
 
 -- ---- the order of the file without its torn specimens
 module _ (s : List ℕ) where
@@ -224,6 +224,11 @@ module _ (w : ℕ) (s : List ℕ) (a : AcceptedSeries w s) where
   unfolding notFinite
   finite-taken j l = rw (taken-fields s .bits j l) (any-none (count s) (notFinite s) (sentRecord s j) (record-below s j l) (a .finite))
 
+  -- a block has the parameter count that it had
+  counted-taken : (j : ℕ) → j < recordsLeft s → miscounted (withoutTorn s) j ≡ false
+  unfolding miscounted
+  counted-taken j l = rw (taken-fields s .kind j l, taken-fields s .firstValue j l, taken-fields s .column j l) (any-none (count s) (miscounted s) (sentRecord s j) (record-below s j l) (a .counted))
+
   -- it names a cell that no earlier record names
   once-cell : (k n r c i j : ℕ) → (ofSpecimen k ≡ true → r < specimensLeft s) → i < j → j < recordsLeft s → isCell (kinds (withoutTorn s)) (withoutTorn s) k n r c j ≡ true
       → isCell (kinds (withoutTorn s)) (withoutTorn s) k n r c i ≡ false
@@ -258,7 +263,7 @@ module _ (w : ℕ) (s : List ℕ) (a : AcceptedSeries w s) where
 
   -- so the blocks are within their limits, and the contrast is not all zero
   sized-taken : badSize (withoutTorn s) ≡ badSize s
-  unfolding badSize ofSpecimen
+  unfolding miscounted badSize ofSpecimen
   sized-taken = rw (rows-taken s 3 refl, blocks-taken)
 
   nonzero-taken : zeroContrast (withoutTorn s) ≡ zeroContrast s
@@ -393,6 +398,7 @@ module _ (w : ℕ) (s : List ℕ) (a : AcceptedSeries w s) where
           once = none-taken s (again (kinds (withoutTorn s)) (withoutTorn s)) once-taken;
           complete = none-any kindNumbers (missing (kinds (withoutTorn s)) (withoutTorn s)) complete-taken;
           within = none-taken s (beyond (kinds (withoutTorn s)) (withoutTorn s)) within-taken;
+          counted = none-taken s (miscounted (withoutTorn s)) counted-taken;
           sized = sized-taken ∙ a .sized;
           pulled = pulled-taken;
           finite = none-taken s (notFinite (withoutTorn s)) finite-taken;

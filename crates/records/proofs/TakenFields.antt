@@ -11,7 +11,7 @@ use lib.ListN.{length, getD, set, drop, length-append, length-drop, length-set}
 use lib.Seq.{length-take-le, getD-take, getD-drop, getD-set-same, getD-set-other, set-getD, ext-getD}
 use Rattle.records.specs.Bytes.{byte}
 use Rattle.records.specs.Scan.{total}
-use Rattle.records.specs.File.{count, kindOf, rowOf, columnOf, paddingOf, countOf, bitsOf}
+use Rattle.records.specs.File.{count, kindOf, rowOf, columnOf, paddingOf, countOf, bitsOf, firstValueOf}
 use Rattle.records.specs.Written.{sequence, recordAt}
 use Rattle.records.specs.Shortened.{keptBelow}
 use Rattle.records.specs.TornKeeps.{ofSpecimen, ofTorn, newRow, renumbered, withoutTorn}
@@ -58,10 +58,10 @@ module _ (out : ℕ → Bool) (f : ℕ → List ℕ) where
 -- ---- record i as bytes, and numbered anew
 module _ (s : List ℕ) where
   -- a record has sixteen bytes, those from 16 i on
-  length-record : (i : ℕ) → i < count s → length (recordAt s i) ≡ 16
+  pub length-record : (i : ℕ) → i < count s → length (recordAt s i) ≡ 16
   length-record i l = let e = length-drop (16 * i) s in length-take-le 16 (drop (16 * i) s) (omega arith)
 
-  byte-record : (i o : ℕ) → o < 16 → byte (recordAt s i) o ≡ byte s (16 * i + o)
+  pub byte-record : (i o : ℕ) → o < 16 → byte (recordAt s i) o ≡ byte s (16 * i + o)
   byte-record i o l = getD-take 16 (drop (16 * i) s) o 0 l ∙ getD-drop (16 * i) s o 0
 
   -- numbered anew it has as many
@@ -112,6 +112,7 @@ pub record TakenFields (s : List ℕ) : Type 0 where
   pub padding : (j : ℕ) → j < length (keptRecords s) → paddingOf (withoutTorn s) j ≡ paddingOf s (getD (keptRecords s) j 0)
   pub number : (j : ℕ) → j < length (keptRecords s) → countOf (withoutTorn s) j ≡ countOf s (getD (keptRecords s) j 0)
   pub bits : (j : ℕ) → j < length (keptRecords s) → bitsOf (withoutTorn s) j ≡ bitsOf s (getD (keptRecords s) j 0)
+  pub firstValue : (j : ℕ) → j < length (keptRecords s) → firstValueOf (withoutTorn s) j ≡ firstValueOf s (getD (keptRecords s) j 0)
 
 module _ (s : List ℕ) where
   abbrev kept : ℕ → ℕ
@@ -152,6 +153,7 @@ module _ (s : List ℕ) where
         padding = λ j l. byte-taken j 3 l (lit< tt) (λ e. omega arith);
         number = λ j l. word-same s (withoutTorn s) (16 * j + 4) (16 * kept j + 4) (λ o m. bytes-from j 4 o l (omega arith) (omega arith));
         bits = λ j l. long-same s (withoutTorn s) (16 * j + 8) (16 * kept j + 8) (λ o m. bytes-from j 8 o l (omega arith) (omega arith));
+        firstValue = λ j l. byte-taken j 8 l (lit< tt) (λ e. omega arith);
       }
 
   -- ---- WHERE NO SPECIMEN IS TORN IT IS THE FILE ITSELF

@@ -21,7 +21,7 @@ use Rattle.records.specs.Scan.{any}
 use Rattle.records.specs.File.{count, kindOf, rowOf, present, lengthReasons, formReasons}
 use Rattle.records.specs.Order.{orderReasons}
 use Rattle.records.specs.Shortened.{torn, shortened}
-use Rattle.records.specs.Series.{specimens, coefficients, zColumns, cellValue, asSent, sizeReasons, valueReasons, reasons, refusal, design, phi, sigma2, beta, betaH, contrast}
+use Rattle.records.specs.Series.{specimens, coefficients, zColumns, cellValue, asSent, blockReasons, sizeReasons, valueReasons, reasons, refusal, design, phi, sigma2, beta, betaH, contrast}
 use Rattle.records.specs.Layout.{answerBytes}
 use Rattle.records.specs.Text.{textOf}
 use Rattle.records.specs.KenwardRogerCall.{adjusted, scaled, run, testReasons, allReasons, number, entries, returnedReasons, returned, written}
@@ -164,7 +164,7 @@ module _ (w : ℕ) (s : List ℕ) (e : refusal w s ≡ 0) (noneLost : any (count
     archive-taken = rw (coefficients-taken w s a, design-taken, phi-taken, sigma2-taken w s a)
 
     series-refusal-taken : seriesRefusal w c (withoutTorn s) ≡ seriesRefusal w c s
-    unfolding seriesRefusal seriesReasons refusal reasons lengthReasons orderReasons formReasons sizeReasons valueReasons
+    unfolding seriesRefusal seriesReasons refusal reasons lengthReasons orderReasons formReasons blockReasons sizeReasons valueReasons
     series-refusal-taken =
         first-next (reasons w (withoutTorn s)) (adjustmentReasons c (design (withoutTorn s)) (phi (withoutTorn s)) (sigma2 (withoutTorn s))) refl (refusal-taken w s a noneLost)
         ∙ rw (design-taken, phi-taken, sigma2-taken w s a) (sym (first-next (reasons w s) (adjustmentReasons c (design s) (phi s) (sigma2 s)) refl e))

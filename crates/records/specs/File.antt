@@ -33,6 +33,10 @@ countOf s i = word s (16 * i + 4)
 abbrev pub bitsOf : List ℕ → ℕ → ℕ
 bitsOf s i = long s (16 * i + 8)
 
+-- "The first of the eight value bytes"
+abbrev pub firstValueOf : List ℕ → ℕ → ℕ
+firstValueOf s i = byte s (16 * i + 8)
+
 abbrev pub valueOf : List ℕ → ℕ → Float
 valueOf s i = ofBits binary64 (bitsOf s i)
 
@@ -89,7 +93,7 @@ unfoldable pub missing : Table → List ℕ → ℕ → Bool
 missing t s k =
     let z : Kind = kindAt t k in not (z .sparse) && any (width (z .count)) (λ n. any (width (z .row)) (λ r. any (width (z .column)) (λ c. not (has t s k n r c))))
 
--- record i's value is not finite; where the value is unused it is 0
+-- record i's value is not finite; a number in the first byte, read as f64 bits, is a finite one
 unfoldable pub notFinite : List ℕ → ℕ → Bool
 notFinite s i = not (isFinite (valueOf s i))
 

@@ -1,6 +1,6 @@
 -- Document 01: "Kinds: 1 X; 2 Z (absent is 0); 3 block (row its number, column k, count m, bits 0); 4 theta; 5 weight; 6 Φ; 7 sigma2; 8 β; 9 contrast; 10 β_H. Kinds 1, 2, 6, 9 use
 -- row and column; 4, 5, 8, 10 the row; indices start at 0 and unused fields are 0." "The Satterthwaite call reads kinds 8, 9, 10, 30 v, 31 Jacobian (count its number, from 0) and 32 A, the
--- last three by row and column". "Kinds of the other call are bad." And document 02, "Req 02": the kinds of an archive, and of the second file that is lent with it.
+-- last three by row and column". "Kinds of the other call are bad." And document 02, "Req 02": the kinds of an archive, and of the second file that is lent with it; "Req 04": a block's value bytes.
 use Prim.Native.Nat.{ℕ}
 use mathlib.Core.Bool.{Bool, true, false, cond}
 use mathlib.Core.List.{List, [], _∷_}
@@ -8,7 +8,7 @@ use lib.Dec.{eqb, ltb}
 use Rattle.records.specs.declared.Field.{Field}
 use Rattle.records.specs.declared.Field.the-variants.{Index, Number, Unused}
 use Rattle.records.specs.declared.Value.{Value}
-use Rattle.records.specs.declared.Value.the-variants.{Float, Unused as NoValue}
+use Rattle.records.specs.declared.Value.the-variants.{Float, FirstByte}
 use Rattle.records.specs.declared.Kind.{Kind}
 use Rattle.records.specs.declared.Sizes.{Sizes}
 
@@ -30,10 +30,10 @@ indexOf (Index limit) x = x
 indexOf Number x = 0
 indexOf Unused x = 0
 
--- what the value bits may be
+-- What the value bits may be: an f64's are any. "Req 04": "The first of the eight value bytes now holds that number .., and the other seven are zero": the first is the lowest, so that the bits are below 256.
 unfoldable pub valueHolds : Value → ℕ → Bool
 valueHolds Float bits = true
-valueHolds NoValue bits = eqb bits 0
+valueHolds FirstByte bits = ltb bits 256
 
 -- ---- one kind
 -- named by row and column, by the row alone, by count, row and column, or one cell alone
@@ -53,13 +53,13 @@ alone = record { count = Unused; row = Unused; column = Unused; value = Float; s
 abbrev pub absentIsZero : ℕ → ℕ → Kind
 absentIsZero rows columns = record { count = Unused; row = Index rows; column = Index columns; value = Float; sparse = true }
 
--- "3 block (row its number, column k, count m, bits 0)": k and m are numbers and no indices
+-- "3 block (row its number, column k, count m, ..)": k and m are numbers and no indices. "Req 04": the value is a number in the first byte
 abbrev pub blockKind : ℕ → Kind
-blockKind rows = record { count = Number; row = Index rows; column = Number; value = NoValue; sparse = false }
+blockKind rows = record { count = Number; row = Index rows; column = Number; value = FirstByte; sparse = false }
 
 -- a kind that the call does not read: no row is below its limit
 abbrev pub unread : Kind
-unread = record { count = Unused; row = Index 0; column = Unused; value = NoValue; sparse = false }
+unread = record { count = Unused; row = Index 0; column = Unused; value = Float; sparse = false }
 
 -- ---- the table of a call: its kinds by their numbers
 abbrev pub Table : Type 0

@@ -18,6 +18,7 @@ pub mod SatterthwaiteCall
 pub mod ArchiveCall
 pub mod ArchiveKeeps
 pub mod TornKeeps
+pub mod CountsKeep
 pub mod Text
 pub mod AnyOrder
 pub mod Bench

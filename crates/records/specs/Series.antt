@@ -1,6 +1,6 @@
--- Document 01, "kenward_roger.rs (66 lines) and records" and "Refusals", with document 02's "Req 01" and "Req 03": a Kenward–Roger series as its file gives it, the series that is run, and the refusals 2, 12 and 3 to 8, which
+-- Document 01, "kenward_roger.rs (66 lines) and records" and "Refusals", with document 02's "Req 01", "Req 03" and "Req 04": a Kenward–Roger series as its file gives it, the series that is run, and the refusals 2, 12, 13 and 3 to 8, which
 -- come before any computing.
-use Prim.Native.Nat.{ℕ, _+_, _*_, max}
+use Prim.Native.Nat.{ℕ, _+_, _*_, _/_, max}
 use mathlib.Core.Bool.{Bool, not, _&&_, _||_, cond}
 use mathlib.Core.List.{List, [], _∷_, _++_}
 use lib.Dec.{eqb, ltb}
@@ -15,7 +15,7 @@ use Rattle.algebra.specs.Reasons.{first}
 use Rattle.records.specs.declared.Sizes.{Sizes}
 use Rattle.records.specs.Scan.{any, last, total}
 use Rattle.records.specs.Kinds.{Table, kenwardRogerKinds, kenwardRoger}
-use Rattle.records.specs.File.{count, columnOf, countOf, isCell, cell, rows, columns, present, notFinite, lengthReasons, formReasons}
+use Rattle.records.specs.File.{count, kindOf, columnOf, countOf, firstValueOf, isCell, cell, rows, columns, present, notFinite, lengthReasons, formReasons}
 use Rattle.records.specs.Order.{orderReasons}
 use Rattle.records.specs.Shortened.{allTorn, shortened}
 
@@ -68,7 +68,7 @@ cellValue s k r c = cell (kinds s) s k 0 r c
 abbrev pub sigma2 : List ℕ → Float
 sigma2 s = cellValue s 7 0 0
 
--- "3 block (row its number, column k, count m, bits 0)"
+-- "3 block (row its number, column k, count m, ..)"
 unfoldable pub blockOf : List ℕ → ℕ → Block
 blockOf s b =
     record {
@@ -91,6 +91,14 @@ asSent s = record {
 }
 
 -- ---- what refuses it
+-- Document 02, "Req 04": "Parameter count", k(k+1)/2, how many "theta values" the block of record i has, whose column is k
+abbrev pub parameterCount : List ℕ → ℕ → ℕ
+parameterCount s i = columnOf s i * (columnOf s i + 1) / 2
+
+-- 13, "a block whose written number differs from k(k+1)/2": the written number is the first value byte, and whole numbers are compared, so that from k = 23 on none is right
+unfoldable pub miscounted : List ℕ → ℕ → Bool
+miscounted s i = eqb (kindOf s i) 3 && not (eqb (firstValueOf s i) (parameterCount s i))
+
 -- 3, "a size outside its limits": a block of other than 1 or 2 effects or without a group, or more than 3 block parameters. Any other size is bounded by 2.
 unfoldable pub badSize : List ℕ → Bool
 badSize s =
@@ -111,7 +119,11 @@ misfit s =
 unfoldable pub zeroContrast : List ℕ → Bool
 zeroContrast s = present s 9 && not (any (contrastRows s) (λ r. any (coefficients s) (λ c. not (isZero (cellValue s 9 r c)))))
 
--- "Refusals, lowest number first": what refuses a file before anything is computed, in order: its length, its form, its sizes, its values. w is the limit of specimens.
+-- "Refusals, lowest number first": what refuses a file before anything is computed, in order: its length, its form, its blocks' parameter counts, its sizes, its values. w is the limit of specimens.
+-- "Req 04": 13 comes "after 2 and before 3"
+unfoldable pub blockReasons : List ℕ → List (ℕ × Bool)
+blockReasons s = (13, any (count s) (miscounted s)) ∷ []
+
 -- "Req 03": "A series with all weights zero falls under 3, in 3's place"
 unfoldable pub sizeReasons : List ℕ → List (ℕ × Bool)
 sizeReasons s = (3, badSize s || allTorn (asSent s)) ∷ []
@@ -127,9 +139,9 @@ valueReasons s =
 
 -- all but the length: what the records say
 abbrev pub contentReasons : ℕ → List ℕ → List (ℕ × Bool)
-contentReasons w s = formReasons (kenwardRoger w) (kinds s) s ++ (sizeReasons s ++ valueReasons s)
+contentReasons w s = formReasons (kenwardRoger w) (kinds s) s ++ (blockReasons s ++ (sizeReasons s ++ valueReasons s))
 
--- document 01's list, with 3 and 6 as "Req 03" has them, for records "in any order": "length not a multiple of 16", then the rest
+-- document 01's list, with 3 and 6 as "Req 03" has them and "Req 04"'s 13, for records "in any order": "length not a multiple of 16", then the rest
 unfoldable pub anyOrderReasons : ℕ → List ℕ → List (ℕ × Bool)
 anyOrderReasons w s = lengthReasons s ++ contentReasons w s
 

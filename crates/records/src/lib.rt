@@ -7,10 +7,10 @@ pub enum Field {
     Unused,
 }
 
-// What the eight value bytes of a record are: the bits of an f64, or unused.
+// What the eight value bytes of a record are: the bits of an f64, or a number in the first of them and zeros.
 pub enum Value {
     Float,
-    Unused,
+    FirstByte,
 }
 
 // What the records of a kind have in each field, and whether a cell may be absent, as Z's may.

@@ -17,7 +17,7 @@ use Rattle.adjustment.specs.Covariance.{matrices}
 use Rattle.adjustment.specs.Adjusted.{Stack, adjustmentReasons, adjustmentRefusal}
 use Rattle.records.specs.File.{lengthReasons, formReasons}
 use Rattle.records.specs.Order.{orderReasons}
-use Rattle.records.specs.Series.{coefficients, sizeReasons, valueReasons, reasons, refusal, design, phi, sigma2}
+use Rattle.records.specs.Series.{coefficients, blockReasons, sizeReasons, valueReasons, reasons, refusal, design, phi, sigma2}
 use Rattle.records.specs.KenwardRogerCall.{adjusted}
 use Rattle.records.specs.Kinds.{archiveKinds}
 use Rattle.records.specs.Archive.{sizesAt, archiveContent, archiveBytes}
@@ -44,7 +44,7 @@ archive-short p N m phiA w ps x n few fewer e =
 -- ---- the number
 module _ (w : ℕ) (c : Cutoffs) (s : List ℕ) where
   series-number-is : seriesRefusal w c s ≡ cond (eqb (refusal w s) 0) (fileAdjustmentRefusal c s) (refusal w s)
-  unfolding seriesRefusal seriesReasons refusal reasons lengthReasons orderReasons formReasons sizeReasons valueReasons adjustmentRefusal
+  unfolding seriesRefusal seriesReasons refusal reasons lengthReasons orderReasons formReasons blockReasons sizeReasons valueReasons adjustmentRefusal
   series-number-is = first-append (reasons w s) (adjustmentReasons c (design s) (phi s) (sigma2 s)) refl
 
   module _ (lent : List ℕ) where

@@ -2,7 +2,7 @@
 ghost use mathlib.Core.Path.{_≡_};
 ghost use Prim.Native.Nat.{_<_};
 ghost use Rattle.records.specs.Scan.{any};
-ghost use Rattle.records.specs.File.{count, kindOf, rowOf, columnOf, paddingOf, countOf, bitsOf, valueOf, notFinite};
+ghost use Rattle.records.specs.File.{count, kindOf, rowOf, columnOf, paddingOf, countOf, bitsOf, firstValueOf, valueOf, notFinite};
 
 // A byte as an index.
 pub fn index(x: u8) -> usize
@@ -58,6 +58,15 @@ pub fn bits_at(s: &[u8], i: usize) -> u64
 {
     let at = 16 * i + 8;
     records_little_endian::long_at(s, at)
+}
+
+// The first of the eight value bytes.
+pub fn first_value_at(s: &[u8], i: usize) -> usize
+    requires { ⌜ i < count (now s) ⌝ }
+    ensures { λ r. ⌜ (r ≡ firstValueOf (now (s .entry)) i) × (r < 256) ⌝ }
+{
+    let at = 16 * i + 8;
+    index(s[at])
 }
 
 pub fn value_at(s: &[u8], i: usize) -> f64

@@ -46,7 +46,7 @@ pub fn value_holds(v: Value, bits: u64) -> bool
 {
     match v {
         Value::Float => true,
-        Value::Unused => bits == 0,
+        Value::FirstByte => bits < 256,
     }
 }
 
@@ -114,7 +114,7 @@ fn alone() -> Kind
     }
 }
 
-// A block: its number is the row, and k and m are numbers.
+// A block: its number is the row, k and m are numbers, and its parameter count stands in the first value byte.
 fn block_kind(rows: usize) -> Kind
     ensures { λ r. ⌜ r ≡ blockKind rows ⌝ }
 {
@@ -122,7 +122,7 @@ fn block_kind(rows: usize) -> Kind
         count: Field::Number,
         row: Field::Index(rows),
         column: Field::Number,
-        value: Value::Unused,
+        value: Value::FirstByte,
         sparse: false,
     }
 }
@@ -135,7 +135,7 @@ fn unread() -> Kind
         count: Field::Unused,
         row: Field::Index(0),
         column: Field::Unused,
-        value: Value::Unused,
+        value: Value::Float,
         sparse: false,
     }
 }

@@ -34,7 +34,7 @@ fn out_of(k: Kind, s: &[u8], i: usize) -> bool
     !holds(count, count_at(s, i))
 }
 
-// Record i lies outside what its kind has, which is k, or has a nonzero unused byte or value.
+// Record i lies outside what its kind has, which is k, or has a nonzero unused byte, or a value that the kind does not hold.
 fn bad_record(k: Kind, s: &[u8], i: usize) -> bool
     requires { ⌜ i < count (now s) ⌝ }
     ensures { λ r. ⌜ r ≡ outOf k (now (s .entry)) i || not (eqb (paddingOf (now (s .entry)) i) 0) || not (valueHolds (k .value) (bitsOf (now (s .entry)) i)) ⌝ }

@@ -7,7 +7,7 @@ use mathlib.Core.List.{List, _++_}
 use lib.Dec.{eqb, lit≤}
 use lib.ListN.{length, getD}
 use lib.Ieee.{Float, nan, lt, le}
-use borrow.Author.Tests.{eqb-true, eq-eqb, ne-eqb, not-false}
+use borrow.Author.Tests.{eqb-true, eqb-false, eq-eqb, ne-eqb, not-false}
 use Rattle.arithmetic.specs.Numbers.{plusZero, isZero}
 use Rattle.algebra.specs.Table.{row}
 use Rattle.algebra.specs.Reasons.{first}
@@ -21,7 +21,7 @@ use Rattle.records.specs.Cells.{firstSlot, slotCount}
 use Rattle.records.specs.File.{count, badRecord, again, beyond, notFinite, present, lengthReasons, formReasons}
 use Rattle.records.specs.Order.{orderReasons}
 use Rattle.records.specs.Shortened.{torn, allTorn, keptSpecimens}
-use Rattle.records.specs.Series.{specimens, coefficients, blockCount, sizes, kinds, cellValue, sigma2, blockOf, asSent, badSize, badWeight, misfit, zeroContrast, sizeReasons, valueReasons, reasons, refusal}
+use Rattle.records.specs.Series.{specimens, coefficients, blockCount, sizes, kinds, cellValue, sigma2, blockOf, asSent, miscounted, badSize, badWeight, misfit, zeroContrast, blockReasons, sizeReasons, valueReasons, reasons, refusal}
 use Rattle.records.proofs.ScanLaws.{any-same, any-hit}
 use Rattle.records.proofs.KeptLaws.{kept-same}
 use Rattle.records.proofs.ShortLaws.{torn-is}
@@ -36,7 +36,7 @@ use Rattle.records_block_limits.proofs.BlockLaws.{size-read, misfit-read}
 use Rattle.records_contrast.specs.joints.Contrast.{nonzeros, zeroContrastIn}
 use Rattle.records_contrast.proofs.ContrastLaws.{contrast-read}
 use Rattle.records_torn.specs.joints.Packed.{tornAt, keptIn}
-use Rattle.records_refusals.specs.joints.Checks.{negatives, badWeightIn, allTornIn, sheetRefusal}
+use Rattle.records_refusals.specs.joints.Checks.{recordsRefusal, negatives, badWeightIn, allTornIn, sheetRefusal}
 
 -- ---- where the weights, sigma2 and the contrast stand
 module _ (z : Sizes) where
@@ -139,11 +139,29 @@ rawNumber w s = rawNumberBy (kindsOf 0 (limits w)) (tableOf 0 s) s
 abbrev lateNumber : List ℕ → ℕ
 lateNumber s = cond (badSize s || allTorn (asSent s)) 3 (cond (any (count s) (notFinite s)) 4 (cond (le (sigma2 s) plusZero) 5 (cond (badWeight s) 6 (cond (misfit s) 7 (cond (zeroContrast s) 8 0)))))
 
-pub refusal-cases : (w : ℕ) (s : List ℕ) → refusal w s ≡ cond (eqb (rawNumber w s) 0) (lateNumber s) (rawNumber w s)
-unfolding refusal reasons lengthReasons orderReasons formReasons sizeReasons valueReasons first kindsOf sizesOf
-refusal-cases w s = first-append (lengthReasons s ++ (orderReasons s ++ formReasons (kenwardRoger w) (kinds s) s)) (sizeReasons s ++ valueReasons s) refl
+pub refusal-cases : (w : ℕ) (s : List ℕ) → refusal w s ≡ cond (eqb (rawNumber w s) 0) (cond (any (count s) (miscounted s)) 13 (lateNumber s)) (rawNumber w s)
+unfolding refusal reasons lengthReasons orderReasons formReasons blockReasons sizeReasons valueReasons first kindsOf sizesOf
+refusal-cases w s = first-append (lengthReasons s ++ (orderReasons s ++ formReasons (kenwardRoger w) (kinds s) s)) (blockReasons s ++ (sizeReasons s ++ valueReasons s)) refl
 
--- a file that none of them refuses
+-- with the blocks' parameter counts after the form
+pub records-cases : (w : ℕ) (s : List ℕ) → recordsRefusal w s ≡ cond (eqb (rawNumber w s) 0) (cond (any (count s) (miscounted s)) 13 0) (rawNumber w s)
+unfolding recordsRefusal lengthReasons orderReasons formReasons blockReasons first kindsOf sizesOf
+records-cases w s = first-append (lengthReasons s ++ (orderReasons s ++ formReasons (kenwardRoger w) (kinds s) s)) (blockReasons s) refl
+
+-- where none of these refuses a file, none of the length, order and form does, and no block is miscounted
+pub record Recorded (w : ℕ) (s : List ℕ) : Type 0 where
+  pub formed : rawNumber w s ≡ 0
+  pub counted : any (count s) (miscounted s) ≡ false
+
+recorded : (w : ℕ) (s : List ℕ) → recordsRefusal w s ≡ 0 → Recorded w s
+recorded w s e = go (eqb (rawNumber w s) 0) (any (count s) (miscounted s)) refl refl (sym (records-cases w s) ∙ e)
+  where
+    go : (a b : Bool) → eqb (rawNumber w s) 0 ≡ a → any (count s) (miscounted s) ≡ b → cond a (cond b 13 0) (rawNumber w s) ≡ 0 → Recorded w s
+    go true false p q h = record { formed = eqb-true (rawNumber w s) 0 p; counted = q }
+    go true true p q h = absurd (omega arith)
+    go false b p q h = absurd (eqb-false (rawNumber w s) 0 p h)
+
+-- a file that neither its length nor its order nor its form refuses
 pub record Formed (w : ℕ) (s : List ℕ) : Type 0 where
   pub whole : length s % 16 ≡ 0
   pub good : any (count s) (badRecord (kindsOf 0 (limits w)) s) ≡ false
@@ -164,21 +182,21 @@ formed w s e =
 
 -- the sizes z of such a file are small, and its cells have room
 pub record Sound (w : ℕ) (s : List ℕ) (z : Sizes) : Type 0 where
-  pub formed : rawNumber w s ≡ 0
+  pub recorded : Recorded w s
   pub sized : z ≡ sizes s
   pub within : any (count s) (beyond (kindsOf 0 z) s) ≡ false
   pub small : Small z
   pub few : z .blocks ≤ 3
   pub fit : slotCount (kindsOf 0 z) ≤ slotCount (kindsOf 0 (limits w))
 
-pub sound-of : (w : ℕ) (s : List ℕ) (z : Sizes) (r : ℕ) → 1 ≤ w → w ≤ 256 → r ≡ rawNumber w s → r ≡ 0 → z ≡ sizes s → Sound w s z
+pub sound-of : (w : ℕ) (s : List ℕ) (z : Sizes) (r : ℕ) → 1 ≤ w → w ≤ 256 → r ≡ recordsRefusal w s → r ≡ 0 → z ≡ sizes s → Sound w s z
 unfolding sizesOf limits
 sound-of w s z r some most er e ez =
-    let q = sym er ∙ e in
-    let f = formed w s q in
+    let q = recorded w s (sym er ∙ e) in
+    let f = formed w s (q .formed) in
     let b : Below (sizes s) (limits w) = sizes-below 0 w some s (f .good) in
     record {
-      formed = q;
+      recorded = q;
       sized = ez;
       within = subst (λ (y : Sizes). any (count s) (beyond (kindsOf 0 y) s) ≡ false) (sym ez) (f .within);
       small = subst Small (sym ez) (below-small (sizes s) w most b);
@@ -187,12 +205,28 @@ sound-of w s z r some most er e ez =
     }
 
 -- ---- the number by who gives it
-pub file-refuses : (w : ℕ) (s : List ℕ) (r : ℕ) → r ≡ rawNumber w s → (r ≡ 0 → ⊥) → r ≡ refusal w s
-file-refuses w s r e h = e ∙ sym (refusal-cases w s ∙ rw (ne-eqb (rawNumber w s) 0 (λ q. h (e ∙ q))))
+-- by the records alone: the file's, then the blocks'
+pub file-refuses : (w : ℕ) (s : List ℕ) (r : ℕ) → r ≡ rawNumber w s → (r ≡ 0 → ⊥) → r ≡ recordsRefusal w s
+file-refuses w s r e h = e ∙ sym (records-cases w s ∙ rw (ne-eqb (rawNumber w s) 0 (λ q. h (e ∙ q))))
+
+module _ (w : ℕ) (s : List ℕ) (r : ℕ) (e : r ≡ rawNumber w s) (z : r ≡ 0) where
+  pub blocks-refuse : any (count s) (miscounted s) ≡ true → 13 ≡ recordsRefusal w s
+  blocks-refuse b = sym (records-cases w s ∙ rw (eq-eqb (rawNumber w s) 0 (sym e ∙ z), b))
+
+  pub none-refuses : any (count s) (miscounted s) ≡ false → 0 ≡ recordsRefusal w s
+  none-refuses b = sym (records-cases w s ∙ rw (eq-eqb (rawNumber w s) 0 (sym e ∙ z), b))
+
+pub records-refuse : (w : ℕ) (s : List ℕ) (r : ℕ) → r ≡ recordsRefusal w s → (r ≡ 0 → ⊥) → r ≡ refusal w s
+records-refuse w s r e h = e ∙ records-cases w s ∙ go (eqb (rawNumber w s) 0) (any (count s) (miscounted s)) (rawNumber w s) (λ q. h (e ∙ records-cases w s ∙ q)) ∙ sym (refusal-cases w s)
+  where
+    go : (a b : Bool) (n : ℕ) → (cond a (cond b 13 0) n ≡ 0 → ⊥) → cond a (cond b 13 0) n ≡ cond a (cond b 13 (lateNumber s)) n
+    go true true n q = refl
+    go true false n q = absurd (q refl)
+    go false b n q = refl
 
 module _ (w : ℕ) (s : List ℕ) (z : Sizes) (h : Sound w s z) where
   late-is : refusal w s ≡ lateNumber s
-  late-is = refusal-cases w s ∙ rw (eq-eqb (rawNumber w s) 0 (h .formed))
+  late-is = refusal-cases w s ∙ rw (eq-eqb (rawNumber w s) 0 (h .recorded .formed), h .recorded .counted)
 
   pub size-is : (bs : List Block) (b : Bool) → bs ≡ row noBlock 3 (z .blocks) (blockOf s) → b ≡ badSizeIn bs (z .blocks) → b ≡ badSize s
   unfolding sizes

@@ -1,19 +1,20 @@
 // The number with which a series is refused before anything is computed, and its numbers in the lent sheet (kenward_roger).
 ghost use mathlib.Core.Path.{_≡_};
-ghost use mathlib.Core.Bool.{cond};
+ghost use mathlib.Core.Bool.{false, cond};
 ghost use Prim.Native.Nat.{ℕ, _+_, _*_, _≤_};
-ghost use lib.ListN.{length};
+ghost use lib.ListN.{length, replicate};
 ghost use Rattle.adjustment.specs.Blocks.{blockAt};
-ghost use Rattle.records.specs.Kinds.{kindsOf};
+ghost use Rattle.records.specs.Kinds.{kindsOf, limits};
 ghost use Rattle.records.specs.Cells.{slotCount};
 ghost use Rattle.records.specs.File.{count};
 ghost use Rattle.records.specs.Series.{kinds, refusal};
 ghost use Rattle.records_sheet.specs.joints.Sheet.{Small, firstSlots, sheetAfter};
-ghost use Rattle.records_refusals.specs.joints.Checks.{negatives, badWeightIn, allTornIn, sheetRefusal};
+ghost use Rattle.records_refusals.specs.joints.Checks.{recordsRefusal, negatives, badWeightIn, allTornIn, sheetRefusal};
 ghost use Rattle.records_refusals.specs.joints.Room.{Room};
 use records::Sizes;
 use records_block_limits::bad_size;
 use records_block_limits::misfit;
+use records_series::any_miscounted;
 use records_series::blocks_of;
 
 // One of the m numbers from `at` on is below zero.
@@ -82,15 +83,30 @@ fn sheet_refusal(
     0
 }
 
+// Numbers 2, 12 and 13: by the file's length, its order and form, and its blocks' parameter counts. The lent flags are all clear at first.
+fn records_refusal(w: usize, s: &[u8], flags: &mut [bool]) -> u32
+    requires { ⌜ (1 ≤ w) × (w ≤ 256) × (now flags ≡ replicate (length (now flags)) false) × (slotCount (kindsOf 0 (limits w)) ≤ length (now flags)) ⌝ }
+    ensures { λ r. ⌜ r ≡ recordsRefusal w (now (s .entry)) ⌝ }
+{
+    let formed = records_form::file_refusal(0, w, s, flags);
+    if formed != 0 {
+        return formed;
+    }
+    if any_miscounted(s) {
+        return 13;
+    }
+    0
+}
+
 // The number with which a file is refused before anything is computed, with the limit of specimens w; 0 where it is not, and then the sheet holds the file's numbers.
 pub fn refusal(w: usize, s: &[u8], flags: &mut [bool], sheet: &mut [f64]) -> u32
     requires { ⌜ Room w (now flags) (now sheet) ⌝ }
     ensures { λ r. ⌜ r ≡ refusal w (now (s .entry)) ⌝ }
     ensures { λ r. ⌜ (r ≡ 0 → now (sheet .exit) ≡ sheetAfter (length (now (sheet .entry))) (kinds (now (s .entry))) (now (s .entry)) (count (now (s .entry)))) ⌝ }
 {
-    let formed = records_form::file_refusal(0, w, s, flags);
-    if formed != 0 {
-        return formed;
+    let recorded = records_refusal(w, s, flags);
+    if recorded != 0 {
+        return recorded;
     }
     let z = records_sizes::series_sizes(s);
     let blocks = blocks_of(s, z.blocks);

@@ -1,10 +1,11 @@
-// The blocks of a Kenward–Roger series as its record file gives them (kenward_roger).
+// The blocks of a Kenward–Roger series as its record file gives them, and whether each has its parameter count (kenward_roger).
 ghost use mathlib.Core.Path.{_≡_};
 ghost use Prim.Native.Nat.{ℕ, _≤_, _<_};
 ghost use Rattle.algebra.specs.Table.{row};
 ghost use Rattle.adjustment.specs.Blocks.{noBlock, blockAt};
+ghost use Rattle.records.specs.Scan.{any};
 ghost use Rattle.records.specs.File.{count, isCell};
-ghost use Rattle.records.specs.Series.{kinds, blockOf};
+ghost use Rattle.records.specs.Series.{kinds, blockOf, miscounted};
 
 // Record i is of block b.
 fn is_block(s: &[u8], b: usize, i: usize) -> bool
@@ -71,4 +72,31 @@ pub fn blocks_of(s: &[u8], n: usize) -> [adjustment::Block; 3]
         b += 1;
     }
     blocks
+}
+
+// Record i is a block whose written number is not k(k+1)/2. Both are whole numbers: from k = 23 on no byte holds it.
+fn miscounted(s: &[u8], i: usize) -> bool
+    requires { ⌜ i < count (now s) ⌝ }
+    ensures { λ r. ⌜ r ≡ miscounted (now (s .entry)) i ⌝ }
+{
+    if records_file::kind_at(s, i) != 3 {
+        return false;
+    }
+    let k = records_file::column_at(s, i);
+    records_file::first_value_at(s, i) != k * (k + 1) / 2
+}
+
+// Some block is miscounted: number 13.
+pub fn any_miscounted(s: &[u8]) -> bool
+    ensures { λ r. ⌜ r ≡ any (count (now (s .entry))) (miscounted (now (s .entry))) ⌝ }
+{
+    let n = s.len() / 16;
+    let mut i = 0;
+    while i < n {
+        if miscounted(s, i) {
+            return true;
+        }
+        i += 1;
+    }
+    false
 }

@@ -1,19 +1,16 @@
 -- `records_block_limits::parameters_of` meets its contract.
-use Prim.Native.Nat.{ℕ, _≤_, _-_, _+_, _*_}
+use Prim.Native.Nat.{_≤_, _-_, _*_}
 use mathlib.Core.Path.{_≡_, refl}
-use native.Mathlib.Nat.{mul-le-mul}
 use Rattle.adjustment.specs.Blocks.{blockAt}
 use Rattle.records.specs.Scan.{total}
 use Rattle.records.proofs.ScanLaws.{total-more}
+use Rattle.records.proofs.CountLaws.{twice-small}
 use Rattle.records_block_limits.specs.joints.Checks.{parametersIn}
 use native.Mathlib.Omega.{arith}
 use Rattle.records_block_limits.proofs.parameters_of.Statement.{statement}
 use Rattle.records_block_limits.proofs.parameters_of.Tie as tie
 use Rattle.records_block_limits.proofs.parameters_of.Reads as reads
 use Rattle.records_block_limits.proofs.parameters_of.Lts as lts
-
-small : (k : ℕ) → k ≤ 255 → k * (k + 1) ≤ 65280
-small k h = let b : k + 1 ≤ 256 = omega arith in mul-le-mul h b
 
 abbrev Inv-loop : tie.InvT-loop
 Inv-loop n blocks t₀ b₀ t b = (b ≤ n) × (n ≤ 3) × (t ≤ 32640 * b) × (t ≡ parametersIn blocks b)
@@ -35,10 +32,10 @@ add-t : tie.Need-add-t Inv-loop μ-loop
 add-t c = let p = c .before .before .pre .1 (c .before .loop .b) in omega arith
 
 mul-t : tie.Need-mul-t Inv-loop μ-loop
-mul-t c = let p = c .before .before .pre .1 (c .before .loop .b) in omega (arith, small (blockAt (c .before .before .args .t1) (c .before .loop .b) .effects) (p .0))
+mul-t c = let p = c .before .before .pre .1 (c .before .loop .b) in omega (arith, twice-small (blockAt (c .before .before .args .t1) (c .before .loop .b) .effects) (p .0))
 
 add-t-2 : tie.Need-add-t-2 Inv-loop μ-loop
-add-t-2 c = let p = c .before .before .pre .1 (c .before .loop .b) in omega (arith, small (blockAt (c .before .before .args .t1) (c .before .loop .b) .effects) (p .0))
+add-t-2 c = let p = c .before .before .pre .1 (c .before .loop .b) in omega (arith, twice-small (blockAt (c .before .before .args .t1) (c .before .loop .b) .effects) (p .0))
 
 add-b : tie.Need-add-b Inv-loop μ-loop
 add-b c = omega arith
@@ -48,7 +45,7 @@ loop-less c = omega arith
 
 loop-again : tie.Need-loop-again Inv-loop μ-loop
 unfolding parametersIn
-loop-again c = let p = c .before .before .pre .1 (c .before .loop .b) in let h = small (blockAt (c .before .before .args .t1) (c .before .loop .b) .effects) (p .0) in (omega arith, omega arith, omega arith, rw total-more (cc))
+loop-again c = let p = c .before .before .pre .1 (c .before .loop .b) in let h = twice-small (blockAt (c .before .before .args .t1) (c .before .loop .b) .effects) (p .0) in (omega arith, omega arith, omega arith, rw total-more (cc))
 
 returns : tie.Need-returns Inv-loop μ-loop
 returns c = let e : c .before .loop .b ≡ c .before .before .args .n = omega arith in cc

@@ -14,7 +14,7 @@ use Rattle.records.specs.Shortened.{allTorn}
 use Rattle.records.specs.Series.{sizes, asSent, badSize}
 use Rattle.records_sheet.specs.joints.Sheet.{sheetAfter}
 use Rattle.records_sheet.proofs.Sheets.{length-sheet}
-use Rattle.records_refusals.proofs.RefusalLaws.{Sound, sound-of, starts, weights-fit, file-refuses, size-is, size-refuses, all-torn-is, torn-refuses, value-refuses, sheet-refuses}
+use Rattle.records_refusals.proofs.RefusalLaws.{Sound, sound-of, starts, weights-fit, records-refuse, size-is, size-refuses, all-torn-is, torn-refuses, value-refuses, sheet-refuses}
 use borrow.Author.Needs.{needs}
 use Rattle.records_refusals.proofs.refusal.Statement.{statement}
 use Rattle.records_refusals.proofs.refusal.Tie as tie
@@ -22,7 +22,7 @@ use Rattle.records_refusals.proofs.refusal.Reads as reads
 use Rattle.records_refusals.proofs.refusal.Lts as lts
 use Rattle.records_block_limits.proofs.bad_size.Reads as bad-size-reads
 use Rattle.records_file.proofs.any_not_finite.Reads as any-not-finite-reads
-use Rattle.records_form.proofs.file_refusal.Reads as file-refusal-reads
+use Rattle.records_refusals.proofs.records_refusal.Reads as records-refusal-reads
 use Rattle.records_refusals.proofs.all_torn.Reads as all-torn-reads
 use Rattle.records_refusals.proofs.sheet_refusal.Reads as sheet-refusal-reads
 use Rattle.records_series.proofs.blocks_of.Reads as blocks-of-reads
@@ -30,9 +30,9 @@ use Rattle.records_sheet.proofs.fill_sheet.Reads as fill-sheet-reads
 use Rattle.records_sheet.proofs.first_slots.Reads as first-slots-reads
 use Rattle.records_sizes.proofs.series_sizes.Reads as series-sizes-reads
 
-file-refusal-requires : tie.Need-file-refusal-requires
+records-refusal-requires : tie.Need-records-refusal-requires
 unfolding kindsOf
-file-refusal-requires c κs = let p = c .before .before .before .before .pre in (p .some, p .most, p .clear, p .flagged)
+records-refusal-requires c κs = let p = c .before .before .before .before .pre in (p .some, p .most, p .clear, p .flagged)
 
 same-length : tie.Need-same-length
 same-length c = search needs
@@ -40,17 +40,17 @@ same-length c = search needs
 returns : tie.Need-returns
 returns c =
     let a = c .before .before .before .before .before .before .before .before .args in
-    (file-refuses (a .w) (now (a .s)) _ (c .before .before .before .file-refusal .ensures) (c .if1 .taken), λ q. absurd (c .if1 .taken q))
+    (records-refuse (a .w) (now (a .s)) _ (c .before .before .before .records-refusal .ensures) (c .if1 .taken), λ q. absurd (c .if1 .taken q))
 
 series-sizes-requires : tie.Need-series-sizes-requires
 series-sizes-requires c κs = search needs
 
--- neither its length nor its order nor its form refuses the file
+-- its records by themselves do not refuse the file
 sound : (c : tie.Else1) (z : Sizes) → z ≡ sizes (now (c .before .before .before .before .before .before .before .before .args .s)) → Sound (c .before .before .before .before .before .before .before .before .args .w) (now (c .before .before .before .before .before .before .before .before .args .s)) z
 sound c z e =
     let a = c .before .before .before .before .before .before .before .before .args in
     let p = c .before .before .before .before .before .before .before .before .pre in
-    sound-of (a .w) (now (a .s)) z _ (p .some) (p .most) (c .before .before .before .file-refusal .ensures) (c .if1 .left) e
+    sound-of (a .w) (now (a .s)) z _ (p .some) (p .most) (c .before .before .before .records-refusal .ensures) (c .if1 .left) e
 
 blocks-of-requires : tie.Need-blocks-of-requires
 blocks-of-requires c κs = sound (c .before) _ (c .series-sizes .ensures) .few
@@ -168,7 +168,7 @@ pub refusal-spec : {M : Type 1} → statement M
 refusal-spec =
     tie.close
     (tie.spec
-    file-refusal-requires
+    records-refusal-requires
     same-length
     returns
     series-sizes-requires

@@ -1,8 +1,8 @@
 -- Not needed to check document 01: names that join the code to its definitions.
--- The refusals 3, of a series that is all torn, and 5 to 8 as the code makes them, on the sheet of crates/records_sheet/specs/joints/Sheet.antt and on an array of blocks.
+-- The refusals that the records give by themselves, and 3, of a series that is all torn, and 5 to 8 as the code makes them, on the sheet of crates/records_sheet/specs/joints/Sheet.antt and on an array of blocks.
 use Prim.Native.Nat.{ℕ, _+_}
 use mathlib.Core.Bool.{Bool, not, _&&_}
-use mathlib.Core.List.{List, [], _∷_}
+use mathlib.Core.List.{List, [], _∷_, _++_}
 use lib.ListN.{getD}
 use lib.Ieee.{Float, nan, lt, le}
 use Rattle.arithmetic.specs.Numbers.{plusZero}
@@ -10,10 +10,17 @@ use Rattle.adjustment.specs.declared.Block.{Block}
 use Rattle.algebra.specs.Reasons.{first}
 use Rattle.records.specs.declared.Sizes.{Sizes}
 use Rattle.records.specs.Scan.{any}
-use Rattle.records.specs.Kinds.{Table, kindsOf}
+use Rattle.records.specs.Kinds.{Table, kindsOf, kenwardRoger}
 use Rattle.records.specs.Cells.{firstSlot}
+use Rattle.records.specs.File.{lengthReasons, formReasons}
+use Rattle.records.specs.Order.{orderReasons}
+use Rattle.records.specs.Series.{kinds, blockReasons}
 use Rattle.records_block_limits.specs.joints.Checks.{misfitIn}
 use Rattle.records_contrast.specs.joints.Contrast.{nonzeros, zeroContrastIn}
+
+-- 2, 12, 2 and 13, the first that holds: the length, the order, the form and the blocks' parameter counts
+unfoldable pub recordsRefusal : ℕ → List ℕ → ℕ
+recordsRefusal w s = first (lengthReasons s ++ (orderReasons s ++ (formReasons (kenwardRoger w) (kinds s) s ++ blockReasons s)))
 
 -- one of the m numbers from a place on is below zero
 unfoldable pub negatives : List Float → ℕ → ℕ → Bool

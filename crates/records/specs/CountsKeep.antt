@@ -1,0 +1,87 @@
+-- Document 02, "Req 04": what is promised of blocks that hold their parameter count, on the bytes of files, for every limit of specimens, cutoffs and lent bytes.
+use Prim.Native.Nat.{ℕ, _%_, _<_, _≤_}
+use mathlib.Core.Path.{_≡_}
+use mathlib.Core.Bool.{Bool, true, false, not, _&&_, _||_, cond}
+use mathlib.Core.List.{List, [], _∷_, _++_}
+use lib.Dec.{eqb, ltb}
+use lib.ListN.{length, set}
+use lib.Seq.{sets}
+use Rattle.arithmetic_cutoffs.specs.declared.Cutoffs.{Cutoffs}
+use Rattle.algebra.specs.Reasons.{first}
+use Rattle.adjustment.specs.Adjusted.{adjustmentReasons}
+use Rattle.records.specs.Bytes.{byte}
+use Rattle.records.specs.Scan.{any}
+use Rattle.records.specs.Kinds.{kenwardRoger}
+use Rattle.records.specs.File.{count, kindOf, columnOf, bitsOf, lengthReasons, formReasons}
+use Rattle.records.specs.Order.{orderReasons}
+use Rattle.records.specs.Written.{sequence, recordAt}
+use Rattle.records.specs.Layout.{answerBytes}
+use Rattle.records.specs.Text.{textOf}
+use Rattle.records.specs.Series.{kinds, parameterCount, miscounted, sizeReasons, valueReasons, refusal, design, phi, sigma2}
+use Rattle.records.specs.KenwardRogerCall.{run, testReasons, number, entries, returned, written}
+use Rattle.records.specs.Archive.{archiveBytes}
+use Rattle.records.specs.ArchiveCall.{seriesArchive, archivingReturned, archivingWritten}
+
+-- ---- before the request, when a block was bare
+-- document 01: "3 block (row its number, column k, count m, bits 0)", so that any other bits were a "nonzero unused field"
+unfoldable pub blockBits : List ℕ → ℕ → Bool
+blockBits s i = eqb (kindOf s i) 3 && not (eqb (bitsOf s i) 0)
+
+-- what refused a file: such a block, beside 2's other reasons, and no 13
+unfoldable pub bareReasons : ℕ → List ℕ → List (ℕ × Bool)
+bareReasons w s = lengthReasons s ++ (orderReasons s ++ ((2, any (count s) (blockBits s)) ∷ (formReasons (kenwardRoger w) (kinds s) s ++ (sizeReasons s ++ valueReasons s))))
+
+-- the Kenward–Roger call: what it returned for the lent bytes, what they held then, and what `pulltest` printed
+module _ (w : ℕ) (c : Cutoffs) (s : List ℕ) where
+  unfoldable pub bareList : List (ℕ × Bool)
+  bareList = bareReasons w s ++ (adjustmentReasons c (design s) (phi s) (sigma2 s) ++ testReasons c s)
+
+  unfoldable pub bareReturned : List ℕ → ℕ
+  bareReturned answer = first ((1, not (eqb (length answer) 168)) ∷ bareList)
+
+  unfoldable pub bareWritten : List ℕ → List ℕ
+  bareWritten answer = cond (eqb (bareReturned answer) 0) (answerBytes (run c s .entries)) answer
+
+  unfoldable pub bareText : List ℕ
+  bareText = textOf (first bareList) (run c s .entries)
+
+  -- the archive's writer: its refusal, what it returned, and the lent bytes
+  unfoldable pub bareArchiving : List ℕ → ℕ
+  bareArchiving lent = first ((1, not (eqb (length lent) 7184)) ∷ (bareReasons w s ++ adjustmentReasons c (design s) (phi s) (sigma2 s)))
+
+  unfoldable pub bareArchivingReturned : List ℕ → ℕ
+  bareArchivingReturned lent = cond (eqb (bareArchiving lent) 0) (length (archiveBytes (seriesArchive c s))) (bareArchiving lent)
+
+  unfoldable pub bareArchivingWritten : List ℕ → List ℕ
+  bareArchivingWritten lent = cond (eqb (bareArchiving lent) 0) (sets lent 0 (archiveBytes (seriesArchive c s))) lent
+
+-- ---- the file with its blocks' parameter counts written
+-- record i with k(k+1)/2 in "the first of the eight value bytes", where it is a block
+unfoldable pub withCount : List ℕ → ℕ → List ℕ
+withCount s i = cond (eqb (kindOf s i) 3) (set (recordAt s i) 8 (parameterCount s i)) (recordAt s i)
+
+unfoldable pub withCounts : List ℕ → List ℕ
+withCounts s = sequence (count s) (withCount s)
+
+-- a block whose count cannot be written: it is not bare, or k(k+1)/2 is more than a byte holds, as it is for every k from 23 on
+unfoldable pub uncountable : List ℕ → ℕ → Bool
+uncountable s i = eqb (kindOf s i) 3 && (not (eqb (bitsOf s i) 0) || not (ltb (parameterCount s i) 256))
+
+-- a file of whole records without such a block
+abbrev pub Countable : List ℕ → Type 0
+Countable s = (length s % 16 ≡ 0) × (any (count s) (uncountable s) ≡ false)
+
+pub record CountsKeep : Type 0 where
+  -- what was accepted before is accepted with its blocks' counts written
+  pub accepted : (w : ℕ) (s : List ℕ) → first (bareReasons w s) ≡ 0 → refusal w (withCounts s) ≡ 0
+  -- with the same answer; so it is for every file whose blocks' counts can be written, and a refused one keeps its number: what is returned, the lent bytes, the program's text, and the archive
+  pub countable : (w : ℕ) (s : List ℕ) → first (bareReasons w s) ≡ 0 → Countable s
+  pub sameNumber : (w : ℕ) (c : Cutoffs) (s answer : List ℕ) → Countable s → returned w c (withCounts s) answer ≡ bareReturned w c s answer
+  pub sameBytes : (w : ℕ) (c : Cutoffs) (s answer : List ℕ) → Countable s → written w c (withCounts s) answer ≡ bareWritten w c s answer
+  pub sameText : (w : ℕ) (c : Cutoffs) (s : List ℕ) → Countable s → textOf (number w c (withCounts s)) (entries w c (withCounts s)) ≡ bareText w c s
+  pub sameArchive : (w : ℕ) (c : Cutoffs) (s lent : List ℕ) → Countable s
+      → (archivingReturned w c (withCounts s) lent ≡ bareArchivingReturned w c s lent) × (archivingWritten w c (withCounts s) lent ≡ bareArchivingWritten w c s lent)
+  -- a series without a block is the file itself
+  pub noBlock : (s : List ℕ) → length s % 16 ≡ 0 → any (count s) (λ i. eqb (kindOf s i) 3) ≡ false → withCounts s ≡ s
+  -- in a file of bytes no k from 23 on can be right
+  pub neverRight : (s : List ℕ) → ((i : ℕ) → byte s i < 256) → (i : ℕ) → kindOf s i ≡ 3 → 23 ≤ columnOf s i → miscounted s i ≡ true
