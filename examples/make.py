@@ -8,8 +8,13 @@ Plain Python, no package. It is not part of the gate: the files are stored.
 import struct
 
 
-def record(kind, row=0, column=0, value=0.0, count=0):
-    return struct.pack("<BBBBId", kind, row, column, 0, count, value)
+def record(kind, row=0, column=0, value=0.0):
+    return struct.pack("<BBBBId", kind, row, column, 0, 0, value)
+
+
+def block(row, k, m):
+    """A block of k effects and m groups: the first of its value bytes holds the number of its parameters, and the other seven are zero."""
+    return struct.pack("<BBBBIB7x", 3, row, k, 0, m, k * (k + 1) // 2)
 
 
 def transposed(a):
@@ -49,7 +54,7 @@ def series(x, z, blocks, theta, sigma2, beta, contrast=(), hypothesis=(), weight
     phi = inverse(times(times(transposed(kept), inverse(sigma)), kept))
     out = [record(1, i, j, v) for i, r in enumerate(x) for j, v in enumerate(r)]
     out += [record(2, i, j, v) for i, r in enumerate(z) for j, v in enumerate(r) if v != 0]
-    out += [record(3, b, k, count=m) for b, (k, m) in enumerate(blocks)]
+    out += [block(b, k, m) for b, (k, m) in enumerate(blocks)]
     out += [record(4, i, 0, t) for i, t in enumerate(theta)]
     out += [record(5, i, 0, w) for i, w in enumerate(weights)]
     out += [record(6, i, j, v) for i, r in enumerate(phi) for j, v in enumerate(r)]

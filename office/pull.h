@@ -25,7 +25,7 @@ extern "C" {
  * number. Where several refusals apply it is the first of these:
  *
  *   pull_kenward_roger: 1; 2 for records_length; 12; 2 for any of its other
- *     reasons; 3; 4 of an input; 5; 6; 7; 8; 9 and 10 of the covariance
+ *     reasons; 13; 3; 4 of an input; 5; 6; 7; 8; 9 and 10 of the covariance
  *     adjustment; 4 of its output; 10 of a test
  *   pull_archive: the same without 10 of a test, since it runs none
  *   pull_archive_test: 1; of the archive 2 for its length; 12; 2 for any other
@@ -53,8 +53,9 @@ enum pull_number {
     PULL_PIVOT = 10,        /* a zero pivot in an elimination */
     PULL_EIGENVALUE = 11,   /* Satterthwaite: a covariance of several rows that has an eigenvalue
                                not finite or <= 0 */
-    PULL_ORDER = 12         /* a record that does not stand before the next one, as the records
+    PULL_ORDER = 12,        /* a record that does not stand before the next one, as the records
                                argument says; so also any other cell twice */
+    PULL_PARAMETER_COUNT = 13 /* a block whose written number is not k(k+1)/2 */
 };
 
 /* One series by Kenward-Roger: each coefficient alone, then the contrast if
@@ -62,7 +63,8 @@ enum pull_number {
  *
  * records         the series: records of 16 bytes, rising strictly. Byte 0
  *                 kind, 1 row, 2 column, 3 zero, 4-7 count (little-endian),
- *                 8-15 the bits of an f64 (little-endian). A record stands
+ *                 8-15 the bits of an f64 (little-endian), of a block (kind 3)
+ *                 a number and seven zeros, as below. A record stands
  *                 before another by its kind, then for the kinds 13, 17 and 31
  *                 by its count, then by its row, then by its column, also
  *                 where the kind leaves row or column unused. This is the
@@ -75,6 +77,14 @@ enum pull_number {
  * Both pointers point to at least as many bytes as their length says, and are
  * not NULL even where the length is 0. No alignment is asked.
  *
+ * A block (kind 3) has its index in byte 1, its effects k (1 or 2) in byte 2 and
+ * its groups m in the count. Byte 8, the first of its eight value bytes, holds the
+ * number of its parameters, k(k+1)/2: 1 or 3. Bytes 9 to 15 are zero (else 2). A
+ * block with another number is refused with 13, whatever k is, before its size is
+ * looked at (3): k = 3 with 6 is refused with 3 and with 0 with 13. No byte holds
+ * the number of a k above 22, so that such a block is refused with 13 whatever
+ * byte 8 holds.
+ *
  * A weight (kind 5) of 0, +0 or -0, says that the film tore outside the glue:
  * the specimen is absent. Its records are asked for and must be finite, as any
  * other's (2 and 4); then its rows of X and Z and its weight are dropped, and
@@ -85,7 +95,7 @@ enum pull_number {
  * torn.
  *
  * Returns 0, and then all 168 answer bytes are written; or the number of the
- * refusal (1 to 10 or 12), and then every answer byte keeps its contents.
+ * refusal (1 to 10, 12 or 13), and then every answer byte keeps its contents.
  *
  * The answer has seven entries of 24 bytes: entries 0 to 5 are the
  * coefficients, entry 6 is the contrast. In an entry:
@@ -136,8 +146,8 @@ uint32_t pull_satterthwaite(const uint8_t *records, size_t records_length,
  *
  * Returns the length of the archive, a multiple of 16 from 128 to 7,184: then
  * the archive stands at the front of the lent bytes, and the bytes behind it
- * keep their contents. Or it returns the number of the refusal (1 to 10 or 12,
- * so below 128), and then every lent byte keeps its contents. No test is run: a
+ * keep their contents. Or it returns the number of the refusal (1 to 10, 12 or
+ * 13, so below 128), and then every lent byte keeps its contents. No test is run: a
  * series that only a test refuses (10) is archived. A contrast that is all zero
  * is refused (8), as the series is.
  *

@@ -10,11 +10,11 @@ oracle=office/target/release/oracle
 table=crates/table_adjustment
 
 # 3 example (k): one group with theta 0, so that 1e-8 joins the diagonal. 72 weights. 84 IE infinite, W 0.
-# 89 one block of k = 1, weights, two rows, β_H. 90 two blocks, six coefficients. 92 three blocks, four rows. 101 two blocks, weights.
+# 89 one block of k = 1, weights, two rows, β_H. 92 three blocks, four rows. 101 two blocks, weights. 279 two blocks, six coefficients, five rows.
 # 102 more rows than columns, the first specimen torn. 105 no block. 139, 149 one block of k = 2, in 139 17 of 20 specimens torn. 289 outside.
 # 772 a group torn, so that the last column of Z is zeros.
 # Refused: 78 with 9; 79 with 10, in a coefficient's test; 80 with 10, in Wald; 82 with 4 of the adjustment.
-lines='3 72 84 89 90 92 101 102 105 139 149 289 772 78 79 80 82'
+lines='3 72 84 89 92 101 102 105 139 149 279 289 772 78 79 80 82'
 
 {
     for file in pull batches operators torn; do

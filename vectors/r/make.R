@@ -18,8 +18,7 @@ f64 <- function(x) writeBin(as.double(x), raw(), size = 8, endian = "little")
 u32 <- function(x) writeBin(as.integer(x), raw(), size = 4, endian = "little")
 
 # One record of 16 bytes.
-record <- function(kind, row = 0, col = 0, count = 0, value = NULL) {
-  bits <- if (is.null(value)) raw(8) else f64(value)
+record <- function(kind, row = 0, col = 0, count = 0, value = 0, bits = f64(value)) {
   c(as.raw(c(kind, row, col, 0)), u32(count), bits)
 }
 
@@ -42,12 +41,13 @@ rows <- function(kind, v) {
 hex <- function(bytes) paste(as.character(bytes), collapse = "")
 digits <- function(x) sprintf("%.17g", x)
 
-# The blocks of a fit: lme4's terms in lme4's order, k effects of m groups each.
+# The blocks of a fit: lme4's terms in lme4's order, k effects of m groups each. The first of a block's value bytes holds the number of
+# its parameters, k(k+1)/2, and the other seven are zero.
 blocks <- function(m) {
   k <- lengths(getME(m, "cnms"))
   width <- diff(getME(m, "Gp"))
   out <- raw(0)
-  for (i in seq_along(k)) out <- c(out, record(3, i - 1, k[i], width[i] / k[i]))
+  for (i in seq_along(k)) out <- c(out, record(3, i - 1, k[i], width[i] / k[i], bits = c(as.raw(k[i] * (k[i] + 1) / 2), raw(7))))
   out
 }
 

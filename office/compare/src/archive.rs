@@ -10,7 +10,7 @@ use crate::cases::{self, families, file};
 use crate::judge::{caught, compare, Manner, Outcome, UNTOUCHED};
 use crate::live::Plan;
 use crate::shrink::{shrink_pair, shrink_while, text};
-use crate::torn;
+use crate::{numbers, torn};
 use oracle::archive::{archive_fill, archive_test_fill};
 use oracle::calls::{ENTRY, KR_ANSWER};
 use reader::archive::{test_records, LENT, SHORTEST};
@@ -82,8 +82,9 @@ pub struct Summary {
     /// Of the tests that answered: entries, and those inside.
     pub entries: usize,
     pub inside: usize,
-    /// The series with torn specimens, by the writer's number.
+    /// The series with torn specimens, and those with blocks, by the writer's number.
     pub torn: torn::Tally,
+    pub numbers: numbers::Tally,
 }
 
 impl Summary {
@@ -91,9 +92,10 @@ impl Summary {
         format!(
             "archive: {} series, refused by number {:?}, {} archived; the test from each by number {:?};\n\
              archive: {} other pairs by number {:?}; of {} tests {} inside\n\
+             archive: {}\n\
              archive: {}",
             self.series, self.writer, self.archived, self.own, self.pairs, self.other, self.entries,
-            self.inside, self.torn.line()
+            self.inside, self.torn.line(), self.numbers.line()
         )
     }
 
@@ -154,6 +156,7 @@ pub fn one(family: &str, seed: u64, plan: &Plan, summary: &mut Summary) -> bool 
     let archive = panel(&series);
     let refused = if (archive.number as usize) < SHORTEST { archive.number } else { 0 };
     summary.torn.add(&series, refused);
+    summary.numbers.add(&series, refused);
     if manner(&series).is_some() {
         report_series(&series, plan);
         return false;

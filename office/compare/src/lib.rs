@@ -7,10 +7,12 @@
 //! - `live`: the comparison of many files, and its summary.
 //! - `archive`: the same for the archive's two functions.
 //! - `torn`: how many of the files had torn specimens.
+//! - `numbers`: how many of the files had blocks, and wrong numbers in them.
 
 pub mod archive;
 pub mod cases;
 pub mod judge;
 pub mod live;
+pub mod numbers;
 pub mod shrink;
 pub mod torn;

@@ -3,7 +3,7 @@
 use crate::cases::{self, families, file, name};
 use crate::judge::{compare, describe, oracle, panel, Outcome};
 use crate::shrink::{shrink, text};
-use crate::torn;
+use crate::{numbers, torn};
 use oracle::calls::ENTRY;
 use oracle::trace;
 use reader::torn::Torn;
@@ -23,8 +23,7 @@ pub struct Plan {
     pub seed: u64,
     /// One family alone.
     pub family: Option<String>,
-    /// Files with torn specimens are passed over: what is left is the same to a
-    /// library from before document 02's "Req 03".
+    /// Files with torn specimens are passed over.
     pub untorn: bool,
     /// Each family and seed before its call, for a call that does not come back.
     pub trace: bool,
@@ -41,8 +40,9 @@ pub struct Summary {
     pub lines: Vec<String>,
     /// In how many files each branch of document 01 was taken.
     pub branches: BTreeMap<&'static str, usize>,
-    /// The Kenward–Roger files with torn specimens.
+    /// The Kenward–Roger files with torn specimens, and those with blocks.
     pub torn: torn::Tally,
+    pub numbers: numbers::Tally,
 }
 
 /// Counts of one family.
@@ -104,6 +104,7 @@ pub fn run(plan: &Plan) -> Summary {
         }
     }
     println!("{}: {}", name(Call::KenwardRoger), summary.torn.line());
+    println!("{}: {}", name(Call::KenwardRoger), summary.numbers.line());
     summary
 }
 
@@ -120,9 +121,10 @@ fn one(call: Call, family: &str, seed: u64, plan: &Plan, summary: &mut Summary, 
     }
     summary.files += 1;
     tally.add(&panel);
-    // The other call has no specimens.
+    // The other call has neither specimens nor blocks.
     if call == Call::KenwardRoger {
         summary.torn.add(&bytes, panel.number);
+        summary.numbers.add(&bytes, panel.number);
     }
     if compare(&panel, &oracle).is_some() {
         summary.failures += 1;

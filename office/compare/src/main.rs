@@ -71,12 +71,14 @@ fn all(flags: &Flags) -> bool {
         summary.branches.iter().for_each(|(branch, files)| println!("  {branch}: {files}"));
     }
     println!(
-        "{} files ({} with torn specimens), {} archives ({} of such series) and {} other pairs, \
-         {} differ; seed {}, {} s",
+        "{} files ({} with torn specimens, {} refused 13), {} archives ({} of series with torn \
+         specimens; {} series refused 13) and {} other pairs, {} differ; seed {}, {} s",
         summary.files,
         summary.torn.files,
+        summary.numbers.refused_13(),
         archives.archived,
         archives.torn.accepted(),
+        archives.numbers.refused_13(),
         archives.pairs,
         summary.failures + archives.failures,
         flags.plan.seed,

@@ -1,11 +1,13 @@
-//! Makes a failing file small: torn specimens go first or are made whole, then whole
-//! parts of the series go, then single records, then the digits of the numbers. Each step is kept if the file
-//! still differs in the same manner. No step but the sorting moves a record past
-//! another, so a file that rises still does.
+//! Makes a failing file small: torn specimens go first or are made whole, wrong
+//! numbers in blocks are made right, then whole parts of the series go, then single
+//! records, then the digits of the numbers. Each step is kept if the file still
+//! differs in the same manner. No step but the sorting moves a record past another,
+//! so a file that rises still does.
 
 use crate::judge::manner;
 use reader::archive::{read_archive, Archive};
 use reader::archive_tries::Pair;
+use reader::numbers::{corrected, others_are_zero, parameter_count, written_number};
 use reader::torn::is_torn;
 use reader::tries::Call;
 use reader::{
@@ -60,6 +62,7 @@ pub fn shrink_while(bytes: &[u8], fails: &dyn Fn(&[u8]) -> bool) -> Vec<u8> {
     loop {
         let before = search.best.clone();
         search.torn();
+        search.blocks();
         search.parts();
         search.single_records();
         search.order();
@@ -158,6 +161,19 @@ impl Search<'_> {
         }
     }
 
+    /// The blocks' values: all of them made right, then each. So one that is left
+    /// wrong has to be.
+    fn blocks(&mut self) {
+        self.try_records(|rs| rs.iter().map(|&r| corrected(r)).collect());
+        for at in 0..self.best.records.len() {
+            self.try_records(|rs| {
+                let mut out = rs.to_vec();
+                out[at] = corrected(out[at]);
+                out
+            });
+        }
+    }
+
     /// Specimens, coefficients, contrast rows, blocks, groups, parameters, and
     /// kinds that may be absent.
     fn parts(&mut self) {
@@ -243,8 +259,12 @@ fn made_whole(mut records: Vec<Record>, row: u8) -> Vec<Record> {
 }
 
 /// Values simpler than a record's. A weight neither becomes zero nor ceases to
-/// be: that would tear its specimen, or make it whole.
+/// be: that would tear its specimen, or make it whole. The value of a block is no
+/// f64.
 fn simpler_value(record: &Record) -> Vec<f64> {
+    if record.kind == BLOCK {
+        return Vec::new();
+    }
     let value = f64::from_bits(record.bits);
     let alike = |v: &f64| record.kind != WEIGHTS || is_torn(*v) == is_torn(value);
     simpler(value).into_iter().filter(alike).collect()
@@ -313,12 +333,12 @@ fn without_index(records: &[Record], part: Part, number: u32) -> Vec<Record> {
 }
 
 /// The columns before a block, its groups and its effects.
-fn block_columns(records: &[Record], block: u8) -> Option<(u32, u32, u32)> {
+fn block_columns(records: &[Record], block: u8) -> Option<(u32, u32, u8)> {
     let shape = |number: u8| {
         let found = records.iter().find(|r| r.kind == BLOCK && r.row == number);
-        found.map(|r| (r.count.min(24), u32::from(r.column.min(2))))
+        found.map(|r| (r.count.min(24), r.column.min(2)))
     };
-    let before = (0..block).filter_map(shape).map(|(m, k)| m * k).sum();
+    let before = (0..block).filter_map(shape).map(|(m, k)| m * u32::from(k)).sum();
     shape(block).map(|(m, k)| (before, m, k))
 }
 
@@ -343,10 +363,11 @@ fn without_block(records: &[Record], block: u8) -> Vec<Record> {
     let Some((before, m, k)) = block_columns(records, block) else {
         return records.to_vec();
     };
-    let parameters = |k: u32| (k * (k + 1) / 2) as u8;
+    // At most 3, since k is taken as 2 at most.
+    let parameters = |k: u8| parameter_count(k) as u8;
     let first = (0..block).filter_map(|b| block_columns(records, b));
     let first: u8 = first.map(|(_, _, k)| parameters(k)).sum();
-    let mut out = without_columns(records, before, m * k);
+    let mut out = without_columns(records, before, m * u32::from(k));
     out.retain(|r| {
         let own_theta = r.kind == THETA && (first..first + parameters(k)).contains(&r.row);
         let own_record = r.kind == BLOCK && r.row == block;
@@ -368,6 +389,7 @@ fn without_group(records: &[Record], block: u8, group: u32) -> Vec<Record> {
     let Some((before, m, k)) = block_columns(records, block).filter(|&(_, m, _)| group < m) else {
         return records.to_vec();
     };
+    let k = u32::from(k);
     let mut out = without_columns(records, before + group * k, k);
     for r in out.iter_mut().filter(|r| r.kind == BLOCK && r.row == block) {
         r.count = m - 1;
@@ -382,11 +404,12 @@ pub fn text(bytes: &[u8]) -> String {
     for r in &file.records {
         let (k, i, j, m) = (kind(r.kind), r.row, r.column, r.count);
         let byte3 = if r.zero == 0 { String::new() } else { format!(" byte 3: {}", r.zero) };
-        out += &format!(
-            "    {k:<14} row {i} column {j} count {m}{byte3} value {:?} ({:016x})\n",
-            f64::from_bits(r.bits),
-            r.bits
-        );
+        let value = if r.kind == BLOCK && others_are_zero(r) {
+            format!("number {}", written_number(r))
+        } else {
+            format!("value {:?} ({:016x})", f64::from_bits(r.bits), r.bits)
+        };
+        out += &format!("    {k:<14} row {i} column {j} count {m}{byte3} {value}\n");
     }
     if !file.rest.is_empty() {
         out += &format!("    and {} bytes more\n", file.rest.len());
@@ -447,6 +470,33 @@ mod tests {
         assert_eq!(series.blocks, [Block { m: 2, k: 1 }]);
         assert_eq!(series.contrast.map(|l| l.rows), Some(1));
         assert!(small.len() <= 16 * 15, "{} bytes\n{}", small.len(), text(&small));
+    }
+
+    /// Three blocks with wrong numbers, of which a failure needs one: it alone is left
+    /// wrong, in a file of it and of what no series can be without.
+    #[test]
+    fn one_wrong_number_is_left() {
+        let blocks = vec![Block { m: 3, k: 1 }; 3];
+        let mut file = kr_bytes(&series_of_sizes(&mut Random::new(11), 12, 3, blocks, 2));
+        let places: Vec<usize> =
+            (0..file.len()).step_by(16).filter(|&i| file[i] == BLOCK).collect();
+        for (&at, number) in places.iter().zip([0, 7, 255]) {
+            file[at + 8] = number;
+        }
+        let small = shrink_while(&file, &|bytes| reader::read(bytes) == Err(13));
+        assert_eq!(small.len(), 16 * 5, "{}", text(&small));
+        let seven = |bytes: &[u8]| {
+            reader::read(bytes) == Err(13) && bytes.chunks(16).any(|r| r[0] == BLOCK && r[8] == 7)
+        };
+        assert!(seven(&file));
+        let small = shrink_while(&file, &seven);
+        assert_eq!(small.len(), 16 * 5, "{}", text(&small));
+        assert!(text(&small).contains("number 7"), "{}", text(&small));
+        // A failure that needs blocks and no wrong number has none.
+        let three = |bytes: &[u8]| bytes.chunks(16).filter(|r| r[0] == BLOCK).count() == 3;
+        let small = shrink_while(&file, &three);
+        let numbers = reader::numbers::Numbers::of(&small).expect("blocks");
+        assert!(numbers.all_right(), "{}", text(&small));
     }
 
     /// A series of which every other specimen is torn.

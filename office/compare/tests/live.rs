@@ -3,7 +3,7 @@
 
 use compare::archive;
 use compare::live::{run, Plan};
-use compare::torn::Tally;
+use compare::{numbers, torn};
 use std::path::Path;
 
 fn plan() -> Plan {
@@ -20,7 +20,7 @@ fn plan() -> Plan {
 }
 
 /// Thousands of files with torn specimens, most of them accepted.
-fn enough_torn(torn: &Tally) {
+fn enough_torn(torn: &torn::Tally) {
     let enough = torn.files >= 4_000
         && torn.accepted() >= 2_000
         && torn.column_lost >= 500
@@ -29,12 +29,25 @@ fn enough_torn(torn: &Tally) {
     assert!(enough, "{}", torn.line());
 }
 
+/// Thousands of files with blocks, most of them with right numbers; wrong ones of
+/// every manner.
+fn enough_numbers(numbers: &numbers::Tally) {
+    let enough = numbers.right >= 10_000
+        && numbers.refused_13() >= 500
+        && numbers.zero >= 100
+        && numbers.wrapped >= 50
+        && numbers.behind >= 100
+        && numbers.size >= 100;
+    assert!(enough, "{}", numbers.line());
+}
+
 #[test]
 fn archives_agree_in_every_bit() {
     let summary = archive::run(&plan());
     assert!(summary.archived >= 20_000, "{} archives", summary.archived);
     assert!(summary.pairs >= 40_000, "{} pairs", summary.pairs);
     enough_torn(&summary.torn);
+    enough_numbers(&summary.numbers);
     assert_eq!(summary.failures, 0, "series or pairs differ; see above");
 }
 
@@ -43,5 +56,6 @@ fn the_panel_and_the_oracle_agree_in_every_bit() {
     let summary = run(&plan());
     assert!(summary.files >= 27_000, "{} files", summary.files);
     enough_torn(&summary.torn);
+    enough_numbers(&summary.numbers);
     assert_eq!(summary.failures, 0, "files differ; see above");
 }

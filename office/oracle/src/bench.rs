@@ -13,7 +13,9 @@ use crate::random::{
 use crate::reader::archive::{read_archive, test_records};
 use crate::reader::torn::Torn;
 use crate::reader::{self, order, Record, Series};
-use crate::{ddf, known_archive, known_order, known_torn, kr_vcov_adj, lme_run, trace};
+use crate::{
+    ddf, known_archive, known_numbers, known_order, known_torn, kr_vcov_adj, lme_run, trace,
+};
 use ::reader::vectors::hex;
 use listed_algebra::Matrix;
 use ndarray::{Array1, Array2};
@@ -104,15 +106,17 @@ fn pulltest_lines() {
     assert_eq!(pulltest(&[]), "refused 2\n");
 }
 
-/// Every known case, with what document 01 says of it.
+/// Every known case, with what documents 01 and 02 say of it.
 #[test]
 fn known_cases() {
-    let calls: [(Vec<known::Known>, fn(&[u8]) -> String); 6] = [
+    let calls: [(Vec<known::Known>, fn(&[u8]) -> String); 8] = [
         (known::kenward_roger(), pulltest),
         (known_order::kenward_roger(), pulltest),
         (known_torn::kenward_roger(), pulltest),
+        (known_numbers::kenward_roger(), pulltest),
         (known::satterthwaite(), satterthwaite_line),
         (known_order::satterthwaite(), satterthwaite_line),
+        (known_numbers::satterthwaite(), satterthwaite_line),
         (known_archive::series(), archive_lines),
     ];
     for (cases, output) in calls {

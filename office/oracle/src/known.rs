@@ -2,6 +2,7 @@
 //! points at which a reading shows.
 
 use crate::random::{file, kr_records, power, satt_records};
+use crate::reader::numbers::block;
 use crate::reader::{self, order, Block, Record, SattSeries, Series};
 use listed_algebra::Matrix;
 
@@ -108,6 +109,12 @@ pub(crate) fn rec(kind: u8, row: u8, column: u8, count: u32, value: f64) -> Reco
     Record { kind, row, column, zero: 0, count, bits: value.to_bits() }
 }
 
+/// The records with k effects in each block, and their number: at most 22, so that
+/// a byte holds it.
+pub(crate) fn of_effects(records: &[Record], k: u8) -> Vec<u8> {
+    changed(records, reader::BLOCK, |r| *r = block(r.row, k, r.count))
+}
+
 /// A case: what it shows, the file, and how its answer starts where document
 /// 01 or the decisions say so.
 pub type Known = (&'static str, Vec<u8>, &'static str);
@@ -143,7 +150,7 @@ pub fn kenward_roger() -> Vec<Known> {
     out.push(("block 1 alone", changed(&k, 3, |r| r.row = 1), "refused 2|"));
     out.push(("theta 3", changed(&k, 4, |r| r.row = 3), "refused 2|"));
     out.push(("theta 1 alone", changed(&k, 4, |r| r.row = 1), "refused 2|"));
-    out.push(("block 0 with two k's", with(&k, rec(3, 0, 2, 1, 0.0)), "refused 2|"));
+    out.push(("block 0 with two k's", with(&k, block(0, 2, 1)), "refused 2|"));
     for kind in [1, 6, 7, 8] {
         out.push(("kind missing", without(&records, kind), "refused 2|"));
     }
@@ -157,10 +164,10 @@ pub fn kenward_roger() -> Vec<Known> {
     let bare: Vec<Record> = records.iter().filter(|r| r.kind != 9).copied().collect();
     out.push(("β_H without contrast", with(&bare, rec(10, 0, 0, 0, 6.0)), "refused 2|"));
     // 3 to 8.
-    out.push(("k = 3", changed(&k, 3, |r| r.column = 3), "refused 3|"));
-    out.push(("k = 0", changed(&k, 3, |r| r.column = 0), "refused 3|"));
+    out.push(("k = 3", of_effects(&k, 3), "refused 3|"));
+    out.push(("k = 0", of_effects(&k, 0), "refused 3|"));
     out.push(("m = 0", changed(&k, 3, |r| r.count = 0), "refused 3|"));
-    out.push(("4 block parameters", with(&k, rec(3, 1, 2, 1, 0.0)), "refused 3|"));
+    out.push(("4 block parameters", with(&k, block(1, 2, 1)), "refused 3|"));
     out.push((
         "β = infinity",
         changed(&records, 8, |r| r.bits = f64::INFINITY.to_bits()),

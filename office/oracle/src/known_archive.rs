@@ -3,12 +3,14 @@
 
 use crate::archive::archive;
 use crate::known::{
-    self, changed, example_k, identity_series, kr_bytes, pulltest_series, rec, rows, with, without,
-    Known,
+    self, changed, example_k, identity_series, kr_bytes, of_effects, pulltest_series, rec, rows,
+    with, without, Known,
 };
+use crate::known_numbers;
 use crate::known_torn::{self, example_with_a_torn_pull};
 use crate::random::{file, kr_records, power, series_of_sizes, Random};
 use crate::reader::archive::{read_archive, test_records, Archive};
+use crate::reader::numbers::block;
 use crate::reader::{order, Block, Record, Series};
 use listed_algebra::Matrix;
 
@@ -139,7 +141,7 @@ pub fn series() -> Vec<Known> {
         ("the first pair falls", file(&swapped(&records, 0)), FALLS),
         ("it falls, a byte less", file(&swapped(&records, 0))[1..].to_vec(), RECORDS),
         ("a cell twice", file(&[&records[..], &records[records.len() - 1..]].concat()), FALLS),
-        ("k = 3", changed(&k, 3, |r| r.column = 3), "refused 3|"),
+        ("k = 3", of_effects(&k, 3), "refused 3|"),
         ("β = infinity", bits(8, f64::INFINITY), NOT_FINITE),
         ("sigma2 = -0", bits(7, -0.0), SIGMA2),
         ("weight -1", weights(-1.0), "refused 6|"),
@@ -171,6 +173,7 @@ pub fn series() -> Vec<Known> {
     out.extend(numbered(&records));
     out.push(("a torn pull beside the example's", kr_bytes(&example_with_a_torn_pull()), EXAMPLE));
     out.extend(known_torn::archived());
+    out.extend(known_numbers::archived());
     out
 }
 
@@ -328,6 +331,9 @@ fn example() -> Vec<KnownPair> {
     for kind in [0, 1, 7, 8, 9, 10, 19, 20, 30, 31, 255] {
         p.more("a bad kind", rec(kind, 0, 0, 0, 1.0));
     }
+    p.more("a block", block(0, 1, 1));
+    p.more("a block with a wrong number", Record { bits: 0, ..block(0, 1, 1) });
+    p.tests("a block", file(&[block(0, 1, 1), tests[0], tests[1]]), RECORDS);
     p.pair("the two files in one", with(&archive, tests[0]), Vec::new(), RECORDS);
     p.pair("the files exchanged", file(&tests), file(&archive), RECORDS);
     p.archive("a series", kr_bytes(&pulltest_series()), RECORDS);

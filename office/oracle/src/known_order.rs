@@ -3,6 +3,7 @@
 
 use crate::known::{self, rec, rows, with, Known};
 use crate::random::{file, kr_records, satt_records};
+use crate::reader::numbers::block;
 use crate::reader::{self, order, Record, SattSeries};
 use listed_algebra::Matrix;
 
@@ -43,9 +44,9 @@ pub fn satterthwaite() -> Vec<Known> {
     out.extend(long(&records));
     let other_call = kr_records(&known::pulltest_series(), true);
     out.push(("the other call's example", file(&other_call), RECORDS));
-    let [low, high] = [rec(3, 0, 1, 1, 0.0), rec(3, 0, 1, 2, 0.0)];
+    let [low, high] = [block(0, 1, 1), block(0, 1, 2)];
     out.push(("a block's groups are not in the order", behind(&[low, high], &records), FALLS));
-    let other_k = rec(3, 0, 2, 1, 0.0);
+    let other_k = block(0, 2, 1);
     out.push(("one block, two k's", behind(&[low, other_k], &records), RECORDS));
     out
 }
@@ -182,10 +183,10 @@ fn blocks() -> Vec<Known> {
     let k = kr_records(&known::example_k(), true);
     let at = k.iter().position(|r| r.kind == 3).expect("a block");
     vec![
-        ("block 0 with k = 1 and k = 2", again(&k, at, |r| r.column = 2), RECORDS),
-        ("block 0 with k = 1 and k = 0", again(&k, at, |r| r.column = 0), FALLS),
-        ("block 0 twice, groups rise", again(&k, at, |r| r.count = 2), FALLS),
-        ("block 1, a smaller k", again(&k, at, |r| (r.row, r.column) = (1, 0)), "refused 3|"),
+        ("block 0 with k = 1 and k = 2", again(&k, at, |r| *r = block(0, 2, 1)), RECORDS),
+        ("block 0 with k = 1 and k = 0", again(&k, at, |r| *r = block(0, 0, 1)), FALLS),
+        ("block 0 twice, groups rise", again(&k, at, |r| *r = block(0, 1, 2)), FALLS),
+        ("block 1, a smaller k", again(&k, at, |r| *r = block(1, 0, 1)), "refused 3|"),
     ]
 }
 

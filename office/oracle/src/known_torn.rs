@@ -1,7 +1,9 @@
 //! Cases made by hand of torn specimens: a weight of zero, of either sign, beside
 //! rows that must not matter, and what is refused all the same.
 
-use crate::known::{changed, example_k, kr_bytes, pulltest_series, rec, rows, with, Known};
+use crate::known::{
+    changed, example_k, kr_bytes, of_effects, pulltest_series, rec, rows, with, Known,
+};
 use crate::random::{file, fitted_phi, kr_records, power, series_of_sizes, Random};
 use crate::reader::{
     order, Block, Record, Series, BETA, BLOCK, CONTRAST, PHI, SIGMA, THETA, WEIGHTS, X, Z,
@@ -220,13 +222,13 @@ fn all_torn() -> Vec<Known> {
         ("all torn, sigma2 = 0", bits(&all, SIGMA, 0.0), SIZE),
         ("all torn, sigma2 = NaN", bits(&all, SIGMA, f64::NAN), SIZE),
         ("all torn, a block of one group", groups(&all, 1), SIZE),
-        ("all torn, k = 3", changed(&all, BLOCK, |r| r.column = 3), SIZE),
+        ("all torn, k = 3", of_effects(&all, 3), SIZE),
         ("all torn, a contrast of zeros", bits(&all, CONTRAST, 0.0), SIZE),
         ("all torn, Φ = 0", bits(&all, PHI, 0.0), SIZE),
         ("all torn, it falls", file(&falls), FALLS),
         ("all torn, a byte less", file(&all)[1..].to_vec(), RECORDS),
         ("all torn, a β missing", less(&all, BETA, 1), RECORDS),
-        ("some torn, k = 3", changed(&sent("0.00.0"), BLOCK, |r| r.column = 3), SIZE),
+        ("some torn, k = 3", of_effects(&sent("0.00.0"), 3), SIZE),
     ]
 }
 

@@ -3,7 +3,8 @@
 use crate::known::{self, Known};
 use crate::print::{pulltest, satterthwaite_line};
 use crate::random::{kr_case, satt_case, Random, KR_FAMILIES, SATT_FAMILIES, SHUFFLED};
-use crate::{known_order, known_torn, make_archive, trace};
+use crate::{known_numbers, known_order, known_torn, make_archive, trace};
+use ::reader::numbers::Numbers;
 use ::reader::torn::Torn;
 use ::reader::vectors::{hex, unhex};
 use std::collections::BTreeMap;
@@ -22,8 +23,8 @@ pub fn line(bytes: &[u8], output: &str) -> String {
 #[derive(Default)]
 struct Tally {
     cases: u32,
-    /// In how many cases each refusal, mark, none and branch occurred, and torn
-    /// specimens.
+    /// In how many cases each refusal, mark, none and branch occurred, torn
+    /// specimens, and wrong numbers in blocks.
     hits: BTreeMap<String, u32>,
 }
 
@@ -36,6 +37,9 @@ impl Tally {
             if !output.starts_with("refused") {
                 seen.push("torn specimens, answered".to_string());
             }
+        }
+        if Numbers::of(file).is_some_and(|numbers| !numbers.all_right()) {
+            seen.push("a block with a wrong value".to_string());
         }
         if let Some(number) = output.strip_prefix("refused ") {
             seen.push(format!("refused {}", number.trim_end()));
@@ -73,9 +77,11 @@ struct List {
     name: &'static str,
     known: Vec<Known>,
     families: &'static [&'static str],
-    /// The order's cases made by hand, and those of torn specimens.
+    /// The order's cases made by hand, those of torn specimens, and those of the
+    /// numbers in blocks.
     known_order: Vec<Known>,
     known_torn: Vec<Known>,
+    known_numbers: Vec<Known>,
     case: fn(&mut Random, &str) -> Vec<u8>,
     output: fn(&[u8]) -> String,
 }
@@ -89,7 +95,7 @@ struct Written {
 
 impl List {
     /// The known cases, `count` random ones shared among all families, then the
-    /// cases of the order and of torn specimens.
+    /// cases of the order, of torn specimens and of the numbers in blocks.
     fn write(self, seed: u64, count: usize) -> Written {
         let mut out = Written::default();
         self.by_hand(&mut out, "known", &self.known);
@@ -103,6 +109,7 @@ impl List {
         if !self.known_torn.is_empty() {
             self.by_hand(&mut out, "torn", &self.known_torn);
         }
+        self.by_hand(&mut out, "numbers", &self.known_numbers);
         out
     }
 
@@ -142,6 +149,7 @@ fn lists() -> [List; 2] {
             families: &KR_FAMILIES,
             known_order: known_order::kenward_roger(),
             known_torn: known_torn::kenward_roger(),
+            known_numbers: known_numbers::kenward_roger(),
             case: kr_case,
             output: pulltest,
         },
@@ -152,6 +160,7 @@ fn lists() -> [List; 2] {
             known_order: known_order::satterthwaite(),
             // This call has no specimens.
             known_torn: Vec::new(),
+            known_numbers: known_numbers::satterthwaite(),
             case: satt_case,
             output: satterthwaite_line,
         },
@@ -159,7 +168,7 @@ fn lists() -> [List; 2] {
 }
 
 /// `oracle make-vectors DIR SEED COUNT`: COUNT cases for each call, and those
-/// of the order and of torn specimens.
+/// of the order, of torn specimens and of the numbers in blocks.
 pub fn make_vectors(folder: &Path, seed: u64, count: usize) -> io::Result<()> {
     fs::create_dir_all(folder)?;
     let mut summary = format!(

@@ -1,6 +1,8 @@
 //! Random series, by families. A family aims at branches of document 01; the
 //! seed alone decides what comes out.
 
+use crate::numbers::with_faults;
+use crate::reader::numbers::{self, parameter_count};
 use crate::reader::{self, order, torn::is_torn, Block, Record, SattSeries, Series};
 use crate::torn::torn;
 use crate::{calls, marked};
@@ -105,7 +107,7 @@ pub fn series_of_sizes(
 
 fn series_of_blocks(r: &mut Random, n: usize, p: usize, blocks: Vec<Block>, small: bool) -> Series {
     let z = random_columns(r, n, &blocks, small);
-    let thetas: usize = blocks.iter().map(|b| b.k * (b.k + 1) / 2).sum();
+    let thetas: u32 = blocks.iter().map(|b| parameter_count(b.k as u8)).sum();
     let zero_theta = r.once_in(6);
     let theta = (0..thetas)
         .map(|_| {
@@ -213,12 +215,14 @@ pub fn kr_case(r: &mut Random, family: &str) -> Vec<u8> {
     sent_file(r, &series)
 }
 
-/// The file of a series, of some of them with torn specimens. These are drawn
-/// apart, so that every other file is what it would be without them.
+/// The file of a series, of some of them with torn specimens, and with a wrong
+/// number in a block. These are drawn apart, so that every other file is what it
+/// would be without them.
 fn sent_file(r: &mut Random, series: &Series) -> Vec<u8> {
     let mut apart = r.apart();
-    let file = kr_file(r, series);
-    torn(&mut apart, series).map_or(file, |sent| kr_file(&mut apart, &sent))
+    let whole = kr_file(r, series);
+    let file = torn(&mut apart, series).map_or(whole, |sent| kr_file(&mut apart, &sent));
+    with_faults(&mut apart, file)
 }
 
 /// A file of any size and sort, damaged once to three times.
@@ -633,7 +637,7 @@ pub fn kr_records(s: &Series, keep_zeros: bool) -> Vec<Record> {
         }
     }
     for (i, b) in s.blocks.iter().enumerate() {
-        out.push(record(reader::BLOCK, i, b.k, b.m, 0.0));
+        out.push(numbers::block(i as u8, b.k as u8, b.m as u32));
     }
     list(&mut out, reader::THETA, &s.theta);
     list(&mut out, reader::WEIGHTS, s.weights.as_deref().unwrap_or(&[]));
@@ -697,12 +701,22 @@ fn out_of_order(
 
 /// A damaged copy of a good file, mostly in order again.
 fn damage(r: &mut Random, bytes: Vec<u8>, satt: bool) -> Vec<u8> {
-    let damaged = damage_in_place(r, bytes, satt);
+    let mut damaged = damage_in_place(r, bytes, satt);
+    // Beside the damage a wrong number; a file of the Satterthwaite call has no blocks.
+    if !satt && r.once_in(8) {
+        damaged = numbers::misnumbered(r, &damaged);
+    }
     if r.once_in(8) {
         damaged
     } else {
         order::sorted(&damaged)
     }
+}
+
+/// Writes a block's number after its k has changed.
+fn number_follows(block: &mut [u8]) {
+    let numbered = numbers::with_numbers(block);
+    block.copy_from_slice(&numbered);
 }
 
 /// A damaged copy of a good file, the records where they were.
@@ -720,7 +734,13 @@ fn damage_in_place(r: &mut Random, mut bytes: Vec<u8>, satt: bool) -> Vec<u8> {
         // Another kind, row, column, count; byte 3.
         5 => bytes[at] = r.below(40) as u8,
         6 => bytes[at + 1] = r.below(26) as u8,
-        7 => bytes[at + 2] = r.below(26) as u8,
+        7 => {
+            bytes[at + 2] = r.below(26) as u8;
+            // A block's number stays what it was, or follows its k.
+            if bytes[at] == reader::BLOCK && r.once_in(2) {
+                number_follows(&mut bytes[at..at + 16]);
+            }
+        }
         8 => bytes[at + 3] = r.below(3) as u8,
         9 => bytes[at + 4 + r.below(4)] = r.below(4) as u8,
         // A value that is not finite, not positive, zero.
@@ -734,8 +754,9 @@ fn damage_in_place(r: &mut Random, mut bytes: Vec<u8>, satt: bool) -> Vec<u8> {
             let v = r.pick(&[-1.0, 0.0, -0.0, f64::INFINITY]);
             let (k, m) = (r.below(4) as u8, r.below(5) as u8);
             for b in bytes.chunks_exact_mut(16).filter(|b| b[0] == kind) {
-                if kind == 3 {
+                if kind == reader::BLOCK {
                     (b[2], b[4]) = (k, m);
+                    number_follows(b);
                 } else {
                     b[8..16].copy_from_slice(&v.to_bits().to_le_bytes());
                 }

@@ -6,6 +6,9 @@
 //! code that runs in the stand's panel, so with its bits.
 //! [`satterthwaite`] tests a contrast of a file of its own kinds.
 //!
+//! A block (kind 3) holds the number of its parameters, k(k+1)/2, in the first of
+//! its eight value bytes; the other seven are zero ([`Refusal::ParameterCount`]).
+//!
 //! A specimen whose weight (kind 5) is zero is torn: its film tore outside the
 //! glue. It counts as absent, in [`kenward_roger`] and in [`archive`].
 //!
@@ -100,6 +103,18 @@ mod c {
 /// let torn = example::records_with_a_torn_pull();
 /// assert_eq!(pull::kenward_roger(&torn)?, pull::kenward_roger(&example::records())?);
 /// # Ok::<(), pull::Refusal>(())
+/// ```
+///
+/// The number of its parameters is written in each block, and another one is
+/// refused, before a size is ([`Refusal::ParameterCount`]).
+///
+/// ```
+/// use pull::{example, Refusal};
+/// let mut series = example::records_with_a_block();
+/// assert!(pull::kenward_roger(&series).is_ok());
+/// // The block is the fifth record; byte 8 is the first of its value.
+/// series[4 * 16 + 8] = 0;
+/// assert_eq!(pull::kenward_roger(&series), Err(Refusal::ParameterCount));
 /// ```
 pub fn kenward_roger(records: &[u8]) -> Result<Run, Refusal> {
     let mut answer = [0; KENWARD_ROGER_BYTES];

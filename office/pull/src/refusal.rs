@@ -5,7 +5,8 @@ use std::fmt;
 /// The reason for which a call gave no answer. Where several hold it is the
 /// one with the lowest number, but for these: [`Refusal::Order`] comes directly
 /// after the file's length, so before every other reason of
-/// [`Refusal::Records`]; the late reason of [`Refusal::NotFinite`] comes
+/// [`Refusal::Records`]; [`Refusal::ParameterCount`] comes after all of
+/// [`Refusal::Records`], and before [`Refusal::Size`]; the late reason of [`Refusal::NotFinite`] comes
 /// after [`Refusal::Cholesky`] and [`Refusal::Pivot`] of the adjustment; an
 /// archive whose two units do not fit each other ([`Refusal::Records`]) comes
 /// after [`Refusal::Sigma2`]; and a second file is looked at after all of its
@@ -18,7 +19,8 @@ pub enum Refusal {
     Length,
     /// 2: the file's length is not a multiple of 16, a bad kind, a nonzero
     /// unused field, an index past a limit, a cell twice (a block with two
-    /// k's), missing or beyond the sizes. In an archive also a record in
+    /// k's), missing or beyond the sizes. Of a block's eight value bytes all but
+    /// the first are unused. In an archive also a record in
     /// response units (kinds 11 to 13) whose bits are not those of its record in
     /// residual units, multiplied with or divided by sigma2.
     Records,
@@ -47,6 +49,10 @@ pub enum Refusal {
     /// the kinds 13, 17 and 31 by count, then by row, then by column. So also any
     /// other cell twice.
     Order,
+    /// 13: the number that is written in a block (kind 3), in the first of its
+    /// eight value bytes, is not that of its parameters, k(k+1)/2. No byte holds
+    /// that of a k above 22.
+    ParameterCount,
     /// A number that this library has no name for: the panel's library is of
     /// a later delivery.
     Unlisted(u32),
@@ -55,7 +61,7 @@ pub enum Refusal {
 use Refusal::*;
 
 /// In the order of their numbers, from 1.
-const LISTED: [Refusal; 12] = [
+const LISTED: [Refusal; 13] = [
     Length,
     Records,
     Size,
@@ -68,6 +74,7 @@ const LISTED: [Refusal; 12] = [
     Pivot,
     Eigenvalue,
     Order,
+    ParameterCount,
 ];
 
 impl Refusal {
@@ -101,6 +108,7 @@ impl fmt::Display for Refusal {
             Pivot => "an elimination met a zero pivot",
             Eigenvalue => "the contrast's covariance is not positive definite",
             Order => "the records are not in rising order",
+            ParameterCount => "the number written in a block is not k(k+1)/2",
             Unlisted(number) => return write!(out, "refused with number {number}"),
         };
         out.write_str(text)
@@ -120,6 +128,7 @@ mod tests {
         }
         assert_eq!(Refusal::from_number(1), Length);
         assert_eq!(Refusal::from_number(12), Order);
-        assert_eq!(Refusal::from_number(13), Unlisted(13));
+        assert_eq!(Refusal::from_number(13), ParameterCount);
+        assert_eq!(Refusal::from_number(14), Unlisted(14));
     }
 }

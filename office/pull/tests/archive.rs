@@ -282,7 +282,7 @@ fn hostile_series() {
     println!("pull_archive: {CALLS} calls, by number returned or length: {tally:?}");
     println!("  {torn} series with torn specimens, {torn_archived} of them archived");
     assert!(torn_archived > 1_000, "{torn_archived} archived");
-    for number in [1, 2, 3, 4, 5, 6, 7, 8, 9, 12, SHORTEST_ARCHIVE as u32] {
+    for number in [1, 2, 3, 4, 5, 6, 7, 8, 9, 12, 13, SHORTEST_ARCHIVE as u32] {
         assert!(tally.get(&number).is_some_and(|&n| n >= 20), "{number} was hardly met: {tally:?}");
     }
 }

@@ -1,4 +1,4 @@
-/* pull.h from C: document 01's examples, a torn pull, refusals, other lengths. */
+/* pull.h from C: document 01's examples, a torn pull, a block's number, refusals, other lengths. */
 
 #include "pull.h"
 
@@ -131,6 +131,60 @@ static int torn(void)
     return 0;
 }
 
+/* A block of k effects and one group: in byte 8 this number, and six zeros and `last` behind it. */
+static void block(uint8_t *to, uint8_t k, uint8_t written, uint8_t last)
+{
+    record(to, 3, 0, k, 0.0);
+    to[4] = 1;
+    to[8] = written;
+    to[15] = last;
+}
+
+/* Example (k), the example's two pulls in one group with theta 0: the number in its block. */
+static int block_number(void)
+{
+    uint8_t records[160], whole[96], answer[PULL_KENWARD_ROGER_BYTES], kept[PULL_ARCHIVE_BYTES];
+    uint8_t lent[PULL_ARCHIVE_BYTES], *sent = records + 64;
+
+    example(whole);
+    memcpy(records, whole, 32);
+    record(records + 32, 2, 0, 0, 1.0);
+    record(records + 48, 2, 1, 0, 1.0);
+    record(records + 80, 4, 0, 0, 0.0);
+    memcpy(records + 96, whole + 32, 64);
+    memset(answer, 0xa5, sizeof answer);
+    memset(lent, 0xa5, sizeof lent);
+    memset(kept, 0xa5, sizeof kept);
+    block(sent, 1, 0, 0);
+    if (pull_kenward_roger(records, sizeof records, answer, sizeof answer) != PULL_PARAMETER_COUNT)
+        return failed("k = 1 with 0");
+    if (pull_archive(records, sizeof records, lent, sizeof lent) != PULL_PARAMETER_COUNT)
+        return failed("k = 1 with 0, to be archived");
+    if (pull_satterthwaite(records, sizeof records, answer, PULL_ENTRY_BYTES) != PULL_RECORDS)
+        return failed("a block for the other call");
+    block(sent, 1, 1, 128);
+    if (pull_kenward_roger(records, sizeof records, answer, sizeof answer) != PULL_RECORDS)
+        return failed("k = 1 with 1 and a byte behind it");
+    block(sent, 3, 0, 0);
+    if (pull_kenward_roger(records, sizeof records, answer, sizeof answer) != PULL_PARAMETER_COUNT)
+        return failed("k = 3 with 0");
+    block(sent, 3, 6, 0);
+    if (pull_kenward_roger(records, sizeof records, answer, sizeof answer) != PULL_SIZE)
+        return failed("k = 3 with 6");
+    block(sent, 23, 20, 0);
+    if (pull_kenward_roger(records, sizeof records, answer, sizeof answer) != PULL_PARAMETER_COUNT)
+        return failed("k = 23 with 276 less 256");
+    if (memcmp(answer, kept, sizeof answer) != 0 || memcmp(lent, kept, sizeof lent) != 0)
+        return failed("a refusal has written answer bytes");
+
+    block(sent, 1, 1, 0);
+    if (pull_kenward_roger(records, sizeof records, answer, sizeof answer) != PULL_ACCEPTED)
+        return failed("example (k) is refused");
+    if (number(answer) != 9.0)
+        return failed("F of example (k)");
+    return 0;
+}
+
 /* A matrix of two rows and columns, its diagonal a and b. */
 static uint8_t *diagonal(uint8_t *to, uint8_t kind, double a, double b)
 {
@@ -242,6 +296,8 @@ int main(void)
     if (kenward_roger() != 0)
         return 1;
     if (torn() != 0)
+        return 1;
+    if (block_number() != 0)
         return 1;
     if (satterthwaite() != 0)
         return 1;

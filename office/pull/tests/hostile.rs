@@ -9,13 +9,15 @@
 //! on the other side. The number must be the one of the independent reader; a
 //! refusal must leave the answer bytes as they were; an answer must have the
 //! form of an answer. Some files have weights of zero, of either sign, which tear
-//! specimens. A failing call prints its seed: `--calls 1 --seed THAT` makes it
+//! specimens, and some a block with a wrong number, a bit of it turned, or a byte
+//! behind it. A failing call prints its seed: `--calls 1 --seed THAT` makes it
 //! again. `--trace` prints each seed before its call, for a call that
 //! does not come back.
 
 mod fence;
 mod form;
 
+use reader::numbers::Numbers;
 use reader::random::Random;
 use reader::torn::Torn;
 use reader::tries::{Call, Tries};
@@ -78,7 +80,7 @@ fn main() {
     for function in functions() {
         let tries = Tries::new(function.call);
         let (mut records, mut answer) = (fence::Fenced::new(), fence::Fenced::new());
-        let (mut tally, mut torn) = (BTreeMap::new(), BTreeMap::new());
+        let (mut tally, mut torn, mut wrong) = (BTreeMap::new(), BTreeMap::new(), BTreeMap::new());
         for seed in flags.seed..flags.seed + flags.calls {
             if flags.trace {
                 eprintln!("{} seed {seed}", function.name);
@@ -91,12 +93,19 @@ fn main() {
             if Torn::of(&file).is_some() {
                 *torn.entry(number).or_insert(0u64) += 1;
             }
+            if Numbers::of(&file).is_some_and(|numbers| !numbers.all_right()) {
+                *wrong.entry(number).or_insert(0u64) += 1;
+            }
         }
         println!("{}: {} calls, by number returned: {tally:?}", function.name, flags.calls);
         if function.call == Call::KenwardRoger {
             println!("  of these with torn specimens: {torn:?}");
-            let met = |number: u32| torn.get(&number).is_some_and(|&calls| calls >= 100);
-            assert!(flags.calls < CALLS || [0, 1, 2, 3, 4, 6, 12].into_iter().all(met));
+            println!("  of these with a wrong value in a block: {wrong:?}");
+            let met = |tally: &BTreeMap<u32, u64>, numbers: &[u32]| {
+                numbers.iter().all(|number| tally.get(number).is_some_and(|&calls| calls >= 100))
+            };
+            assert!(flags.calls < CALLS || met(&torn, &[0, 1, 2, 3, 4, 6, 12, 13]));
+            assert!(flags.calls < CALLS || met(&wrong, &[1, 2, 12, 13]) && wrong.len() == 4);
         }
     }
 }

@@ -9,29 +9,19 @@
 //!
 //! What each test counted: `-- --nocapture`.
 
-use pull::example::record;
-use pull::{archive_fill, archive_test_fill, kenward_roger_fill, test_records, Refusal};
+mod lent;
+
+use lent::{archived, direct, UNTOUCHED};
+use pull::example::{block, record};
+use pull::{archive_test_fill, test_records, Refusal};
 use pull::{ARCHIVE_BYTES, KENWARD_ROGER_BYTES, SHORTEST_ARCHIVE};
 use reader::random::Random;
 use reader::torn::{shortened, with_torn, Torn};
 use reader::tries::{Call, Tries};
 use reader::vectors::{self, hex};
 
-const UNTOUCHED: u8 = 0xa5;
 /// Random files.
 const FILES: u64 = 200_000;
-
-/// The number and the answer bytes of the direct call.
-fn direct(series: &[u8]) -> (u32, [u8; KENWARD_ROGER_BYTES]) {
-    let mut answer = [UNTOUCHED; KENWARD_ROGER_BYTES];
-    (kenward_roger_fill(series, &mut answer), answer)
-}
-
-/// What the writer returns, and all of the lent bytes.
-fn archived(series: &[u8]) -> (u32, Vec<u8>) {
-    let mut lent = vec![UNTOUCHED; ARCHIVE_BYTES];
-    (archive_fill(series, &mut lent), lent)
-}
 
 /// The test from an archive.
 fn tested(archive: &[u8], tests: &[u8]) -> (u32, [u8; KENWARD_ROGER_BYTES]) {
@@ -225,7 +215,7 @@ fn a_column_of_a_torn_specimen() {
         if with_record {
             out.extend(record(2, 1, 1, 0, 1.0));
         }
-        out.extend(record(3, 0, 1, groups, 0.0));
+        out.extend(block(0, 1, groups));
         out.extend(record(4, 0, 0, 0, 0.5));
         out.extend(record(5, 0, 0, 0, 2.0));
         out.extend(record(5, 1, 0, 0, 0.0));

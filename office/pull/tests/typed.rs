@@ -42,6 +42,31 @@ fn a_torn_pull() {
     assert_eq!(Refusal::Weight.to_string(), "a weight is below zero");
 }
 
+/// Example (k), and its block with another number, a byte behind it, another k.
+#[test]
+fn a_block() {
+    let file = example::records_with_a_block();
+    let run = kenward_roger(&file).expect("it is accepted");
+    assert_eq!(run.coefficients[0].f, Some(9.0));
+    let with = |k: u8, value: [u8; 8]| {
+        let mut out = file.clone();
+        out[4 * 16 + 2] = k;
+        out[4 * 16 + 8..5 * 16].copy_from_slice(&value);
+        kenward_roger(&out).expect_err("it is refused")
+    };
+    assert_eq!(with(1, [0; 8]), Refusal::ParameterCount);
+    assert_eq!(with(1, [2, 0, 0, 0, 0, 0, 0, 0]), Refusal::ParameterCount);
+    assert_eq!(with(1, 1f64.to_le_bytes()), Refusal::Records);
+    assert_eq!(with(2, [2, 0, 0, 0, 0, 0, 0, 0]), Refusal::ParameterCount);
+    assert_eq!(with(2, [3, 0, 0, 0, 0, 0, 0, 0]), Refusal::Blocks);
+    assert_eq!(with(3, [0; 8]), Refusal::ParameterCount);
+    assert_eq!(with(3, [6, 0, 0, 0, 0, 0, 0, 0]), Refusal::Size);
+    assert_eq!(with(23, [20, 0, 0, 0, 0, 0, 0, 0]), Refusal::ParameterCount);
+    let text = Refusal::ParameterCount.to_string();
+    assert_eq!(text, "the number written in a block is not k(k+1)/2");
+    assert_eq!(Refusal::ParameterCount.number(), 13);
+}
+
 #[test]
 fn refusals() {
     let cases = [

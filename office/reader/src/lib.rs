@@ -1,10 +1,10 @@
-//! The reader of record files, with the refusals 2 to 8 and 12, and of the
+//! The reader of record files, with the refusals 2 to 8, 12 and 13, and of the
 //! archive that a series' adjusted matrices are kept in (`archive`).
 //!
 //! A length that is no multiple of 16 comes first (2), then records that do not
 //! rise (12), then every other reason of 2, among which the order does not
-//! show; then 3, 4, and so on. So the reading goes: length, order, records,
-//! cells, sizes, then the values.
+//! show; then the numbers in the blocks (13); then 3, 4, and so on. So the reading
+//! goes: length, order, records, cells, numbers, sizes, then the values.
 //!
 //! A specimen whose weight is zero is torn, and counts as absent. The reader gives
 //! the series as it was sent; `torn` has what is left of it.
@@ -19,6 +19,7 @@ use std::collections::BTreeMap;
 
 pub mod archive;
 pub mod archive_tries;
+pub mod numbers;
 pub mod order;
 pub mod random;
 pub mod shift;
@@ -36,6 +37,7 @@ const WEIGHT: Refusal = 6;
 const BLOCKS: Refusal = 7;
 const ZERO_CONTRAST: Refusal = 8;
 const NOT_RISING: Refusal = 12;
+const PARAMETER_COUNT: Refusal = 13;
 
 // Limits of document 01.
 const SPECIMENS: u32 = 24;
@@ -194,8 +196,8 @@ type Place = order::Key;
 
 fn place(r: &Record) -> Place {
     match r.kind {
-        // A block is told by its number; k and m are its value. So a file that
-        // rises can still have a block twice, with two k's.
+        // A block is told by its row; k, m and the number of its parameters are what
+        // it says. So a file that rises can still have a block twice, with two k's.
         BLOCK => (BLOCK, 0, r.row, 0),
         _ => r.key(),
     }
@@ -220,7 +222,7 @@ impl Cells {
         let mut cells = BTreeMap::new();
         for record in records {
             let (row, column, count) = rules(record.kind).ok_or(BAD_RECORDS)?;
-            let value_fits = record.kind != BLOCK || record.bits == 0;
+            let value_fits = record.kind != BLOCK || numbers::others_are_zero(&record);
             let fits = record.zero == 0
                 && row.admits(record.row.into())
                 && column.admits(record.column.into())
@@ -316,13 +318,29 @@ pub fn read(bytes: &[u8]) -> Result<Series, Refusal> {
         contrast: contrast(&cells, p)?,
         beta_h: cells.optional_list(BETA_H, p)?,
     };
-    // 3: sizes outside their limits that no index has caught, and no specimen left.
+    check_sizes(&cells, &shapes, &series)?;
+    check_values(&cells, &shapes, &series)?;
+    let blocks = shapes.iter().map(|&(m, k)| Block { m: m as usize, k: k.into() }).collect();
+    Ok(Series { blocks, ..series })
+}
+
+/// 13: the numbers in the blocks. 3: sizes outside their limits that no index has
+/// caught, and no specimen left.
+fn check_sizes(cells: &Cells, shapes: &[(u32, u8)], series: &Series) -> Result<(), Refusal> {
+    if cells.of(BLOCK).any(|block| !numbers::is_right(block)) {
+        return Err(PARAMETER_COUNT);
+    }
     if shapes.iter().any(|&(m, k)| m == 0 || !(k == 1 || k == 2))
-        || parameters(&shapes) > BLOCK_PARAMETERS.into()
+        || parameters(shapes) > BLOCK_PARAMETERS
         || all_torn(&series.weights)
     {
         return Err(BAD_SIZE);
     }
+    Ok(())
+}
+
+/// 4 to 8. A block's value is a small number, and as an f64 finite.
+fn check_values(cells: &Cells, shapes: &[(u32, u8)], series: &Series) -> Result<(), Refusal> {
     if !cells.values_finite() {
         return Err(NOT_FINITE);
     }
@@ -332,21 +350,19 @@ pub fn read(bytes: &[u8]) -> Result<Series, Refusal> {
     if series.weights.iter().flatten().any(|&w| w < 0.0) {
         return Err(WEIGHT);
     }
-    let columns: u64 = shapes.iter().map(|&(m, k)| m * k).sum();
-    if columns != series.z.cols as u64 || parameters(&shapes) != series.theta.len() as u64 {
+    let columns: u64 = shapes.iter().map(|&(m, k)| u64::from(m) * u64::from(k)).sum();
+    if columns != series.z.cols as u64 || parameters(shapes) as usize != series.theta.len() {
         return Err(BLOCKS);
     }
     if all_zero(&series.contrast) {
         return Err(ZERO_CONTRAST);
     }
-    let blocks = shapes.iter().map(|&(m, k)| Block { m: m as usize, k: k as usize }).collect();
-    Ok(Series { blocks, ..series })
+    Ok(())
 }
 
 /// (m, k) of each block, none missing.
-fn block_records(cells: &Cells) -> Result<Vec<(u64, u64)>, Refusal> {
-    let shapes: Vec<(u64, u64)> =
-        cells.of(BLOCK).map(|r| (r.count.into(), r.column.into())).collect();
+fn block_records(cells: &Cells) -> Result<Vec<(u32, u8)>, Refusal> {
+    let shapes: Vec<(u32, u8)> = cells.of(BLOCK).map(|r| (r.count, r.column)).collect();
     if shapes.len() == cells.rows(BLOCK) {
         Ok(shapes)
     } else {
@@ -355,8 +371,8 @@ fn block_records(cells: &Cells) -> Result<Vec<(u64, u64)>, Refusal> {
 }
 
 /// Σ k(k+1)/2.
-fn parameters(shapes: &[(u64, u64)]) -> u64 {
-    shapes.iter().map(|&(_, k)| k * (k + 1) / 2).sum()
+fn parameters(shapes: &[(u32, u8)]) -> u32 {
+    shapes.iter().map(|&(_, k)| numbers::parameter_count(k)).sum()
 }
 
 /// Z: its own columns, the specimens' rows; absent cells are 0.

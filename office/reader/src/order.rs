@@ -4,6 +4,7 @@
 //!
 //! Beside it: ways to bring a file out of order, for the tests.
 
+use crate::numbers;
 use crate::random::Random;
 use crate::{Record, BLOCK, JACOBIAN, RESIDUAL_P, RESPONSE_P};
 
@@ -108,14 +109,14 @@ pub fn doubled(r: &mut Random, file: &[u8]) -> Vec<u8> {
     joined(&records, rest)
 }
 
-/// A file with its first block again at the end, with another k. In order
-/// again it rises, and still names one block twice.
+/// A file with its first block again at the end, with another k and its number.
+/// In order again it rises, and still names one block twice.
 pub fn block_twice(r: &mut Random, file: &[u8]) -> Vec<u8> {
     let (mut records, rest) = split(file);
     if let Some(block) = records.iter().find(|bytes| bytes[0] == BLOCK) {
         let mut again = *block;
         again[2] ^= 1 + r.below(3) as u8;
-        records.push(again);
+        records.push(numbers::corrected(Record::from_bytes(&again)).to_bytes());
     }
     joined(&records, rest)
 }

@@ -171,7 +171,7 @@ pub fn spoiled(r: &mut Random, file: &[u8]) -> Vec<u8> {
 #[cfg(test)]
 mod tests {
     use super::*;
-    use crate::read;
+    use crate::{numbers, read};
 
     fn record(kind: u8, row: u8, column: u8, value: f64) -> Record {
         Record { kind, row, column, zero: 0, count: 0, bits: value.to_bits() }
@@ -194,7 +194,7 @@ mod tests {
             record(Z, 0, 0, 7.0),
             record(Z, 1, 1, 8.0),
             record(Z, 2, 0, 9.0),
-            Record { count: 2, ..record(crate::BLOCK, 0, 1, 0.0) },
+            numbers::block(0, 1, 2),
             record(crate::THETA, 0, 0, 0.5),
         ];
         out.extend((0..3).map(|i| record(WEIGHTS, i, 0, weights[i as usize])));

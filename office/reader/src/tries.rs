@@ -2,13 +2,15 @@
 //! files that are right or nearly so, and stored vectors with some of their
 //! bytes changed. Most of them a call must refuse. Most have their records in
 //! order, since a file that does not rise is refused before they are looked at.
-//! Some series have torn specimens: weights of zero, of either sign.
+//! Some series have torn specimens: weights of zero, of either sign; some have
+//! blocks with a wrong number.
 
+use crate::numbers::{self, misnumbered, with_numbers};
 use crate::order::{block_twice, disturbed, sorted, sorted_once};
 use crate::random::Random;
 use crate::torn::{spoiled, with_torn};
 use crate::vectors;
-use crate::{read, read_satterthwaite, Record, Refusal, BLOCK};
+use crate::{read, read_satterthwaite, Record, Refusal};
 
 /// Which of the two direct calls. The archive's files are made by
 /// `archive_tries`.
@@ -27,8 +29,8 @@ pub struct Shape {
 }
 
 impl Call {
-    /// The reader's verdict: the answer's shape, or a refusal from 2 to 8 or
-    /// 12.
+    /// The reader's verdict: the answer's shape, or a refusal from 2 to 8, 12 or
+    /// 13.
     pub fn verdict(self, file: &[u8]) -> Result<Shape, Refusal> {
         match self {
             Call::KenwardRoger => read(file)
@@ -66,7 +68,7 @@ impl Call {
 const LONGEST: usize = 30 * 16;
 
 /// One series in so many is torn before it is changed.
-const TORN_ONE_IN: usize = 5;
+const TORN_ONE_IN: usize = 4;
 
 /// Maker of files for one call.
 pub struct Tries {
@@ -91,6 +93,7 @@ impl Tries {
                 for _ in 0..r.below(3) {
                     self.change(r, &mut file);
                 }
+                let file = self.numbered(r, file);
                 placed(r, file)
             }
             _ => {
@@ -99,6 +102,7 @@ impl Tries {
                 for _ in 0..r.below(5) {
                     self.change(r, &mut file);
                 }
+                let file = self.numbered(r, file);
                 placed(r, file)
             }
         }
@@ -113,8 +117,9 @@ impl Tries {
             let index = |r: &mut Random| if r.once_in(3) { r.below(3) as u8 } else { 0 };
             let (row, column) = (index(r), index(r));
             let count = if r.once_in(4) { r.below(3) as u32 } else { 0 };
-            let bits = if kind == BLOCK { 0 } else { value(r).to_bits() };
-            out.extend(Record { kind, row, column, zero: 0, count, bits }.to_bytes());
+            let bits = value(r).to_bits();
+            let record = Record { kind, row, column, zero: 0, count, bits };
+            out.extend(if r.once_in(8) { record } else { numbers::corrected(record) }.to_bytes());
         }
         if r.once_in(8) {
             out
@@ -143,6 +148,17 @@ impl Tries {
             spoiled(r, &torn)
         } else {
             torn
+        }
+    }
+
+    /// A changed series, the numbers in its blocks as the changes have left them,
+    /// right again, or one of them wrong.
+    fn numbered(&self, r: &mut Random, file: Vec<u8>) -> Vec<u8> {
+        match r.below(8) {
+            _ if self.call == Call::Satterthwaite => file,
+            0 => misnumbered(r, &file),
+            1..=4 => with_numbers(&file),
+            _ => file,
         }
     }
 
@@ -229,8 +245,10 @@ fn small_kenward_roger(r: &mut Random) -> Vec<Record> {
         // One block, mostly as it should be.
         let (m, k) = (1 + r.below(2), 1 + r.below(2));
         out.grid(crate::Z, n, m * k, r);
-        out.put(BLOCK, 0, k, m, 0.0);
-        let thetas = if r.once_in(10) { r.below(4) } else { k * (k + 1) / 2 };
+        let block = numbers::block(0, k as u8, m as u32);
+        let own = numbers::parameter_count(block.column) as usize;
+        out.0.push(block);
+        let thetas = if r.once_in(10) { r.below(4) } else { own };
         out.grid(crate::THETA, thetas, 1, r);
     }
     if r.once_in(3) {

@@ -1,6 +1,7 @@
 //! The order of the records by the reader: long files, and how often the files
 //! for trying a call reach each refusal.
 
+use reader::numbers::Numbers;
 use reader::order;
 use reader::random::Random;
 use reader::torn::Torn;
@@ -38,7 +39,7 @@ fn long_files() {
 /// least 10,000 times, and as many are accepted.
 #[test]
 fn tries_reach_each_refusal() {
-    for (call, few) in CALLS.into_iter().zip([&[3, 4, 5, 6, 7, 8][..], &[4]]) {
+    for (call, few) in CALLS.into_iter().zip([&[3, 4, 5, 6, 7, 8, 13][..], &[4]]) {
         let tries = Tries::new(call);
         let mut met: BTreeMap<u32, usize> = BTreeMap::new();
         for seed in 0..100_000 {
@@ -52,6 +53,35 @@ fn tries_reach_each_refusal() {
         few.iter().for_each(|&number| least(number, 100));
         [0, 2, 12].into_iter().for_each(|number| least(number, 10_000));
     }
+}
+
+/// Of 100,000 files thousands have blocks with right numbers and are accepted; those
+/// with a number as before the request, with one that a byte has cut, with another
+/// one and with a byte behind it are met often, and 3 beside right numbers too.
+#[test]
+fn tries_have_wrong_numbers() {
+    let tries = Tries::new(Call::KenwardRoger);
+    let (mut accepted, mut size, mut zero, mut wrapped, mut another, mut behind) =
+        (0, 0, 0, 0, 0, 0);
+    for seed in 0..100_000 {
+        let file = tries.file(&mut Random::new(seed));
+        let Some(numbers) = Numbers::of(&file) else { continue };
+        match Call::KenwardRoger.verdict(&file) {
+            Ok(_) => accepted += 1,
+            Err(3) => size += 1,
+            Err(13) if numbers.zero > 0 => zero += 1,
+            Err(13) if numbers.wrapped > 0 => wrapped += 1,
+            Err(13) => another += 1,
+            Err(2) if numbers.behind > 0 => behind += 1,
+            Err(_) => {}
+        }
+    }
+    println!(
+        "{accepted} accepted, {size} refused 3; 13: {zero} zero, {wrapped} wrapped, {another}"
+    );
+    println!("{behind} with a byte behind the number");
+    assert!(accepted > 5_000 && size > 500 && behind > 500);
+    assert!(zero > 500 && wrapped > 200 && another > 500);
 }
 
 /// Of 100,000 files thousands have torn specimens and are accepted; those with no
