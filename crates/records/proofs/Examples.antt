@@ -222,6 +222,10 @@ torn-read = record {
 abbrev oneColumn : List ℕ → List ℕ
 oneColumn block = with (recordOf 2 0 0 0 one ++ (block ++ recordOf 4 0 0 0 one)) []
 
+-- a series of two columns of Z and a block of k = 2, which has three thetas, with this number in its value bytes
+abbrev twoColumns : ℕ → List ℕ
+twoColumns number = with (recordOf 2 0 1 0 one ++ (blockOfOne 2 number ++ (recordOf 4 0 0 0 one ++ (recordOf 4 1 0 0 0 ++ recordOf 4 2 0 0 one)))) []
+
 -- two blocks of one group each, with these numbers in their value bytes
 abbrev twoBlocks : ℕ → ℕ → List ℕ
 twoBlocks a b = with (recordOf 2 0 1 0 one ++ (recordOf 3 0 1 1 a ++ (recordOf 3 1 1 1 b ++ (recordOf 4 0 0 0 one ++ recordOf 4 1 0 0 one)))) []
@@ -231,6 +235,9 @@ pub record CountRead : Type 0 where
   pub right : refusal 24 (oneColumn (blockOfOne 1 1)) ≡ 0
   pub bare : refusal 24 (oneColumn (blockOfOne 1 0)) ≡ 13
   pub wrong : refusal 24 (oneColumn (blockOfOne 1 2)) ≡ 13
+  -- "the theta values of k = 2 without correlation": they are three, of which the middle one is 0, and 2 is 13
+  pub uncorrelated : refusal 24 (twoColumns 3) ≡ 0
+  pub twoForThree : refusal 24 (twoColumns 2) ≡ 13
   -- in any block
   pub both : refusal 24 (twoBlocks 1 1) ≡ 0
   pub second : refusal 24 (twoBlocks 1 3) ≡ 13
@@ -259,6 +266,8 @@ count-read = record {
   right = refl;
   bare = refl;
   wrong = refl;
+  uncorrelated = refl;
+  twoForThree = refl;
   both = refl;
   second = refl;
   secondByte = refl;
