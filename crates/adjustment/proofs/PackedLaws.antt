@@ -5,9 +5,14 @@ use native.Mathlib.Nat.{mul-le-mul}
 use native.Mathlib.Numerals.{add-one}
 use native.Mathlib.Decide.{decLe, decLt}
 use mathlib.Core.Path.{_≡_, refl, sym, ap, _∙_}
+use mathlib.Core.Bool.{cond}
 use mathlib.Core.Logic.{_⊎_, inl, inr}
 use borrow.Author.Tests.{le-leb, lt-leb}
+use mir.Syntax.{w64}
+use mir.Val.{Fits}
+use lib.Dec.{leb}
 use Rattle.adjustment.specs.Information.{packed}
+use Rattle.adjustment.specs.PackedOnce.{OnePair, PackedOnce}
 
 -- the place of (a, b), a the smaller index
 abbrev pub place : ℕ → ℕ → ℕ → ℕ
@@ -29,6 +34,52 @@ packed-mirror N r s = go (decLt r s) (decLt s r)
     go (yes h) q = packed-up N r s (omega arith) ∙ sym (packed-down N s r h)
     go (no h) (yes l) = packed-down N r s l ∙ sym (packed-up N s r (omega arith))
     go (no h) (no l) = let e : r ≡ s = omega arith in rw e
+
+-- ---- the smaller index by arithmetic, for indices below 4
+-- r + 4 - s holds one whole 4 where s is not above r, and none where it is
+holds-four : (r s : ℕ) → r < 4 → s ≤ r → (r + 4 - s) / 4 ≡ 1
+holds-four r s h l = omega arith
+
+holds-none : (r s : ℕ) → s < 4 → r < s → (r + 4 - s) / 4 ≡ 0
+holds-none r s h l = omega arith
+
+-- products of numbers below 4, and a sum of two, are below what a usize holds
+small-product : (t x : ℕ) → t < 4 → x < 4 → t * x ≤ 16
+small-product t x h l = mul-le-mul {n₂ = 4} {m₂ = 4} (omega arith) (omega arith)
+
+pub product-fits : {t x : ℕ} → t < 4 → x < 4 → Fits w64 (t * x)
+product-fits h l = omega (arith, small-product _ _ h l)
+
+pub products-fit : {t x u y : ℕ} → t < 4 → x < 4 → u < 4 → y < 4 → Fits w64 (t * x + u * y)
+products-fit h l m n = omega (arith, small-product _ _ h l, small-product _ _ m n)
+
+pub smaller-picked : (r s : ℕ) → r < 4 → s < 4 → (r + 4 - s) / 4 * s + (1 - (r + 4 - s) / 4) * r ≡ cond (leb r s) r s
+smaller-picked r s h l = go (decLt r s) (decLe r s)
+  where
+    go : Dec (r < s) → Dec (r ≤ s) → (r + 4 - s) / 4 * s + (1 - (r + 4 - s) / 4) * r ≡ cond (leb r s) r s
+    go (yes u) v = rw (holds-none r s l u, le-leb r s (omega arith)) (omega arith)
+    go (no u) (yes v) = rw (holds-four r s h (omega arith), le-leb r s v) (omega arith)
+    go (no u) (no v) = rw (holds-four r s h (omega arith), lt-leb r s (omega arith)) (omega arith)
+
+-- the other index is what is left of their sum
+pub record Picked (N r s a : ℕ) : Type 0 where
+  pub least : a ≤ r
+  pub ordered : a ≤ r + s - a
+  pub inside : r + s - a < N
+  pub packed-is : place N a (r + s - a) ≡ packed N r s
+
+pub picked : (N r s a : ℕ) → r < N → s < N → a ≡ cond (leb r s) r s → Picked N r s a
+picked N r s a h l e = go (decLe r s)
+  where
+    go : Dec (r ≤ s) → Picked N r s a
+    go (yes u) =
+        let d : a ≡ r = e ∙ rw (le-leb r s u) in
+        let f : r + s - a ≡ s = omega arith in
+        record { least = omega arith; ordered = omega arith; inside = omega arith; packed-is = rw (f, d) (sym (packed-up N r s u)) }
+    go (no u) =
+        let d : a ≡ s = e ∙ rw (lt-leb r s (omega arith)) in
+        let f : r + s - a ≡ r = omega arith in
+        record { least = omega arith; ordered = omega arith; inside = omega arith; packed-is = rw (f, d) (sym (packed-down N r s (omega arith))) }
 
 -- ---- every N: the places of the unordered pairs are the numbers below N (N + 1) / 2, each once
 even : (a : ℕ) → a * (a + 1) ≡ 2 * (a * (a + 1) / 2)
@@ -155,17 +206,8 @@ packed-below N r s h l = go (decLe r s)
     go (yes u) = rw (packed-up N r s u) (place-below N r s u l)
     go (no u) = rw (packed-down N r s (omega arith)) (place-below N s r (omega arith) h)
 
--- k is the place of the pair of a and b, and of no other
-pub record OnePair (N k : ℕ) : Type 0 where
-  pub a : ℕ
-  pub b : ℕ
-  pub ordered : a ≤ b
-  pub inside : b < N
-  pub here : packed N a b ≡ k
-  pub only : (r s : ℕ) → r < N → s < N → packed N r s ≡ k → ((r ≡ a) × (s ≡ b)) ⊎ ((r ≡ b) × (s ≡ a))
-
-pub packed-once : (N k : ℕ) → k < N * (N + 1) / 2 → OnePair N k
-packed-once N k h = go (pair-of N k h)
+one-pair : (N k : ℕ) → k < N * (N + 1) / 2 → OnePair N k
+one-pair N k h = go (pair-of N k h)
   where
     go : Pair N k → OnePair N k
     go p =
@@ -183,6 +225,16 @@ packed-once N k h = go (pair-of N k h)
         pick r s u v e (no m) =
             let q = place-one N s r (p .a) (p .b) (omega arith) u (p .ordered) (p .inside) (sym (packed-down N r s (omega arith)) ∙ e ∙ sym (p .here)) in
             inr (q .1, q .0)
+
+-- what is promised of the packing, for every N
+pub packed-once : (N : ℕ) → PackedOnce N
+packed-once N =
+    record {
+      place = λ a b h l. (packed-up N a b h, packed-mirror N b a ∙ packed-up N a b h);
+      exact = λ a h. let inner : a * (a + 1) ≤ a * N = mul-le-mul (omega arith) (omega arith) in (sym (even a), omega (arith, inner));
+      below = packed-below N;
+      once = one-pair N;
+    }
 
 -- ---- document 01's examples (a), in both orders, and (b)
 example-a : packed 3 1 2 ≡ 4

@@ -2,4 +2,5 @@
 pub mod Blocks
 pub mod Covariance
 pub mod Information
+pub mod PackedOnce
 pub mod Adjusted

@@ -1,21 +1,30 @@
 -- `adjustment::packing::index_symmat2vec` meets its contract.
-use mathlib.Core.Path.{sym, _∙_}
-use Rattle.adjustment.proofs.PackedLaws.{packed-up, packed-down}
+use mathlib.Core.Path.{_∙_}
+use Rattle.adjustment.proofs.PackedLaws.{picked}
 use borrow.Author.Needs.{needs}
+use native.Mathlib.Omega.{arith}
 use Rattle.adjustment.proofs.packing.index_symmat2vec.Statement.{statement}
 use Rattle.adjustment.proofs.packing.index_symmat2vec.Tie as tie
 
+smaller-index-requires : tie.Need-smaller-index-requires
+smaller-index-requires c κs = search needs
+
+add-place : tie.Need-add-place
+add-place c = search needs
+
+sub-place : tie.Need-sub-place
+sub-place c = omega (arith, picked _ _ _ _ (c .before .pre .1) (c .before .pre .2) (c .smaller-index .ensures) .least)
+
 place-requires : tie.Need-place-requires
-place-requires c κs = search needs
+place-requires c κs =
+    let h = picked _ _ _ _ (c .before .pre .1) (c .before .pre .2) (c .smaller-index .ensures) in
+    (c .before .pre .0, h .ordered, h .inside)
 
 returns : tie.Need-returns
-returns c = (c .place .ensures .0 ∙ sym (packed-up _ _ _ (c .before .if1 .taken)), c .place .ensures .1, c .place .ensures .2)
-
-place-requires-2 : tie.Need-place-requires-2
-place-requires-2 c κs = search needs
-
-returns-2 : tie.Need-returns-2
-returns-2 c = (c .place2 .ensures .0 ∙ sym (packed-down _ _ _ (c .before .if1 .left)), c .place2 .ensures .1, c .place2 .ensures .2)
+returns c =
+    let h = picked _ _ _ _ (c .before .before .pre .1) (c .before .before .pre .2) (c .before .smaller-index .ensures) in
+    (c .place .ensures .0 ∙ h .packed-is, c .place .ensures .1, c .place .ensures .2)
 
 pub index-symmat2vec-spec : {M : Type 1} → statement M
-index-symmat2vec-spec = tie.close (tie.spec place-requires returns place-requires-2 returns-2)
+index-symmat2vec-spec =
+    tie.close (tie.spec smaller-index-requires add-place sub-place place-requires returns)
