@@ -30,6 +30,24 @@ fn a_b_packed_places() {
     }
 }
 
+/// Example (a) cannot tell a packing that never swaps: 2·3 − 3 + 1 is 4 too. All
+/// ordered pairs of one to four matrices can, and each place has one pair.
+#[test]
+fn every_pair_has_its_place() {
+    for n in 1..=4 {
+        let mut pairs = vec![Vec::new(); n * (n + 1) / 2];
+        for (r, s) in (0..n).flat_map(|r| (0..n).map(move |s| (r, s))) {
+            assert_eq!(kr_vcov_adj::reach::packed(r, s, n), marked::packed(r, s, n));
+            pairs[marked::packed(r, s, n)].push([r, s]);
+        }
+        let mirrored = |pair: &[usize; 2]| [pair[1], pair[0]];
+        for place in pairs {
+            let one = place[0];
+            assert!(place.iter().all(|pair| *pair == one || *pair == mirrored(&one)));
+        }
+    }
+}
+
 #[test]
 fn c_d_e_pooled_df() {
     for (nu, df) in [(vec![6.0, 6.0, 4.0], 5.0), (vec![1.0, 1.0], 1.0), (vec![2.0, 5.0], 2.0)] {

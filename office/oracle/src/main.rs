@@ -9,6 +9,7 @@ const USAGE: &str = "usage:
   oracle bits < FILE                the same, and the numbers behind them
   oracle satterthwaite < FILE       the Satterthwaite call, as one `test` line
   oracle archive < FILE             the archive in hexadecimal, and the test from it
+  oracle places                     where each pair of indices is packed
   oracle make-vectors DIR SEED COUNT
   oracle make-archive-vectors DIR SEED COUNT
   oracle replay FILE..              checks files of vectors against the oracle
@@ -22,6 +23,7 @@ fn main() -> ExitCode {
         ["bits"] => filter(oracle::print::bits_report),
         ["satterthwaite"] => filter(oracle::print::satterthwaite_line),
         ["archive"] => filter(oracle::print::archive_lines),
+        ["places"] => write(&oracle::print::places()),
         ["make-vectors", folder, seed, count] => make(folder, seed, count),
         ["make-archive-vectors", folder, seed, count] => make_archive(folder, seed, count),
         ["replay", files @ ..] if !files.is_empty() => replay(files),
@@ -39,7 +41,11 @@ fn main() -> ExitCode {
 fn filter(answer: fn(&[u8]) -> String) -> Result<(), String> {
     let mut bytes = Vec::new();
     std::io::stdin().read_to_end(&mut bytes).map_err(|e| format!("{e}\n"))?;
-    std::io::stdout().write_all(answer(&bytes).as_bytes()).map_err(|e| format!("{e}\n"))
+    write(&answer(&bytes))
+}
+
+fn write(text: &str) -> Result<(), String> {
+    std::io::stdout().write_all(text.as_bytes()).map_err(|e| format!("{e}\n"))
 }
 
 fn make(folder: &str, seed: &str, count: &str) -> Result<(), String> {

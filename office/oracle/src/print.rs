@@ -1,7 +1,9 @@
-//! What the program `pulltest` prints, and more for the `bits` command.
+//! What the program `pulltest` prints, and more for the `bits` command; and
+//! what the program `table_packing` prints.
 
 use crate::archive::{archive, archive_test};
 use crate::calls::{both_runs, kenward_roger, satterthwaite, series_to_run, BothRuns, Entries};
+use crate::kr_vcov_adj::reach::packed;
 use crate::marked::{Entry, Moments};
 use crate::reader::archive::test_records;
 use crate::reader::Refusal;
@@ -104,6 +106,18 @@ fn numbers(runs: &BothRuns) -> String {
     }
     if let Some((_, m)) = &runs.marked.contrast {
         out += &moments("test", m);
+    }
+    out
+}
+
+/// lme-rs's place of each ordered pair of indices, for one to four matrices: a
+/// line has the number of matrices, the pair and its place.
+pub fn places() -> String {
+    let mut out = String::new();
+    for n in 1..=4 {
+        for (r, s) in (0..n).flat_map(|r| (0..n).map(move |s| (r, s))) {
+            out += &format!("{n} {r} {s} {}\n", packed(r, s, n));
+        }
     }
     out
 }

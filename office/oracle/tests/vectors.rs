@@ -1,4 +1,5 @@
-//! The delivered vectors are what the oracle says today.
+//! The delivered vectors are what the oracle says today, and so are the places
+//! that the gate's program `table_packing` has to print.
 
 use std::path::PathBuf;
 
@@ -30,4 +31,12 @@ fn archive() {
 #[test]
 fn archive_test() {
     replay("archive-test.txt");
+}
+
+#[test]
+fn places() {
+    let file = PathBuf::from(env!("CARGO_MANIFEST_DIR")).join("../../crates/table_packing/stdout");
+    let text = std::fs::read_to_string(&file).unwrap_or_else(|e| panic!("{}: {e}", file.display()));
+    assert_eq!(text, oracle::print::places());
+    assert_eq!(text.lines().count(), 30);
 }
