@@ -66,7 +66,7 @@ pub record Picked (N r s a : ℕ) : Type 0 where
   pub least : a ≤ r
   pub ordered : a ≤ r + s - a
   pub inside : r + s - a < N
-  pub packed-is : place N a (r + s - a) ≡ packed N r s
+  pub same-place : packed N a (r + s - a) ≡ packed N r s
 
 pub picked : (N r s a : ℕ) → r < N → s < N → a ≡ cond (leb r s) r s → Picked N r s a
 picked N r s a h l e = go (decLe r s)
@@ -75,11 +75,11 @@ picked N r s a h l e = go (decLe r s)
     go (yes u) =
         let d : a ≡ r = e ∙ rw (le-leb r s u) in
         let f : r + s - a ≡ s = omega arith in
-        record { least = omega arith; ordered = omega arith; inside = omega arith; packed-is = rw (f, d) (sym (packed-up N r s u)) }
+        record { least = omega arith; ordered = omega arith; inside = omega arith; same-place = rw (f, d) }
     go (no u) =
         let d : a ≡ s = e ∙ rw (lt-leb r s (omega arith)) in
         let f : r + s - a ≡ r = omega arith in
-        record { least = omega arith; ordered = omega arith; inside = omega arith; packed-is = rw (f, d) (sym (packed-down N r s (omega arith))) }
+        record { least = omega arith; ordered = omega arith; inside = omega arith; same-place = rw (f, d) (packed-mirror N s r) }
 
 -- ---- every N: the places of the unordered pairs are the numbers below N (N + 1) / 2, each once
 even : (a : ℕ) → a * (a + 1) ≡ 2 * (a * (a + 1) / 2)

@@ -1,7 +1,7 @@
 // Where Q_rs stands among the packed Qs of n matrices, n at most 4: arithmetic alone, with no comparison and no branch. No contract can say that; the gate looks at this file for it.
 ghost use mathlib.Core.Path.{_≡_};
 ghost use mathlib.Core.Bool.{cond};
-ghost use Prim.Native.Nat.{_+_, _-_, _*_, _/_, _<_, _≤_};
+ghost use Prim.Native.Nat.{_+_, _*_, _/_, _<_, _≤_};
 ghost use lib.Dec.{leb};
 ghost use Rattle.adjustment.specs.Information.{packed};
 
@@ -14,10 +14,10 @@ fn smaller_index(r: usize, s: usize) -> usize
     second * s + (1 - second) * r
 }
 
-// The place of the pair (a, b), a the smaller index: row after row of the upper half.
-fn place(a: usize, b: usize, n: usize) -> usize
+// The place of the pair (a, b) whose smaller index is a: row after row of the upper half.
+pub fn ordered_place(a: usize, b: usize, n: usize) -> usize
     requires { ⌜ (n ≤ 4) × (a ≤ b) × (b < n) ⌝ }
-    ensures { λ q. ⌜ (q ≡ a * n - a * (a + 1) / 2 + b) × (q < 10) × (q < n * (n + 1) / 2) ⌝ }
+    ensures { λ q. ⌜ (q ≡ packed n a b) × (q < 10) × (q < n * (n + 1) / 2) ⌝ }
 {
     a * n - a * (a + 1) / 2 + b
 }
@@ -28,5 +28,5 @@ pub fn index_symmat2vec(r: usize, s: usize, n: usize) -> usize
     ensures { λ q. ⌜ (q ≡ packed n r s) × (q < 10) × (q < n * (n + 1) / 2) ⌝ }
 {
     let a = smaller_index(r, s);
-    place(a, r + s - a, n)
+    ordered_place(a, r + s - a, n)
 }

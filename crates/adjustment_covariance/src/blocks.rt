@@ -9,6 +9,7 @@ ghost use Rattle.adjustment_covariance.specs.joints.Bounds.{Sound, Place
 use adjustment::Block;
 use adjustment::Place;
 use adjustment::packing::index_symmat2vec;
+use adjustment::packing::ordered_place;
 
 // The places of a block's lower triangle.
 pub fn places(b: Block) -> usize
@@ -115,7 +116,7 @@ pub fn theta_cell(theta: [f64; 3], t: Place, i: usize, c: usize) -> f64
     ensures { λ x. ⌜ x ≡ thetaCell theta t i c ⌝ }
 {
     if c <= i {
-        let at = t.first + index_symmat2vec(c, i, t.effects);
+        let at = t.first + ordered_place(c, i, t.effects);
         return theta[at];
     }
     0.0

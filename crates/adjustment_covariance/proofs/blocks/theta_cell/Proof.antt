@@ -7,21 +7,21 @@ use borrow.Author.Needs.{needs}
 use Rattle.adjustment_covariance.proofs.blocks.theta_cell.Statement.{statement}
 use Rattle.adjustment_covariance.proofs.blocks.theta_cell.Tie as tie
 
-index-symmat2vec-requires : tie.Need-index-symmat2vec-requires
-index-symmat2vec-requires c κs = omega arith
+ordered-place-requires : tie.Need-ordered-place-requires
+ordered-place-requires c κs = omega arith
 
 add-at : tie.Need-add-at
-add-at c = omega (arith, c .before .index-symmat2vec .ensures .2, c .before .before .before .pre .1)
+add-at c = omega (arith, c .before .ordered-place .ensures .2, c .before .before .before .pre .1)
 
 mul-result : tie.Need-mul-result
 mul-result c = search needs
 
 array-read-result : tie.Need-array-read-result
-array-read-result c = omega (arith, c .before .index-symmat2vec .ensures .2, c .before .before .before .pre .1)
+array-read-result c = omega (arith, c .before .ordered-place .ensures .2, c .before .before .before .pre .1)
 
 returns : tie.Need-returns
 unfolding thetaCell
-returns c = rw (le-leb _ _ (c .before .before .if1 .taken), ← c .before .index-symmat2vec .ensures .0)
+returns c = rw (le-leb _ _ (c .before .before .if1 .taken), ← c .before .ordered-place .ensures .0)
 
 returns-2 : tie.Need-returns-2
 unfolding thetaCell ofBits
@@ -29,4 +29,4 @@ returns-2 c = rw (lt-leb _ _ (c .if1 .left))
 
 pub theta-cell-spec : {M : Type 1} → statement M
 theta-cell-spec =
-    tie.close (tie.spec index-symmat2vec-requires add-at mul-result array-read-result returns returns-2)
+    tie.close (tie.spec ordered-place-requires add-at mul-result array-read-result returns returns-2)

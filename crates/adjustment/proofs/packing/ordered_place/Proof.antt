@@ -1,10 +1,10 @@
--- `adjustment::packing::place` meets its contract.
-use mathlib.Core.Path.{refl}
-use Rattle.adjustment.proofs.PackedLaws.{placed}
+-- `adjustment::packing::ordered_place` meets its contract.
+use mathlib.Core.Path.{sym}
+use Rattle.adjustment.proofs.PackedLaws.{packed-up, placed}
 use borrow.Author.Needs.{needs}
 use native.Mathlib.Omega.{arith}
-use Rattle.adjustment.proofs.packing.place.Statement.{statement}
-use Rattle.adjustment.proofs.packing.place.Tie as tie
+use Rattle.adjustment.proofs.packing.ordered_place.Statement.{statement}
+use Rattle.adjustment.proofs.packing.ordered_place.Tie as tie
 
 mul-result : tie.Need-mul-result
 mul-result c = omega (arith, placed 4 _ _ _ (c .pre .0) (c .pre .1) (c .pre .2) .rows)
@@ -22,8 +22,8 @@ add-result-2 : tie.Need-add-result-2
 add-result-2 c = omega (arith, placed 4 _ _ _ (c .pre .0) (c .pre .1) (c .pre .2) .small)
 
 returns : tie.Need-returns
-returns c = (refl, placed 4 _ _ _ (c .pre .0) (c .pre .1) (c .pre .2) .small, placed 4 _ _ _ (c .pre .0) (c .pre .1) (c .pre .2) .below)
+returns c = (sym (packed-up _ _ _ (c .pre .1)), placed 4 _ _ _ (c .pre .0) (c .pre .1) (c .pre .2) .small, placed 4 _ _ _ (c .pre .0) (c .pre .1) (c .pre .2) .below)
 
-pub place-spec : {M : Type 1} → statement M
-place-spec =
+pub ordered-place-spec : {M : Type 1} → statement M
+ordered-place-spec =
     tie.close (tie.spec mul-result add-result mul-result-2 sub-result add-result-2 returns)
