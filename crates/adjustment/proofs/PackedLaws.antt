@@ -35,14 +35,7 @@ packed-mirror N r s = go (decLt r s) (decLt s r)
     go (no h) (yes l) = packed-down N r s l ∙ sym (packed-up N s r (omega arith))
     go (no h) (no l) = let e : r ≡ s = omega arith in rw e
 
--- ---- the smaller index by arithmetic, for indices below 4
--- r + 4 - s holds one whole 4 where s is not above r, and none where it is
-holds-four : (r s : ℕ) → r < 4 → s ≤ r → (r + 4 - s) / 4 ≡ 1
-holds-four r s h l = omega arith
-
-holds-none : (r s : ℕ) → s < 4 → r < s → (r + 4 - s) / 4 ≡ 0
-holds-none r s h l = omega arith
-
+-- ---- the smaller index by arithmetic
 -- products of numbers below 4, and a sum of two, are below what a usize holds
 small-product : (t x : ℕ) → t < 4 → x < 4 → t * x ≤ 16
 small-product t x h l = mul-le-mul {n₂ = 4} {m₂ = 4} (omega arith) (omega arith)
@@ -53,13 +46,15 @@ product-fits h l = omega (arith, small-product _ _ h l)
 pub products-fit : {t x u y : ℕ} → t < 4 → x < 4 → u < 4 → y < 4 → Fits w64 (t * x + u * y)
 products-fit h l m n = omega (arith, small-product _ _ h l, small-product _ _ m n)
 
-pub smaller-picked : (r s : ℕ) → r < 4 → s < 4 → (r + 4 - s) / 4 * s + (1 - (r + 4 - s) / 4) * r ≡ cond (leb r s) r s
-smaller-picked r s h l = go (decLt r s) (decLe r s)
+-- with a t of 0 or 1 that is 0 where r is the smaller and 1 where s is, t·s + (1 − t)·r is the smaller of the two
+pub smaller-picked : {r s t : ℕ} → t ≤ 1 → (r < s → t ≡ 0) → (s < r → t ≡ 1) → t * s + (1 - t) * r ≡ cond (leb r s) r s
+smaller-picked {r} {s} {t} few none one = go (decLt r s) (decLt s r) (decLt 0 t)
   where
-    go : Dec (r < s) → Dec (r ≤ s) → (r + 4 - s) / 4 * s + (1 - (r + 4 - s) / 4) * r ≡ cond (leb r s) r s
-    go (yes u) v = rw (holds-none r s l u, le-leb r s (omega arith)) (omega arith)
-    go (no u) (yes v) = rw (holds-four r s h (omega arith), le-leb r s v) (omega arith)
-    go (no u) (no v) = rw (holds-four r s h (omega arith), lt-leb r s (omega arith)) (omega arith)
+    go : Dec (r < s) → Dec (s < r) → Dec (0 < t) → t * s + (1 - t) * r ≡ cond (leb r s) r s
+    go (yes u) v w = rw (none u, le-leb r s (omega arith)) (omega arith)
+    go (no u) (yes v) w = rw (one v, lt-leb r s v) (omega arith)
+    go (no u) (no v) (yes w) = let e : t ≡ 1 = omega arith in rw (e, le-leb r s (omega arith)) (omega arith)
+    go (no u) (no v) (no w) = let e : t ≡ 0 = omega arith in rw (e, le-leb r s (omega arith)) (omega arith)
 
 -- the other index is what is left of their sum
 pub record Picked (N r s a : ℕ) : Type 0 where

@@ -24,7 +24,7 @@ add-result : tie.Need-add-result
 add-result c = products-fit (omega arith) (omega arith) (omega arith) (omega arith)
 
 returns : tie.Need-returns
-returns c = smaller-picked _ _ (c .pre .0) (c .pre .1)
+returns c = smaller-picked (omega arith) (λ u. omega arith) (λ u. omega arith)
 
 pub smaller-index-spec : {M : Type 1} → statement M
 smaller-index-spec =
