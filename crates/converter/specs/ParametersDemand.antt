@@ -3,7 +3,7 @@
 -- multiplication gives it.
 use Prim.Native.Nat.{ℕ, _*_, _≤_}
 use mathlib.Core.Path.{_≡_}
-use mathlib.Core.Bool.{true}
+use mathlib.Core.Bool.{true, false}
 use mathlib.Core.List.{List}
 use lib.Dec.{T}
 use lib.IntN.{ℤ, natAbs}
@@ -11,6 +11,7 @@ use lib.Ieee.{binary64, fits}
 use Rattle.arithmetic.specs.Marks.{MarkBears}
 use Rattle.arithmetic_cutoffs.specs.declared.Cutoffs.{Cutoffs}
 use Rattle.arithmetic_cutoffs.specs.Cutoffs.{documentCutoffs}
+use Rattle.records.specs.CutoffTable.{badTable, cutoffsIn, builtInTable}
 use Rattle.records.specs.SatterthwaiteCall.{number, entry, returned, written}
 use Rattle.tests.specs.Verdict.{verdict}
 use Rattle.converter.specs.Converted.{satterthwaiteChange, converted}
@@ -26,28 +27,28 @@ pub record SameVerdict (c : Cutoffs) (s s' : List ℕ) : Type 0 where
 abbrev pub ParametersBorne : (List ℕ → List ℕ → Type 0) → Cutoffs → Type 0
 ParametersBorne P c = (t : ℕ) (s : List ℕ) (k : ℤ) → 4 * natAbs k ≤ t → number c s ≡ 0 → MarkBears t (entry c s .inside) → P s (converted (satterthwaiteChange k) s)
 
--- the same for every file that is accepted with its entry inside, k from -32 to 32; with document 01's cutoffs, and with any others of which the
--- one that Jacobi's rotation test reads is an f64 number
+-- the same for every file that is accepted with its entry inside, k from -32 to 32
 abbrev pub ParametersWith : (List ℕ → List ℕ → Type 0) → Cutoffs → Type 0
 ParametersWith P c = (s : List ℕ) (k : ℤ) → natAbs k ≤ 32 → number c s ≡ 0 → entry c s .inside ≡ true → P s (converted (satterthwaiteChange k) s)
 
-abbrev pub EveryParameters : (Cutoffs → List ℕ → List ℕ → Type 0) → Type 0
-EveryParameters P = ParametersWith (P documentCutoffs) documentCutoffs × ((c : Cutoffs) → T (fits binary64 (c .rotation)) → ParametersWith (P c) c)
+-- the same answer bytes of the call with a table, 24 of them, but for the mark
+abbrev pub SameEntryBytes : List ℕ → List ℕ → List ℕ → Type 0
+SameEntryBytes lab s s' = SameAnswer 24 (written lab s) (returned lab s') (written lab s')
 
--- the same answer bytes, 24 of them, but for the mark
-abbrev pub SameEntryBytes : Cutoffs → List ℕ → List ℕ → Type 0
-SameEntryBytes c s s' = SameAnswer 24 (written c s) (returned c s') (written c s')
-
--- FROM ONE PREMISE, what the mark bears: in the entry, and in answer bytes
+-- FROM ONE PREMISE, what the mark bears: in the entry, with any cutoffs of which the one that Jacobi's rotation test reads is an f64 number, and in answer bytes, for each accepted table
 abbrev pub SatterthwaiteBorne : Type 0
 SatterthwaiteBorne = (c : Cutoffs) → T (fits binary64 (c .rotation)) → ParametersBorne (SameVerdict c) c
 
 abbrev pub SatterthwaiteBorneAnswer : Type 0
-SatterthwaiteBorneAnswer = (c : Cutoffs) → T (fits binary64 (c .rotation)) → ParametersBorne (SameEntryBytes c) c
+SatterthwaiteBorneAnswer = (lab : List ℕ) → badTable lab ≡ false → ParametersBorne (SameEntryBytes lab) (cutoffsIn lab)
 
--- THE THIRD DEMAND, for the Satterthwaite call: in its entry, and in its 24 answer bytes
+-- THE THIRD DEMAND, for the Satterthwaite call: in its entry, and in its 24 answer bytes; "for each accepted table" (document 02, "Req 06")
 abbrev pub SatterthwaiteDemand : Type 0
-SatterthwaiteDemand = EveryParameters SameVerdict
+SatterthwaiteDemand = (lab : List ℕ) → badTable lab ≡ false → ParametersWith (SameVerdict (cutoffsIn lab)) (cutoffsIn lab)
 
 abbrev pub SatterthwaiteAnswer : Type 0
-SatterthwaiteAnswer = EveryParameters SameEntryBytes
+SatterthwaiteAnswer = (lab : List ℕ) → badTable lab ≡ false → ParametersWith (SameEntryBytes lab) (cutoffsIn lab)
+
+-- and of the call without a table, with document 01's cutoffs: the instance at the built-in table
+abbrev pub BuiltInEntryAnswer : Type 0
+BuiltInEntryAnswer = ParametersWith (SameEntryBytes builtInTable) documentCutoffs

@@ -3,14 +3,16 @@
 -- 2 ^ (m r) times, each value as f64 multiplication gives it. w is the limit of specimens, 24 at the panel.
 use Prim.Native.Nat.{ℕ, _*_, _<_, _≤_}
 use mathlib.Core.Path.{_≡_}
-use mathlib.Core.Bool.{true}
+use mathlib.Core.Bool.{true, false}
 use mathlib.Core.List.{List, map}
 use lib.IntN.{ℤ, natAbs}
 use lib.ListN.{getD}
 use Rattle.arithmetic.specs.Marks.{MarkBears}
 use Rattle.arithmetic_cutoffs.specs.declared.Cutoffs.{Cutoffs}
+use Rattle.arithmetic_cutoffs.specs.Cutoffs.{documentCutoffs}
 use Rattle.tests.specs.Answer.{noEntry}
 use Rattle.records.specs.Series.{coefficients, contrastRows}
+use Rattle.records.specs.CutoffTable.{badTable, cutoffsIn, builtInTable}
 use Rattle.records.specs.KenwardRogerCall.{number, entries, returned, written}
 use Rattle.records.specs.Archive.{archiveBytes}
 use Rattle.records.specs.SecondFile.{ownTests}
@@ -35,52 +37,60 @@ pub record SameVerdicts (w : ℕ) (c : Cutoffs) (s s' : List ℕ) : Type 0 where
   pub accepted : number w c s' ≡ 0
   pub verdicts : map verdict (entries w c s') ≡ map verdict (entries w c s)
 
--- P of a file and of what another converter makes of it: every file that is accepted with entries that bear t, whatever the cutoffs, and every k and m that t covers, 2|k| ≤ t and |m r| ≤ t for each
+-- P of a file and of what another converter makes of it, with the cutoffs c: every file that is accepted with entries that bear t, and every k and m that t covers, 2|k| ≤ t and |m r| ≤ t for each
 -- contrast row r: sigma2 moves by 2k, row r by m r, and no number of a marked step by more than the larger of the two
-abbrev pub SeriesBorne : (ℕ → Cutoffs → List ℕ → List ℕ → Type 0) → ℕ → Type 0
-SeriesBorne P w =
-    (t : ℕ) (c : Cutoffs) (s : List ℕ) (k : ℤ) (m : ℕ → ℤ) → 2 * natAbs k ≤ t → ((r : ℕ) → r < contrastRows s → natAbs (m r) ≤ t) → number w c s ≡ 0 → AllBear t w c s
-    → P w c s (converted (kenwardRogerChange k m) s)
+abbrev pub SeriesBorne : (List ℕ → List ℕ → Type 0) → ℕ → Cutoffs → Type 0
+SeriesBorne P w c =
+    (t : ℕ) (s : List ℕ) (k : ℤ) (m : ℕ → ℤ) → 2 * natAbs k ≤ t → ((r : ℕ) → r < contrastRows s → natAbs (m r) ≤ t) → number w c s ≡ 0 → AllBear t w c s
+    → P s (converted (kenwardRogerChange k m) s)
 
 -- the same for every file that is accepted with all entries inside, k from -32 to 32 and for each contrast row an m of its own from -32 to 32
-abbrev pub SeriesAt : (ℕ → Cutoffs → List ℕ → List ℕ → Type 0) → ℕ → Type 0
-SeriesAt P w =
-    (c : Cutoffs) (s : List ℕ) (k : ℤ) (m : ℕ → ℤ) → natAbs k ≤ 32 → ((r : ℕ) → r < contrastRows s → natAbs (m r) ≤ 32) → number w c s ≡ 0 → AllInside w c s
-    → P w c s (converted (kenwardRogerChange k m) s)
+abbrev pub SeriesWith : (List ℕ → List ℕ → Type 0) → ℕ → Cutoffs → Type 0
+SeriesWith P w c =
+    (s : List ℕ) (k : ℤ) (m : ℕ → ℤ) → natAbs k ≤ 32 → ((r : ℕ) → r < contrastRows s → natAbs (m r) ≤ 32) → number w c s ≡ 0 → AllInside w c s
+    → P s (converted (kenwardRogerChange k m) s)
 
--- with every limit of specimens: each that a byte can name, and any other, since nothing here turns on it
-abbrev pub EverySeries : (ℕ → Cutoffs → List ℕ → List ℕ → Type 0) → Type 0
-EverySeries P = (w : ℕ) → SeriesAt P w
+-- "All statements, the converter's too, now read for each accepted table" (document 02, "Req 06"): P of a table's call, at the limit of specimens w
+abbrev pub EachTable : (List ℕ → List ℕ → List ℕ → Type 0) → ℕ → Type 0
+EachTable P w = (lab : List ℕ) → badTable lab ≡ false → SeriesWith (P lab) w (cutoffsIn lab)
 
--- the same answer bytes, 168 of them, but for the marks
-abbrev pub SameAnswers : ℕ → Cutoffs → List ℕ → List ℕ → Type 0
-SameAnswers w c s s' = SameAnswer 168 (written w c s) (returned w c s') (written w c s')
+-- the same answer bytes of the call with a table, 168 of them, but for the marks
+abbrev pub SameAnswers : ℕ → List ℕ → List ℕ → List ℕ → Type 0
+SameAnswers w lab s s' = SameAnswer 168 (written w lab s) (returned w lab s') (written w lab s')
 
--- FROM ONE PREMISE, what the marks bear: in entries, and in answer bytes
+-- FROM ONE PREMISE, what the marks bear: in entries, whatever the cutoffs are, and in answer bytes, for each accepted table
 abbrev pub KenwardRogerBorne : Type 0
-KenwardRogerBorne = (w : ℕ) → SeriesBorne SameVerdicts w
+KenwardRogerBorne = (w : ℕ) (c : Cutoffs) → SeriesBorne (SameVerdicts w c) w c
 
 abbrev pub KenwardRogerBorneAnswer : Type 0
-KenwardRogerBorneAnswer = (w : ℕ) → SeriesBorne SameAnswers w
+KenwardRogerBorneAnswer = (w : ℕ) (lab : List ℕ) → badTable lab ≡ false → SeriesBorne (SameAnswers w lab) w (cutoffsIn lab)
 
--- THE THIRD DEMAND, for the Kenward–Roger call: in entries, and in its answer bytes
+-- THE THIRD DEMAND, for the Kenward–Roger call: in entries, and in its answer bytes; with each accepted table and every limit of specimens: each that a byte can name, and any other, since nothing here turns on it
 abbrev pub KenwardRogerDemand : Type 0
-KenwardRogerDemand = EverySeries SameVerdicts
+KenwardRogerDemand = (w : ℕ) → EachTable (λ lab. SameVerdicts w (cutoffsIn lab)) w
 
 abbrev pub KenwardRogerAnswer : Type 0
-KenwardRogerAnswer = EverySeries SameAnswers
+KenwardRogerAnswer = (w : ℕ) → EachTable (SameAnswers w) w
 
--- and for a test from the series' archive with the series' own records of kinds 8 to 10 (document 02, "Req 02"): the archive and the second file of the converted series answer as those of the series
-abbrev pub SameArchiveAnswers : ℕ → Cutoffs → List ℕ → List ℕ → Type 0
-SameArchiveAnswers w c s s' =
-    SameAnswer 168 (testingWritten c (archiveBytes (seriesArchive c s)) (ownTests s)) (testingReturned c (archiveBytes (seriesArchive c s')) (ownTests s')) (testingWritten c (archiveBytes (seriesArchive c s')) (ownTests s'))
+-- and for a test from the series' archive with the series' own records of kinds 8 to 10 (document 02, "Req 02"), with one table on both sides: the archive and the second file of the converted series answer as those
+-- of the series
+abbrev pub SameArchiveAnswers : List ℕ → List ℕ → List ℕ → Type 0
+SameArchiveAnswers lab s s' =
+    SameAnswer 168 (testingWritten lab (archiveBytes (seriesArchive (cutoffsIn lab) s)) (ownTests s)) (testingReturned lab (archiveBytes (seriesArchive (cutoffsIn lab) s')) (ownTests s')) (testingWritten lab (archiveBytes (seriesArchive (cutoffsIn lab) s')) (ownTests s'))
 
 abbrev pub ArchiveAnswer : Type 0
-ArchiveAnswer = EverySeries SameArchiveAnswers
+ArchiveAnswer = (w : ℕ) → EachTable SameArchiveAnswers w
 
 -- and at the panel, "specimens n 1–24"
 abbrev pub PanelDemand : Type 0
-PanelDemand = SeriesAt SameVerdicts 24
+PanelDemand = EachTable (λ lab. SameVerdicts 24 (cutoffsIn lab)) 24
 
 abbrev pub PanelAnswer : Type 0
-PanelAnswer = SeriesAt SameAnswers 24
+PanelAnswer = EachTable (SameAnswers 24) 24
+
+-- and of its calls without a table, with document 01's cutoffs: the instance at the built-in table
+abbrev pub BuiltInAnswer : Type 0
+BuiltInAnswer = SeriesWith (SameAnswers 24 builtInTable) 24 documentCutoffs
+
+abbrev pub BuiltInArchiveAnswer : Type 0
+BuiltInArchiveAnswer = SeriesWith (SameArchiveAnswers builtInTable) 24 documentCutoffs

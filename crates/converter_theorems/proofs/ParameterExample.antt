@@ -16,6 +16,7 @@ use Rattle.algebra.specs.Table.{row, blank, table}
 use Rattle.algebra.specs.Product.{sum, cell, product, transpose, sumCells, identity, minusCells}
 use Rattle.algebra.specs.Jacobi.{ratio, tangent, cosine, sine, turnedFirst, turnedSecond, turnRow, turnColumns, rotatedCell, rotated, squared, bound, rotateTested, rotate, rowTo, sweepTo, sweepsTo, mirrored, jacobi}
 use Rattle.algebra.specs.Small.{sandwich, givenCells, allMarks}
+use Rattle.records.specs.CutoffTable.{builtInTable}
 use Rattle.arithmetic_cutoffs.specs.Cutoffs.{decimal, documentCutoffs}
 use Rattle.tests.specs.Answer.{numberOf}
 use Rattle.tests.specs.Order.{comesBefore, placeIn, indexAt}
@@ -38,7 +39,8 @@ use Rattle.tests.specs.Verdict.{Verdict, verdict}
 use Rattle.converter.specs.Converted.{satterthwaiteShift, satterthwaiteChange, rewritten, newBits, newByte, converted}
 use Rattle.converter.specs.ParametersDemand.{SameVerdict, SameEntryBytes}
 use Rattle.converter_theorems.proofs.ParametersCall.{number-is, entry-is}
-use Rattle.converter_theorems.proofs.Theorems.{converter-satterthwaite, answer-satterthwaite}
+use Rattle.converter_theorems.proofs.Theorems.{within-satterthwaite, built-in-entry-answer}
+use Rattle.converter_theorems.proofs.ParametersCall.{document-rotation}
 
 -- a diagonal of two numbers as the four cells of matrix number 0 of a kind
 abbrev diagonal : ℕ → ℕ → ℕ → List ℕ
@@ -123,7 +125,7 @@ pub record ParameterExample : Type 0 where
   pub other : converted (satterthwaiteChange (negsuc 1)) parameterFile ≡ parameterShifted
   pub acceptedAgain : number documentCutoffs parameterShifted ≡ 0
   pub sameVerdict : Rattle.tests.specs.Verdict.verdict (entry documentCutoffs parameterShifted) ≡ twoAndAHalf
-  pub sameAnswer : SameEntryBytes documentCutoffs parameterFile parameterShifted
+  pub sameAnswer : SameEntryBytes builtInTable parameterFile parameterShifted
 
 pub parameter-example : ParameterExample
 parameter-example =
@@ -131,7 +133,7 @@ parameter-example =
     let v : verdict (entry documentCutoffs parameterFile) ≡ twoAndAHalf = ap verdict parameter-entry in
     let e : SameVerdict documentCutoffs parameterFile parameterShifted =
     subst (λ (t : List ℕ). SameVerdict documentCutoffs parameterFile t) shifted
-    (converter-satterthwaite .0 parameterFile (negsuc 1) (lit≤ tt) parameter-accepted i) in
+    (within-satterthwaite documentCutoffs document-rotation parameterFile (negsuc 1) (lit≤ tt) parameter-accepted i) in
     record {
       accepted = parameter-accepted;
       inside = i;
@@ -139,6 +141,6 @@ parameter-example =
       other = shifted;
       acceptedAgain = e .accepted;
       sameVerdict = e .same ∙ v;
-      sameAnswer = subst (λ (t : List ℕ). SameEntryBytes documentCutoffs parameterFile t) shifted
-          (answer-satterthwaite .0 parameterFile (negsuc 1) (lit≤ tt) parameter-accepted i);
+      sameAnswer = subst (λ (t : List ℕ). SameEntryBytes builtInTable parameterFile t) shifted
+          (built-in-entry-answer parameterFile (negsuc 1) (lit≤ tt) parameter-accepted i);
     }

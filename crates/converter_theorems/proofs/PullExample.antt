@@ -189,4 +189,4 @@ torn-example =
 -- with every k and m that an inside mark covers, k from -110 to 110 and m from -221 to 221, the example has rank 1, F 9 and df 1 in both entries
 pub pull-every : (k m : ℤ) → 2 * natAbs k ≤ mostBorne → natAbs m ≤ mostBorne → map verdict (entries 24 documentCutoffs (converted (kenwardRogerChange k (λ r. m)) pullFile)) ≡ pullVerdicts
 pull-every k m near nearM =
-    borne-kenward-roger 24 mostBorne documentCutoffs pullFile k (λ r. m) near (λ r h. nearM) pull-accepted (inside-bear 24 documentCutoffs pullFile (lit≤ tt) pull-inside) .verdicts ∙ ap (map verdict) pull-entries
+    borne-kenward-roger 24 documentCutoffs mostBorne pullFile k (λ r. m) near (λ r h. nearM) pull-accepted (inside-bear 24 documentCutoffs pullFile (lit≤ tt) pull-inside) .verdicts ∙ ap (map verdict) pull-entries

@@ -5,6 +5,7 @@ use mathlib.Core.Bool.{true, false}
 use mathlib.Core.List.{List, map}
 use lib.IntN.{ℤ, natAbs}
 use lib.ListN.{getD}
+use Rattle.records.specs.CutoffTable.{builtInTable}
 use Rattle.arithmetic_cutoffs.specs.Cutoffs.{documentCutoffs}
 use Rattle.algebra.specs.Small.{Rows}
 use Rattle.adjustment.specs.Covariance.{Design, matrices}
@@ -19,7 +20,7 @@ use Rattle.converter_run.specs.joints.ConvertedInput.{Input, runOn}
 use Rattle.converter.specs.Converted.{kenwardRogerChange, converted}
 use Rattle.converter.specs.SeriesDemand.{AllInside, SameVerdicts, SameAnswers}
 use Rattle.converter_theorems.proofs.SeriesCall.{inputOf, whole, listed, run-is, number-is, entries-are}
-use Rattle.converter_theorems.proofs.Theorems.{converter-panel, answer-panel}
+use Rattle.converter_theorems.proofs.Theorems.{within-kenward-roger, built-in-answer}
 use Rattle.algebra.specs.Reasons.{first}
 
 -- what the file says, and that no refusal comes before the computing
@@ -77,14 +78,14 @@ pub record Witness (s : List ℕ) (k : ℤ) (m : ℕ → ℤ) (s' : List ℕ) (v
   pub other : converted (kenwardRogerChange k m) s ≡ s'
   pub acceptedAgain : number 24 documentCutoffs s' ≡ 0
   pub sameVerdicts : map verdict (entries 24 documentCutoffs s') ≡ vs
-  pub sameAnswer : SameAnswers 24 documentCutoffs s s'
+  pub sameAnswer : SameAnswers 24 builtInTable s s'
 
 pub witness : (s : List ℕ) (k : ℤ) (m : ℕ → ℤ) (s' : List ℕ) (vs : List Verdict)
     → natAbs k ≤ 32 → ((r : ℕ) → natAbs (m r) ≤ 32) → number 24 documentCutoffs s ≡ 0 → AllInside 24 documentCutoffs s → map verdict (entries 24 documentCutoffs s) ≡ vs
     → converted (kenwardRogerChange k m) s ≡ s' → Witness s k m s' vs
 witness s k m s' vs near nears e inside v other =
     let same : SameVerdicts 24 documentCutoffs s s' =
-    subst (λ (t : List ℕ). SameVerdicts 24 documentCutoffs s t) other (converter-panel documentCutoffs s k m near (λ r h. nears r) e inside) in
+    subst (λ (t : List ℕ). SameVerdicts 24 documentCutoffs s t) other (within-kenward-roger 24 documentCutoffs s k m near (λ r h. nears r) e inside) in
     record {
       accepted = e;
       inside = inside;
@@ -92,6 +93,6 @@ witness s k m s' vs near nears e inside v other =
       other = other;
       acceptedAgain = same .accepted;
       sameVerdicts = same .verdicts ∙ v;
-      sameAnswer = subst (λ (t : List ℕ). SameAnswers 24 documentCutoffs s t) other
-          (answer-panel documentCutoffs s k m near (λ r h. nears r) e inside);
+      sameAnswer = subst (λ (t : List ℕ). SameAnswers 24 builtInTable s t) other
+          (built-in-answer s k m near (λ r h. nears r) e inside);
     }

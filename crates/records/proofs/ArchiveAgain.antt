@@ -29,7 +29,7 @@ use Rattle.records.proofs.ArchiveBack.{each-cell, archive-kind-below, a
 
 -- ---- the bits of a record
 -- eight bytes are a number below 2 ^ 64
-long-below : (s : List ℕ) (a : ℕ) → ((i : ℕ) → byte s i < 256) → long s a < 2 ^ 64
+pub long-below : (s : List ℕ) (a : ℕ) → ((i : ℕ) → byte s i < 256) → long s a < 2 ^ 64
 unfolding long word
 long-below s a h =
     let b0 = h a in
@@ -43,7 +43,7 @@ long-below s a h =
     omega arith
 
 -- a finite number is no NaN
-finite-number : (x : Float) → isFinite x ≡ true → T (not (isNan x))
+pub finite-number : (x : Float) → isFinite x ≡ true → T (not (isNan x))
 unfolding isFinite isNan
 finite-number nan e = absurd (false≢true e)
 finite-number (inf s) e = tt

@@ -10,9 +10,9 @@ use lib.ListN.{length, drop, List·getD-append}
 use lib.Seq.{sets, sets-eq, getD-append-add, getD-drop}
 use borrow.Author.Tests.{eqb-true, not-false}
 use Rattle.algebra.proofs.ReasonLaws.{passed}
-use Rattle.arithmetic_cutoffs.specs.declared.Cutoffs.{Cutoffs}
 use Rattle.records.specs.Bytes.{byte}
 use Rattle.records.specs.Archive.{archiveBytes}
+use Rattle.records.specs.CutoffTable.{tableReasons, cutoffsIn}
 use Rattle.records.specs.ArchiveCall.{seriesArchive, seriesReasons, archivingReasons, archivingRefusal, archivingReturned, archivingWritten}
 use Rattle.records.proofs.ArchiveLengths.{archiving-length}
 
@@ -33,32 +33,32 @@ module _ (l xs : List ℕ) (room : length xs ≤ length l) where
       ∙ getD-drop (length xs) l (i - length xs) 0
       ∙ ap (byte l) e
 
-module _ (w : ℕ) (c : Cutoffs) (s lent : List ℕ) (e : archivingRefusal w c s lent ≡ 0) where
+module _ (w : ℕ) (lab s lent : List ℕ) (e : archivingRefusal w lab s lent ≡ 0) where
   abbrev file : List ℕ
-  file = archiveBytes (seriesArchive c s)
+  file = archiveBytes (seriesArchive (cutoffsIn lab) s)
 
-  returned-length : archivingReturned w c s lent ≡ length file
+  returned-length : archivingReturned w lab s lent ≡ length file
   unfolding archivingReturned
   returned-length = rw e
 
-  written-is : archivingWritten w c s lent ≡ sets lent 0 file
+  written-is : archivingWritten w lab s lent ≡ sets lent 0 file
   unfolding archivingWritten
   written-is = rw e
 
   -- the lent bytes are as many as are asked for, and so have room for the archive
   lent-length : length lent ≡ 7184
   unfolding archivingRefusal archivingReasons
-  lent-length = eqb-true (length lent) 7184 (not-false (eqb (length lent) 7184) (passed 1 (not (eqb (length lent) 7184)) (seriesReasons w c s) refl e .0))
+  lent-length = eqb-true (length lent) 7184 (not-false (eqb (length lent) 7184) (passed 1 (not (eqb (length lent) 7184)) (tableReasons lab ++ seriesReasons w (cutoffsIn lab) s) refl e .0))
 
   lent-room : length file ≤ length lent
   lent-room =
-      let a = archiving-length w c s lent e .2 in
+      let a = archiving-length w lab s lent e .2 in
       let b = returned-length in
       let d = lent-length in
       omega arith
 
-  pub archiving-front : (i : ℕ) → i < archivingReturned w c s lent → byte (archivingWritten w c s lent) i ≡ byte (archiveBytes (seriesArchive c s)) i
+  pub archiving-front : (i : ℕ) → i < archivingReturned w lab s lent → byte (archivingWritten w lab s lent) i ≡ byte (archiveBytes (seriesArchive (cutoffsIn lab) s)) i
   archiving-front i h = let b = returned-length in rw written-is (put-front lent file lent-room i (omega arith))
 
-  pub archiving-rest : (i : ℕ) → archivingReturned w c s lent ≤ i → byte (archivingWritten w c s lent) i ≡ byte lent i
+  pub archiving-rest : (i : ℕ) → archivingReturned w lab s lent ≤ i → byte (archivingWritten w lab s lent) i ≡ byte lent i
   archiving-rest i h = let b = returned-length in rw written-is (put-rest lent file lent-room i (omega arith))

@@ -2,13 +2,12 @@
 use Prim.Native.Nat.{ℕ, _+_, _*_, _%_, _<_, _≤_}
 use mathlib.Core.Path.{_≡_, refl}
 use mathlib.Core.Bool.{Bool, true, false, not, _&&_, cond}
-use mathlib.Core.List.{List, [], _∷_}
+use mathlib.Core.List.{List, [], _∷_, _++_}
 use native.Mathlib.Nat.{mul-le-mul}
 use native.Mathlib.Omega.{arith}
 use lib.Dec.{eqb, ltb}
 use lib.ListN.{length}
 use borrow.Author.Tests.{ne-eqb, ltb-true}
-use Rattle.arithmetic_cutoffs.specs.declared.Cutoffs.{Cutoffs}
 use Rattle.algebra.specs.Reasons.{first}
 use Rattle.algebra.proofs.ReasonLaws.{Line, passed}
 use Rattle.adjustment.specs.Adjusted.{adjustmentReasons}
@@ -19,9 +18,11 @@ use Rattle.records.specs.File.{lengthReasons, formReasons}
 use Rattle.records.specs.Order.{orderReasons}
 use Rattle.records.specs.Series as series
 use Rattle.records.specs.Archive.{Archive, sizesAt, archiveContent, archiveBytes}
+use Rattle.records.specs.CutoffTable.{tableReasons, cutoffsIn}
 use Rattle.records.specs.ArchiveCall.{seriesArchive, seriesReasons, seriesRefusal, archivingReasons, archivingRefusal, archivingReturned}
 use Rattle.records.proofs.ScanLaws.{and-true}
 use Rattle.records.proofs.WrittenLaws.{length-file}
+use Rattle.records.proofs.CallLaws.{past-table}
 use Rattle.records.proofs.ArchiveBack.{archiveKindsOf, series-archivable}
 
 -- ---- the records: Φ and Φ_A, scaled and not, the Ps, scaled and not, W, sigma2
@@ -77,27 +78,29 @@ first-below b (x ∷ l) h e = let p = and-true (ltb (x .0) b) (allNumbersBelow b
     go false m n = n
 
 -- ---- the writer
-module _ (w : ℕ) (c : Cutoffs) (s lent : List ℕ) where
+module _ (w : ℕ) (lab s lent : List ℕ) where
   -- what refuses no call refuses no series
-  archiving-series : archivingRefusal w c s lent ≡ 0 → seriesRefusal w c s ≡ 0
+  archiving-series : archivingRefusal w lab s lent ≡ 0 → seriesRefusal w (cutoffsIn lab) s ≡ 0
   unfolding archivingRefusal archivingReasons seriesRefusal
-  archiving-series e = passed 1 (not (eqb (length lent) 7184)) (seriesReasons w c s) refl e .1
+  archiving-series e =
+      let l = seriesReasons w (cutoffsIn lab) s in
+      past-table lab l (passed 1 (not (eqb (length lent) 7184)) (tableReasons lab ++ l) refl e .1) .1
 
   -- a length
-  pub archiving-length : archivingRefusal w c s lent ≡ 0
-      → (128 ≤ archivingReturned w c s lent) × (archivingReturned w c s lent % 16 ≡ 0) × (archivingReturned w c s lent ≤ 7184)
+  pub archiving-length : archivingRefusal w lab s lent ≡ 0
+      → (128 ≤ archivingReturned w lab s lent) × (archivingReturned w lab s lent % 16 ≡ 0) × (archivingReturned w lab s lent ≤ 7184)
   unfolding archivingReturned
   archiving-length e =
       let h = archiving-series e in
-      let a = series-archivable w c s h in
-      let l = length-within (seriesArchive c s) (a .someCoefficients) (a .coefficientsBelow) (a .someParameters) (a .parametersBelow) in
+      let a = series-archivable w (cutoffsIn lab) s h in
+      let l = length-within (seriesArchive (cutoffsIn lab) s) (a .someCoefficients) (a .coefficientsBelow) (a .someParameters) (a .parametersBelow) in
       rw e (l .least, l .whole, l .most)
 
   -- or a number
-  refusal-below : archivingRefusal w c s lent < 128
-  unfolding archivingRefusal archivingReasons seriesReasons series.reasons lengthReasons orderReasons formReasons series.blockReasons series.sizeReasons series.valueReasons adjustmentReasons
-  refusal-below = first-below 128 (archivingReasons w c s lent) (omega arith) refl
+  refusal-below : archivingRefusal w lab s lent < 128
+  unfolding archivingRefusal archivingReasons tableReasons seriesReasons series.reasons lengthReasons orderReasons formReasons series.blockReasons series.sizeReasons series.valueReasons adjustmentReasons
+  refusal-below = first-below 128 (archivingReasons w lab s lent) (omega arith) refl
 
-  pub archiving-number : (archivingRefusal w c s lent ≡ 0 → ⊥) → archivingReturned w c s lent < 128
+  pub archiving-number : (archivingRefusal w lab s lent ≡ 0 → ⊥) → archivingReturned w lab s lent < 128
   unfolding archivingReturned
-  archiving-number h = rw (ne-eqb (archivingRefusal w c s lent) 0 h) refusal-below
+  archiving-number h = rw (ne-eqb (archivingRefusal w lab s lent) 0 h) refusal-below

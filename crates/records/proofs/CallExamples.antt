@@ -37,8 +37,10 @@ use Rattle.records.specs.File.{outOf, badRecord, isCell, again, has, cel
 use Rattle.records.specs.Order.{numbersMatrix, matrixOf, standsBefore, falls, orderReasons}
 use Rattle.records.specs.Shortened.{torn, allTorn, keptBelow, shortened}
 use Rattle.records.specs.Series.{contrastRows, sizes, asSent, blockOf as blockRead, miscounted, badSize, badWeight, misfit, zeroContrast, blockReasons, sizeReasons, valueReasons, reasons, refusal, design, phi, beta, betaH, contrast, sigma2}
+use Rattle.records.specs.CutoffTable.{builtInTable}
 use Rattle.records.specs.KenwardRogerCall.{adjusted, scaled, run, returned}
-use Rattle.records.proofs.CallLaws.{fileAdjustmentRefusal, number-is, returned-is}
+use Rattle.records.proofs.CallLaws.{fileAdjustmentRefusal, number-is}
+use Rattle.records.proofs.CutoffLaws.{built-in-returned}
 use Rattle.records.proofs.Examples.{one as oneBits, pulled}
 
 -- 9: "n = 2, one group, Z = 1, 1, theta 1e10"
@@ -152,20 +154,22 @@ ten-run =
     ∙ ap (λ (n : ℕ). runAt tenDesign (single plusZero) eight (six ∷ replicate 5 plusZero) (betaH tenFile) n (contrast tenFile) .refused) (says .tenRows)
     ∙ makes .tenRefused (betaH tenFile) (contrast tenFile)
 
-late : (c : Cutoffs) (s : List ℕ) (n : ℕ) → refusal 24 s ≡ 0 → cond (eqb (fileAdjustmentRefusal c s) 0) (cond (run c s .refused) 10 0) (fileAdjustmentRefusal c s) ≡ n → returned 24 c s (replicate 168 0) ≡ n
-late c s n h e = returned-is c s 24 (replicate 168 0) ∙ number-is c s 24 ∙ rw h e
+late : (s : List ℕ) (n : ℕ) → refusal 24 s ≡ 0
+    → cond (eqb (fileAdjustmentRefusal documentCutoffs s) 0) (cond (run documentCutoffs s .refused) 10 0) (fileAdjustmentRefusal documentCutoffs s) ≡ n
+    → returned 24 builtInTable s (replicate 168 0) ≡ n
+late s n h e = built-in-returned 24 s (replicate 168 0) ∙ number-is documentCutoffs s 24 ∙ rw h e
 
 pub record Refused : Type 0 where
   -- 1, "100 answer bytes": whatever the file is
-  pub short : (s : List ℕ) → returned 24 documentCutoffs s (replicate 100 0) ≡ 1
+  pub short : (s : List ℕ) → returned 24 builtInTable s (replicate 100 0) ≡ 1
   -- 9, "n = 2, one group, Z = 1, 1, theta 1e10"
-  pub notDefinite : returned 24 documentCutoffs nineFile (replicate 168 0) ≡ 9
+  pub notDefinite : returned 24 builtInTable nineFile (replicate 168 0) ≡ 9
   -- 10, "p = 1, Φ = 0"
-  pub zeroPivot : returned 24 documentCutoffs tenFile (replicate 168 0) ≡ 10
+  pub zeroPivot : returned 24 builtInTable tenFile (replicate 168 0) ≡ 10
 
 pub refused-calls : Refused
 refused-calls = record {
-  short = λ s. returned-is documentCutoffs s 24 (replicate 100 0);
-  notDefinite = late documentCutoffs nineFile 9 (says .nineTaken) (rw nine-adjustment);
-  zeroPivot = late documentCutoffs tenFile 10 (says .tenTaken) (rw (ten-adjustment, ten-run));
+  short = λ s. built-in-returned 24 s (replicate 100 0);
+  notDefinite = late nineFile 9 (says .nineTaken) (rw nine-adjustment);
+  zeroPivot = late tenFile 10 (says .tenTaken) (rw (ten-adjustment, ten-run));
 }

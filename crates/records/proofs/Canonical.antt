@@ -127,7 +127,7 @@ module _ (s : List ℕ) (bytes : (i : ℕ) → byte s i < 256) where
       ap (bytesOf 8) e ∙ bytes-little 8 (λ o. byte s (a + o)) (λ o. bytes (a + o))
 
   -- so the record of a record's own fields has its bytes
-  record-back : (i o : ℕ) → paddingOf s i ≡ 0 → o < 16 → byte (recordOf (kindOf s i) (rowOf s i) (columnOf s i) (countOf s i) (bitsOf s i)) o ≡ byte s (16 * i + o)
+  pub record-back : (i o : ℕ) → paddingOf s i ≡ 0 → o < 16 → byte (recordOf (kindOf s i) (rowOf s i) (columnOf s i) (countOf s i) (bitsOf s i)) o ≡ byte s (16 * i + o)
   unfolding listed
   record-back i o p l = ap (λ (b : List ℕ). byte b o) whole ∙ byte-listed 16 (λ o. byte s (16 * i + o)) o l
     where

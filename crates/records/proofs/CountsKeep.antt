@@ -26,6 +26,7 @@ use Rattle.records.specs.Layout.{answerBytes}
 use Rattle.records.specs.Text.{textOf}
 use Rattle.records.specs.Shortened.{allTorn, shortened}
 use Rattle.records.specs.Series.{blockCount, kinds, sigma2, blockOf, asSent, parameterCount, miscounted, badSize, blockReasons, sizeReasons, valueReasons, reasons, refusal, design, phi}
+use Rattle.records.specs.CutoffTable.{badTable, tableReasons, cutoffsIn}
 use Rattle.records.specs.KenwardRogerCall.{adjusted, scaled, run, testReasons, allReasons, number, entries, returnedReasons, returned, written}
 use Rattle.records.specs.ArchiveCall.{seriesArchive, seriesReasons, archivingReasons, archivingRefusal, archivingReturned, archivingWritten}
 use Rattle.records.specs.CountsKeep.{blockBits, bareReasons, bareList, bareReturned, bareWritten, bareText, bareArchiving, bareArchivingReturned, bareArchivingWritten, withCounts, uncountable, Countable, CountsKeep}
@@ -146,31 +147,36 @@ module _ (s : List ℕ) (h : Countable s) where
       unfolding number allReasons bareList testReasons
       number-same = rw (design-same, phi-same, variance, run-same) (first-same w (adjustmentReasons c (design s) (phi s) (sigma2 s) ++ testReasons c s))
 
-      returned-same : (answer : List ℕ) → returned w c s' answer ≡ bareReturned w c s answer
-      unfolding returned returnedReasons bareReturned number first
-      returned-same answer = ap (λ (n : ℕ). cond (not (eqb (length answer) 168)) 1 n) number-same
-
-      written-same : (answer : List ℕ) → written w c s' answer ≡ bareWritten w c s answer
-      unfolding written entries bareWritten
-      written-same answer =
-          rw (← returned-same answer, returned-is c s' w answer, run-same)
-          (filled-once-accepted (eqb (length answer) 168) (number w c s') (run c s .entries) (replicate 7 noEntry) answerBytes answer)
-
       text-same : textOf (number w c s') (entries w c s') ≡ bareText w c s
       unfolding entries bareText
       text-same = rw (← number-same, run-same) (told-once-accepted (number w c s') (run c s .entries) (replicate 7 noEntry))
 
-      archiving-same : (lent : List ℕ) → archivingRefusal w c s' lent ≡ bareArchiving w c s lent
-      unfolding archivingRefusal archivingReasons seriesReasons bareArchiving first
-      archiving-same lent = ap (λ (n : ℕ). cond (not (eqb (length lent) 7184)) 1 n) (rw (design-same, phi-same, variance) (first-same w (adjustmentReasons c (design s) (phi s) (sigma2 s))))
+  -- with an accepted table: what the calls return, and the lent bytes
+  module _ (lab : List ℕ) (ok : badTable lab ≡ false) (w : ℕ) where
+    abbrev own : Cutoffs
+    own = cutoffsIn lab
 
-      archiving-returned-same : (lent : List ℕ) → archivingReturned w c s' lent ≡ bareArchivingReturned w c s lent
-      unfolding archivingReturned bareArchivingReturned
-      archiving-returned-same lent = rw (archiving-same lent, archive-same)
+    returned-same : (answer : List ℕ) → returned w lab s' answer ≡ bareReturned w own s answer
+    unfolding returned returnedReasons tableReasons bareReturned number first
+    returned-same answer = rw ok (ap (λ (n : ℕ). cond (not (eqb (length answer) 168)) 1 n) (number-same own w))
 
-      archiving-written-same : (lent : List ℕ) → archivingWritten w c s' lent ≡ bareArchivingWritten w c s lent
-      unfolding archivingWritten bareArchivingWritten
-      archiving-written-same lent = rw (archiving-same lent, archive-same)
+    written-same : (answer : List ℕ) → written w lab s' answer ≡ bareWritten w own s answer
+    unfolding written entries bareWritten
+    written-same answer =
+        rw (← returned-same answer, returned-is lab s' w answer, ok, run-same own)
+        (filled-once-accepted (eqb (length answer) 168) (number w own s') (run own s .entries) (replicate 7 noEntry) answerBytes answer)
+
+    archiving-same : (lent : List ℕ) → archivingRefusal w lab s' lent ≡ bareArchiving w own s lent
+    unfolding archivingRefusal archivingReasons tableReasons seriesReasons bareArchiving first
+    archiving-same lent = rw ok (ap (λ (n : ℕ). cond (not (eqb (length lent) 7184)) 1 n) (rw (design-same, phi-same, variance) (first-same w (adjustmentReasons own (design s) (phi s) (sigma2 s)))))
+
+    archiving-returned-same : (lent : List ℕ) → archivingReturned w lab s' lent ≡ bareArchivingReturned w own s lent
+    unfolding archivingReturned bareArchivingReturned
+    archiving-returned-same lent = rw (archiving-same lent, archive-same own)
+
+    archiving-written-same : (lent : List ℕ) → archivingWritten w lab s' lent ≡ bareArchivingWritten w own s lent
+    unfolding archivingWritten bareArchivingWritten
+    archiving-written-same lent = rw (archiving-same lent, archive-same own)
 
 -- ---- what was accepted before
 -- the k of a block's record is the block's, where no cell is named twice
@@ -228,10 +234,10 @@ pub counts-keep : CountsKeep
 counts-keep = record {
   accepted = accepted-counts;
   countable = countable-accepted;
-  sameNumber = λ w c s answer h. returned-same s h c w answer;
-  sameBytes = λ w c s answer h. written-same s h c w answer;
+  sameNumber = λ w lab s answer ok h. returned-same s h lab ok w answer;
+  sameBytes = λ w lab s answer ok h. written-same s h lab ok w answer;
   sameText = λ w c s h. text-same s h c w;
-  sameArchive = λ w c s lent h. (archiving-returned-same s h c w lent, archiving-written-same s h c w lent);
+  sameArchive = λ w lab s lent ok h. (archiving-returned-same s h lab ok w lent, archiving-written-same s h lab ok w lent);
   noBlock = counts-none;
   neverRight = never-right;
 }

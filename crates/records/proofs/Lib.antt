@@ -17,6 +17,7 @@ pub mod SeriesInput
 pub mod AcceptedParameters
 pub mod CallLaws
 pub mod Precisely
+pub mod CutoffLaws
 pub mod SortedLaws
 pub mod TailLaws
 pub mod OwnTests
@@ -34,5 +35,7 @@ pub mod TakenAccepted
 pub mod TornKeeps
 pub mod CountLaws
 pub mod CountsKeep
+pub mod CutoffTableKeeps
 pub mod Examples
 pub mod CallExamples
+pub mod CutoffExamples

@@ -12,6 +12,7 @@ use Rattle.tests.specs.Answer.{noEntry}
 use Rattle.records.specs.File.{lengthReasons}
 use Rattle.records.specs.Order.{falls, orderReasons}
 use Rattle.records.specs.Layout.{answerBytes, entryBytes}
+use Rattle.records.specs.CutoffTable.{badTable, tableReasons, cutoffsIn}
 use Rattle.records.specs.Text.{linesText, refusalText, textOf}
 use Rattle.records.specs.Series.{anyOrderReasons, reasons}
 use Rattle.records.specs.Parameters.{anyOrderReasons as parametersInAnyOrder, reasons as parameterReasons}
@@ -45,32 +46,33 @@ module _ (w : ℕ) (c : Cutoffs) (s : List ℕ) (h : falls s ≡ false) where
   unfolding number allReasons reasons lengthReasons orderReasons anyOrderList anyOrderReasons first
   sorted-number = rw h
 
-  sorted-returned : (answer : List ℕ) → returned w c s answer ≡ anyOrderReturned w c s answer
-  unfolding returned returnedReasons allReasons reasons lengthReasons orderReasons anyOrderReturned anyOrderList anyOrderReasons first
-  sorted-returned answer = rw h
-
-  sorted-written : (answer : List ℕ) → written w c s answer ≡ anyOrderWritten w c s answer
-  unfolding written entries anyOrderWritten
-  sorted-written answer =
-      rw (← sorted-returned answer, returned-is c s w answer)
-      (filled-once-accepted (eqb (length answer) 168) (number w c s) (run c s .entries) (replicate 7 noEntry) answerBytes answer)
-
   sorted-text : textOf (number w c s) (entries w c s) ≡ anyOrderText w c s
   unfolding entries anyOrderText
   sorted-text = rw (← sorted-number) (told-once-accepted (number w c s) (run c s .entries) (replicate 7 noEntry))
 
--- ---- the Satterthwaite call
-module _ (c : Cutoffs) (s answer : List ℕ) (h : falls s ≡ false) where
-  sorted-test-returned : satterthwaiteReturned c s answer ≡ satterthwaiteInAnyOrder c s answer
-  unfolding satterthwaiteReturned satterthwaiteReturnedReasons satterthwaiteReasons parameterReasons lengthReasons orderReasons satterthwaiteInAnyOrder parametersInAnyOrder first
-  sorted-test-returned = rw h
+module _ (w : ℕ) (lab s : List ℕ) (ok : badTable lab ≡ false) (h : falls s ≡ false) where
+  sorted-returned : (answer : List ℕ) → returned w lab s answer ≡ anyOrderReturned w (cutoffsIn lab) s answer
+  unfolding returned returnedReasons tableReasons allReasons reasons lengthReasons orderReasons anyOrderReturned anyOrderList anyOrderReasons first
+  sorted-returned answer = rw (ok, h)
 
-  sorted-test-written : satterthwaiteWritten c s answer ≡ satterthwaiteWrittenInAnyOrder c s answer
+  sorted-written : (answer : List ℕ) → written w lab s answer ≡ anyOrderWritten w (cutoffsIn lab) s answer
+  unfolding written entries anyOrderWritten
+  sorted-written answer =
+      rw (← sorted-returned answer, returned-is lab s w answer, ok)
+      (filled-once-accepted (eqb (length answer) 168) (number w (cutoffsIn lab) s) (run (cutoffsIn lab) s .entries) (replicate 7 noEntry) answerBytes answer)
+
+-- ---- the Satterthwaite call
+module _ (lab s answer : List ℕ) (ok : badTable lab ≡ false) (h : falls s ≡ false) where
+  sorted-test-returned : satterthwaiteReturned lab s answer ≡ satterthwaiteInAnyOrder (cutoffsIn lab) s answer
+  unfolding satterthwaiteReturned satterthwaiteReturnedReasons tableReasons satterthwaiteReasons parameterReasons lengthReasons orderReasons satterthwaiteInAnyOrder parametersInAnyOrder first
+  sorted-test-returned = rw (ok, h)
+
+  sorted-test-written : satterthwaiteWritten lab s answer ≡ satterthwaiteWrittenInAnyOrder (cutoffsIn lab) s answer
   unfolding satterthwaiteWritten entry satterthwaiteWrittenInAnyOrder
   sorted-test-written =
-      rw (← sorted-test-returned, satterthwaite-returned-is c s answer)
-      (filled-once-accepted (eqb (length answer) 24) (satterthwaiteNumber c s) (outcome c s .entry) noEntry entryBytes answer)
+      rw (← sorted-test-returned, satterthwaite-returned-is lab s answer, ok)
+      (filled-once-accepted (eqb (length answer) 24) (satterthwaiteNumber (cutoffsIn lab) s) (outcome (cutoffsIn lab) s .entry) noEntry entryBytes answer)
 
 -- A SORTED FILE KEEPS ITS ANSWERS
 pub sorted-keeps : SortedKeeps
-sorted-keeps = record { sameNumber = λ w c s answer h. sorted-returned w c s h answer; sameBytes = λ w c s answer h. sorted-written w c s h answer; sameText = sorted-text; sameTestNumber = sorted-test-returned; sameTestBytes = sorted-test-written }
+sorted-keeps = record { sameNumber = λ w lab s answer ok h. sorted-returned w lab s ok h answer; sameBytes = λ w lab s answer ok h. sorted-written w lab s ok h answer; sameText = sorted-text; sameTestNumber = sorted-test-returned; sameTestBytes = sorted-test-written }

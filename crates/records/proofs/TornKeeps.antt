@@ -3,7 +3,7 @@
 use Prim.Native.Nat.{ℕ, _<_}
 use mathlib.Core.Path.{_≡_, refl, ap, sym, _∙_}
 use mathlib.Core.Bool.{Bool, true, false, not, cond}
-use mathlib.Core.List.{List}
+use mathlib.Core.List.{List, _++_}
 use native.Mathlib.Omega.{arith}
 use lib.Dec.{eqb}
 use lib.ListN.{length}
@@ -23,6 +23,7 @@ use Rattle.records.specs.Order.{orderReasons}
 use Rattle.records.specs.Shortened.{torn, shortened}
 use Rattle.records.specs.Series.{specimens, coefficients, zColumns, cellValue, asSent, blockReasons, sizeReasons, valueReasons, reasons, refusal, design, phi, sigma2, beta, betaH, contrast}
 use Rattle.records.specs.Layout.{answerBytes}
+use Rattle.records.specs.CutoffTable.{badTable, tableReasons, cutoffsIn}
 use Rattle.records.specs.Text.{textOf}
 use Rattle.records.specs.KenwardRogerCall.{adjusted, scaled, run, testReasons, allReasons, number, entries, returnedReasons, returned, written}
 use Rattle.records.specs.ArchiveCall.{seriesArchive, seriesReasons, seriesRefusal, archivingReasons, archivingRefusal, archivingReturned, archivingWritten}
@@ -31,35 +32,40 @@ use Rattle.records.proofs.ScanLaws.{any-none, none-any}
 use Rattle.records.proofs.KeptLaws.{kept-all}
 use Rattle.records.proofs.ShortLaws.{row-ext, short-x, short-z, short-weights, none-torn}
 use Rattle.records.proofs.AcceptedSeries.{AcceptedSeries, accepted-series}
-use Rattle.records.proofs.CallLaws.{first-next, number-is, returned-is}
+use Rattle.records.proofs.CallLaws.{first-next, number-is, returned-is, past-table}
 use Rattle.records.proofs.TakenFields.{taken-none}
 use Rattle.records.proofs.TakenOut.{specimensLeft, sentSpecimen, other-stays, specimen-stays, specimen-below, specimen-taken}
 use Rattle.records.proofs.TakenSizes.{specimens-taken, coefficients-taken, rows-taken, present-taken, zColumns-taken}
 use Rattle.records.proofs.TakenAccepted.{blocks-taken, cells-taken, sigma2-taken, torn-taken, refusal-taken}
 
 -- ---- "The answer equals the definition's on the shortened series"
-module _ (w : ℕ) (c : Cutoffs) (s answer : List ℕ) where
-  -- the run of a file's series is the definition's, and so is the number that is returned
-  short-run : run c s ≡ designRun c (shortened (asSent s)) s
-  unfolding run scaled adjusted design designRun shortened asSent
-  short-run = refl
+-- the run of a file's series is the definition's
+short-run : (c : Cutoffs) (s : List ℕ) → run c s ≡ designRun c (shortened (asSent s)) s
+unfolding run scaled adjusted design designRun shortened asSent
+short-run c s = refl
 
-  short-returned : returned w c s answer ≡ designReturned w c (shortened (asSent s)) s answer
+module _ (w : ℕ) (lab s answer : List ℕ) where
+  -- and so is the number that is returned
+  short-returned : returned w lab s answer ≡ designReturned w lab (shortened (asSent s)) s answer
   unfolding returned returnedReasons allReasons testReasons design designReturned designReasons
-  short-returned = rw short-run
+  short-returned = rw (short-run (cutoffsIn lab) s)
 
   -- a call that returns 0 has the entries of the run
-  answered-entries : returned w c s answer ≡ 0 → entries w c s ≡ run c s .entries
+  answered-entries : returned w lab s answer ≡ 0 → entries w (cutoffsIn lab) s ≡ run (cutoffsIn lab) s .entries
   unfolding returned returnedReasons number entries
-  answered-entries e = let q = passed 1 (not (eqb (length answer) 168)) (allReasons w c s) refl e .1 in rw q
+  answered-entries e =
+      let l = allReasons w (cutoffsIn lab) s in
+      let q = past-table lab l (passed 1 (not (eqb (length answer) 168)) (tableReasons lab ++ l) refl e .1) .1 in
+      rw q
 
   -- so the lent bytes are the definition's
-  short-written : written w c s answer ≡ designWritten w c (shortened (asSent s)) s answer
+  short-written : written w lab s answer ≡ designWritten w lab (shortened (asSent s)) s answer
   unfolding written designWritten
-  short-written = rw (← short-returned) (go (eqb (returned w c s answer) 0) refl)
+  short-written = rw (← short-returned) (go (eqb (returned w lab s answer) 0) refl)
     where
-      go : (b : Bool) → eqb (returned w c s answer) 0 ≡ b → cond b (answerBytes (entries w c s)) answer ≡ cond b (answerBytes (designRun c (shortened (asSent s)) s .entries)) answer
-      go true e = ap answerBytes (answered-entries (eqb-true (returned w c s answer) 0 e) ∙ ap (λ (r : Run). r .entries) short-run)
+      go : (b : Bool) → eqb (returned w lab s answer) 0 ≡ b
+          → cond b (answerBytes (entries w (cutoffsIn lab) s)) answer ≡ cond b (answerBytes (designRun (cutoffsIn lab) (shortened (asSent s)) s .entries)) answer
+      go true e = ap answerBytes (answered-entries (eqb-true (returned w lab s answer) 0 e) ∙ ap (λ (r : Run). r .entries) (short-run (cutoffsIn lab) s))
       go false e = refl
 
 -- ---- the series of the file without its torn specimens is the shortened one
@@ -135,7 +141,7 @@ module _ (w : ℕ) (s : List ℕ) (e : refusal w s ≡ 0) (noneLost : any (count
   unfolding contrast ofSpecimen
   contrast-taken = rw (rows-taken s 9 refl, coefficients-taken w s a, cells-taken w s a 9 refl)
 
-  -- ---- so the answers are the same: the number, the entries, the lent bytes and the text
+  -- ---- so the answers are the same: the number, the entries and the text
   module _ (c : Cutoffs) where
     run-taken : run c (withoutTorn s) ≡ run c s
     unfolding run scaled adjusted ofSpecimen
@@ -147,13 +153,6 @@ module _ (w : ℕ) (s : List ℕ) (e : refusal w s ≡ 0) (noneLost : any (count
     entries-taken : entries w c (withoutTorn s) ≡ entries w c s
     unfolding entries
     entries-taken = rw (number-taken, run-taken)
-
-    returned-taken : (answer : List ℕ) → returned w c (withoutTorn s) answer ≡ returned w c s answer
-    returned-taken answer = returned-is c (withoutTorn s) w answer ∙ rw number-taken (sym (returned-is c s w answer))
-
-    written-taken : (answer : List ℕ) → written w c (withoutTorn s) answer ≡ written w c s answer
-    unfolding written
-    written-taken answer = rw (returned-taken answer, entries-taken)
 
     text-taken : textOf (number w c (withoutTorn s)) (entries w c (withoutTorn s)) ≡ textOf (number w c s) (entries w c s)
     text-taken = rw (number-taken, entries-taken)
@@ -169,17 +168,29 @@ module _ (w : ℕ) (s : List ℕ) (e : refusal w s ≡ 0) (noneLost : any (count
         first-next (reasons w (withoutTorn s)) (adjustmentReasons c (design (withoutTorn s)) (phi (withoutTorn s)) (sigma2 (withoutTorn s))) refl (refusal-taken w s a noneLost)
         ∙ rw (design-taken, phi-taken, sigma2-taken w s a) (sym (first-next (reasons w s) (adjustmentReasons c (design s) (phi s) (sigma2 s)) refl e))
 
-    archiving-refusal-taken : (lent : List ℕ) → archivingRefusal w c (withoutTorn s) lent ≡ archivingRefusal w c s lent
-    unfolding archivingRefusal archivingReasons seriesRefusal first
-    archiving-refusal-taken lent = ap (λ (n : ℕ). cond (not (eqb (length lent) 7184)) 1 n) series-refusal-taken
+  -- with a table: what the calls return, and the lent bytes
+  module _ (lab : List ℕ) where
+    abbrev own : Cutoffs
+    own = cutoffsIn lab
 
-    archiving-returned-taken : (lent : List ℕ) → archivingReturned w c (withoutTorn s) lent ≡ archivingReturned w c s lent
+    returned-taken : (answer : List ℕ) → returned w lab (withoutTorn s) answer ≡ returned w lab s answer
+    returned-taken answer = returned-is lab (withoutTorn s) w answer ∙ rw (number-taken own) (sym (returned-is lab s w answer))
+
+    written-taken : (answer : List ℕ) → written w lab (withoutTorn s) answer ≡ written w lab s answer
+    unfolding written
+    written-taken answer = rw (returned-taken answer, entries-taken own)
+
+    archiving-refusal-taken : (lent : List ℕ) → archivingRefusal w lab (withoutTorn s) lent ≡ archivingRefusal w lab s lent
+    unfolding archivingRefusal archivingReasons tableReasons seriesRefusal first
+    archiving-refusal-taken lent = ap (λ (n : ℕ). cond (not (eqb (length lent) 7184)) 1 (cond (badTable lab) 14 n)) (series-refusal-taken own)
+
+    archiving-returned-taken : (lent : List ℕ) → archivingReturned w lab (withoutTorn s) lent ≡ archivingReturned w lab s lent
     unfolding archivingReturned
-    archiving-returned-taken lent = rw (archiving-refusal-taken lent, archive-taken)
+    archiving-returned-taken lent = rw (archiving-refusal-taken lent, archive-taken own)
 
-    archiving-written-taken : (lent : List ℕ) → archivingWritten w c (withoutTorn s) lent ≡ archivingWritten w c s lent
+    archiving-written-taken : (lent : List ℕ) → archivingWritten w lab (withoutTorn s) lent ≡ archivingWritten w lab s lent
     unfolding archivingWritten
-    archiving-written-taken lent = rw (archiving-refusal-taken lent, archive-taken)
+    archiving-written-taken lent = rw (archiving-refusal-taken lent, archive-taken own)
 
 -- ---- where no specimen is torn no record is taken out, and none gets another number
 whole-file : (w : ℕ) (s : List ℕ) → AcceptedSeries w s → any (specimens s) (torn (asSent s)) ≡ false → withoutTorn s ≡ s
@@ -202,9 +213,9 @@ torn-keeps =
       noneTorn = none-torn;
       shortNumber = short-returned;
       shortBytes = short-written;
-      takenNumber = λ w c s answer e noneLost. returned-taken w s e noneLost c answer;
-      takenBytes = λ w c s answer e noneLost. written-taken w s e noneLost c answer;
+      takenNumber = λ w lab s answer e noneLost. returned-taken w s e noneLost lab answer;
+      takenBytes = λ w lab s answer e noneLost. written-taken w s e noneLost lab answer;
       takenText = λ w c s e noneLost. text-taken w s e noneLost c;
-      takenArchive = λ w c s lent e noneLost. (archiving-returned-taken w s e noneLost c lent, archiving-written-taken w s e noneLost c lent);
+      takenArchive = λ w lab s lent e noneLost. (archiving-returned-taken w s e noneLost lab lent, archiving-written-taken w s e noneLost lab lent);
       takenNone = λ w s e none. whole-file w s (accepted-series w s e) none;
     }

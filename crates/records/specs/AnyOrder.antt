@@ -10,6 +10,7 @@ use Rattle.algebra.specs.Reasons.{first}
 use Rattle.adjustment.specs.Adjusted.{adjustmentReasons}
 use Rattle.records.specs.Order.{falls}
 use Rattle.records.specs.Layout.{answerBytes, entryBytes}
+use Rattle.records.specs.CutoffTable.{badTable, cutoffsIn}
 use Rattle.records.specs.Text.{textOf}
 use Rattle.records.specs.Series.{design, phi, sigma2, anyOrderReasons}
 use Rattle.records.specs.Parameters.{anyOrderReasons as parametersInAnyOrder}
@@ -42,10 +43,10 @@ module _ (c : Cutoffs) (s answer : List ℕ) where
   unfoldable pub satterthwaiteWrittenInAnyOrder : List ℕ
   satterthwaiteWrittenInAnyOrder = cond (eqb satterthwaiteInAnyOrder 0) (entryBytes (outcome c s .entry)) answer
 
--- A SORTED FILE KEEPS ITS ANSWERS: for every limit of specimens, cutoffs, file that rises and lent bytes, what is returned, what the lent bytes then hold, and the program's text
+-- A SORTED FILE KEEPS ITS ANSWERS: for every limit of specimens, accepted table, file that rises and lent bytes, what is returned, what the lent bytes then hold, and the program's text
 pub record SortedKeeps : Type 0 where
-  pub sameNumber : (w : ℕ) (c : Cutoffs) (s answer : List ℕ) → falls s ≡ false → returned w c s answer ≡ anyOrderReturned w c s answer
-  pub sameBytes : (w : ℕ) (c : Cutoffs) (s answer : List ℕ) → falls s ≡ false → written w c s answer ≡ anyOrderWritten w c s answer
+  pub sameNumber : (w : ℕ) (lab s answer : List ℕ) → badTable lab ≡ false → falls s ≡ false → returned w lab s answer ≡ anyOrderReturned w (cutoffsIn lab) s answer
+  pub sameBytes : (w : ℕ) (lab s answer : List ℕ) → badTable lab ≡ false → falls s ≡ false → written w lab s answer ≡ anyOrderWritten w (cutoffsIn lab) s answer
   pub sameText : (w : ℕ) (c : Cutoffs) (s : List ℕ) → falls s ≡ false → textOf (number w c s) (entries w c s) ≡ anyOrderText w c s
-  pub sameTestNumber : (c : Cutoffs) (s answer : List ℕ) → falls s ≡ false → satterthwaiteReturned c s answer ≡ satterthwaiteInAnyOrder c s answer
-  pub sameTestBytes : (c : Cutoffs) (s answer : List ℕ) → falls s ≡ false → satterthwaiteWritten c s answer ≡ satterthwaiteWrittenInAnyOrder c s answer
+  pub sameTestNumber : (lab s answer : List ℕ) → badTable lab ≡ false → falls s ≡ false → satterthwaiteReturned lab s answer ≡ satterthwaiteInAnyOrder (cutoffsIn lab) s answer
+  pub sameTestBytes : (lab s answer : List ℕ) → badTable lab ≡ false → falls s ≡ false → satterthwaiteWritten lab s answer ≡ satterthwaiteWrittenInAnyOrder (cutoffsIn lab) s answer

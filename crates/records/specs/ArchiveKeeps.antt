@@ -1,10 +1,11 @@
--- Document 02, "Req 02": what is promised of an archive, on the bytes of files, for every limit of specimens, cutoffs and lent bytes.
+-- Document 02, "Req 02": what is promised of an archive, on the bytes of files, for every limit of specimens, table and lent bytes.
 use Prim.Native.Nat.{ℕ, _%_, _<_, _≤_}
 use mathlib.Core.Path.{_≡_}
 use mathlib.Core.List.{List}
 use Rattle.arithmetic_cutoffs.specs.declared.Cutoffs.{Cutoffs}
 use Rattle.records.specs.Bytes.{byte}
 use Rattle.records.specs.Kinds.{kindAt, width, archiveKinds}
+use Rattle.records.specs.CutoffTable.{cutoffsIn}
 use Rattle.records.specs.KenwardRogerCall.{returned, written}
 use Rattle.records.specs.Archive.{Archive, sizesAt, archived, archiveBytes, archiveOf, refusal, cellValue}
 use Rattle.records.specs.SecondFile.{ownTests}
@@ -27,13 +28,13 @@ pub record ArchiveKeeps : Type 0 where
   pub readBack : (w : ℕ) (c : Cutoffs) (s : List ℕ) → seriesRefusal w c s ≡ 0 → ReadsBack (seriesArchive c s)
   -- "any accepted file writes back to the same bytes"
   pub writtenBack : (s : List ℕ) → ((i : ℕ) → byte s i < 256) → refusal s ≡ 0 → archiveBytes (archiveOf s) ≡ s
-  -- "A test from the archive, with the series' kinds 8 to 10 lent as a second file .., gives the direct run's answer, mark included": the number that is returned, and the lent bytes
-  pub sameNumber : (w : ℕ) (c : Cutoffs) (s answer : List ℕ) → seriesRefusal w c s ≡ 0 → testingReturned c (archiveBytes (seriesArchive c s)) (ownTests s) answer ≡ returned w c s answer
-  pub sameBytes : (w : ℕ) (c : Cutoffs) (s answer : List ℕ) → seriesRefusal w c s ≡ 0 → testingWritten c (archiveBytes (seriesArchive c s)) (ownTests s) answer ≡ written w c s answer
+  -- "A test from the archive, with the series' kinds 8 to 10 lent as a second file .., gives the direct run's answer, mark included": the number that is returned, and the lent bytes; "Req 06": with one table on both sides
+  pub sameNumber : (w : ℕ) (lab s answer : List ℕ) → seriesRefusal w (cutoffsIn lab) s ≡ 0 → testingReturned lab (archiveBytes (seriesArchive (cutoffsIn lab) s)) (ownTests s) answer ≡ returned w lab s answer
+  pub sameBytes : (w : ℕ) (lab s answer : List ℕ) → seriesRefusal w (cutoffsIn lab) s ≡ 0 → testingWritten lab (archiveBytes (seriesArchive (cutoffsIn lab) s)) (ownTests s) answer ≡ written w lab s answer
   -- the writer "fills them from the front, keeps the rest": the file's bytes below the length that it returns, and from there on what was lent
-  pub front : (w : ℕ) (c : Cutoffs) (s lent : List ℕ) → archivingRefusal w c s lent ≡ 0 → (i : ℕ) → i < archivingReturned w c s lent → byte (archivingWritten w c s lent) i ≡ byte (archiveBytes (seriesArchive c s)) i
-  pub rest : (w : ℕ) (c : Cutoffs) (s lent : List ℕ) → archivingRefusal w c s lent ≡ 0 → (i : ℕ) → archivingReturned w c s lent ≤ i → byte (archivingWritten w c s lent) i ≡ byte lent i
+  pub front : (w : ℕ) (lab s lent : List ℕ) → archivingRefusal w lab s lent ≡ 0 → (i : ℕ) → i < archivingReturned w lab s lent → byte (archivingWritten w lab s lent) i ≡ byte (archiveBytes (seriesArchive (cutoffsIn lab) s)) i
+  pub rest : (w : ℕ) (lab s lent : List ℕ) → archivingRefusal w lab s lent ≡ 0 → (i : ℕ) → archivingReturned w lab s lent ≤ i → byte (archivingWritten w lab s lent) i ≡ byte lent i
   -- what it "returns": a length is at least 128 and a multiple of 16, within the lent bytes; no refusal's number is so large
-  pub lengths : (w : ℕ) (c : Cutoffs) (s lent : List ℕ) → archivingRefusal w c s lent ≡ 0
-      → (128 ≤ archivingReturned w c s lent) × (archivingReturned w c s lent % 16 ≡ 0) × (archivingReturned w c s lent ≤ 7184)
-  pub numbers : (w : ℕ) (c : Cutoffs) (s lent : List ℕ) → (archivingRefusal w c s lent ≡ 0 → ⊥) → archivingReturned w c s lent < 128
+  pub lengths : (w : ℕ) (lab s lent : List ℕ) → archivingRefusal w lab s lent ≡ 0
+      → (128 ≤ archivingReturned w lab s lent) × (archivingReturned w lab s lent % 16 ≡ 0) × (archivingReturned w lab s lent ≤ 7184)
+  pub numbers : (w : ℕ) (lab s lent : List ℕ) → (archivingRefusal w lab s lent ≡ 0 → ⊥) → archivingReturned w lab s lent < 128

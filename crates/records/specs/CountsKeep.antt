@@ -1,4 +1,4 @@
--- Document 02, "Req 04": what is promised of blocks that hold their parameter count, on the bytes of files, for every limit of specimens, cutoffs and lent bytes.
+-- Document 02, "Req 04": what is promised of blocks that hold their parameter count, on the bytes of files, for every limit of specimens, accepted table and lent bytes.
 use Prim.Native.Nat.{ℕ, _%_, _<_, _≤_}
 use mathlib.Core.Path.{_≡_}
 use mathlib.Core.Bool.{Bool, true, false, not, _&&_, _||_, cond}
@@ -16,6 +16,7 @@ use Rattle.records.specs.File.{count, kindOf, columnOf, bitsOf, lengthRe
 use Rattle.records.specs.Order.{orderReasons}
 use Rattle.records.specs.Written.{sequence, recordAt}
 use Rattle.records.specs.Layout.{answerBytes}
+use Rattle.records.specs.CutoffTable.{badTable, cutoffsIn}
 use Rattle.records.specs.Text.{textOf}
 use Rattle.records.specs.Series.{kinds, parameterCount, miscounted, sizeReasons, valueReasons, refusal, design, phi, sigma2}
 use Rattle.records.specs.KenwardRogerCall.{run, testReasons, number, entries, returned, written}
@@ -76,11 +77,11 @@ pub record CountsKeep : Type 0 where
   pub accepted : (w : ℕ) (s : List ℕ) → first (bareReasons w s) ≡ 0 → refusal w (withCounts s) ≡ 0
   -- with the same answer; so it is for every file whose blocks' counts can be written, and a refused one keeps its number: what is returned, the lent bytes, the program's text, and the archive
   pub countable : (w : ℕ) (s : List ℕ) → first (bareReasons w s) ≡ 0 → Countable s
-  pub sameNumber : (w : ℕ) (c : Cutoffs) (s answer : List ℕ) → Countable s → returned w c (withCounts s) answer ≡ bareReturned w c s answer
-  pub sameBytes : (w : ℕ) (c : Cutoffs) (s answer : List ℕ) → Countable s → written w c (withCounts s) answer ≡ bareWritten w c s answer
+  pub sameNumber : (w : ℕ) (lab s answer : List ℕ) → badTable lab ≡ false → Countable s → returned w lab (withCounts s) answer ≡ bareReturned w (cutoffsIn lab) s answer
+  pub sameBytes : (w : ℕ) (lab s answer : List ℕ) → badTable lab ≡ false → Countable s → written w lab (withCounts s) answer ≡ bareWritten w (cutoffsIn lab) s answer
   pub sameText : (w : ℕ) (c : Cutoffs) (s : List ℕ) → Countable s → textOf (number w c (withCounts s)) (entries w c (withCounts s)) ≡ bareText w c s
-  pub sameArchive : (w : ℕ) (c : Cutoffs) (s lent : List ℕ) → Countable s
-      → (archivingReturned w c (withCounts s) lent ≡ bareArchivingReturned w c s lent) × (archivingWritten w c (withCounts s) lent ≡ bareArchivingWritten w c s lent)
+  pub sameArchive : (w : ℕ) (lab s lent : List ℕ) → badTable lab ≡ false → Countable s
+      → (archivingReturned w lab (withCounts s) lent ≡ bareArchivingReturned w (cutoffsIn lab) s lent) × (archivingWritten w lab (withCounts s) lent ≡ bareArchivingWritten w (cutoffsIn lab) s lent)
   -- a series without a block is the file itself
   pub noBlock : (s : List ℕ) → length s % 16 ≡ 0 → any (count s) (λ i. eqb (kindOf s i) 3) ≡ false → withCounts s ≡ s
   -- in a file of bytes no k from 23 on can be right

@@ -1,4 +1,4 @@
--- Document 01, "kenward_roger.rs": the whole Kenward–Roger call, from the limit of specimens, the cutoffs and the bytes of a file to its number, its entries and the lent bytes.
+-- Document 01, "kenward_roger.rs": the whole Kenward–Roger call, from the limit of specimens, the lab's table and the bytes of a file to its number, its entries and the lent bytes.
 use Prim.Native.Nat.{ℕ}
 use mathlib.Core.Bool.{Bool, not, cond}
 use mathlib.Core.List.{List, [], _∷_, _++_}
@@ -11,6 +11,7 @@ use Rattle.adjustment.specs.Adjusted.{Adjustment, adjustment, adjustmentReasons
 use Rattle.tests.specs.declared.Entry.{Entry}
 use Rattle.tests.specs.Answer.{noEntry}
 use Rattle.records.specs.Layout.{answerBytes}
+use Rattle.records.specs.CutoffTable.{tableReasons, cutoffsIn}
 use Rattle.tests.specs.KenwardRoger.{Scaled, scaledBy, Run, runOf}
 use Rattle.algebra.specs.Kind.{marks}
 use Rattle.algebra.specs.Reasons.{first}
@@ -33,7 +34,7 @@ module _ (c : Cutoffs) (s : List ℕ) where
   unfoldable pub testReasons : List (ℕ × Bool)
   testReasons = (10, run .refused) ∷ []
 
--- ---- the call, with the limit of specimens w
+-- ---- a file's answer, with the limit of specimens w and the cutoffs c
 module _ (w : ℕ) (c : Cutoffs) (s : List ℕ) where
   -- what refuses a file, in the documents' order: the reader's reasons, then the adjustment's 9, 10, 10 and 4, then the tests'
   unfoldable pub allReasons : List (ℕ × Bool)
@@ -55,13 +56,15 @@ module _ (w : ℕ) (c : Cutoffs) (s : List ℕ) where
   unfoldable pub specimensRun : ℕ
   specimensRun = cond (eqb number 0) (design s .n) 0
 
-  -- what refuses a call, and what it returns for the lent bytes: 1, "lent length is not the stated one", 168 bytes
+-- ---- the call, with a lab's table (document 02, "Req 06"); the call without one is this at the built-in table
+module _ (w : ℕ) (lab s : List ℕ) where
+  -- what refuses a call, and what it returns for the lent bytes: 1, "lent length is not the stated one", 168 bytes; 14, the table; then the file
   unfoldable pub returnedReasons : List ℕ → List (ℕ × Bool)
-  returnedReasons answer = (1, not (eqb (length answer) 168)) ∷ allReasons
+  returnedReasons answer = (1, not (eqb (length answer) 168)) ∷ (tableReasons lab ++ allReasons w (cutoffsIn lab) s)
 
   unfoldable pub returned : List ℕ → ℕ
   returned answer = first (returnedReasons answer)
 
   -- what the lent bytes hold then: "lent answer bytes keep their contents" where it refuses
   unfoldable pub written : List ℕ → List ℕ
-  written answer = cond (eqb (returned answer) 0) (answerBytes entries) answer
+  written answer = cond (eqb (returned answer) 0) (answerBytes (entries w (cutoffsIn lab) s)) answer

@@ -13,12 +13,14 @@ pub mod Parameters
 pub mod Archive
 pub mod SecondFile
 pub mod Layout
+pub mod CutoffTable
 pub mod KenwardRogerCall
 pub mod SatterthwaiteCall
 pub mod ArchiveCall
 pub mod ArchiveKeeps
 pub mod TornKeeps
 pub mod CountsKeep
+pub mod CutoffTableKeeps
 pub mod Text
 pub mod AnyOrder
 pub mod Bench

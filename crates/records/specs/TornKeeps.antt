@@ -1,4 +1,4 @@
--- Document 02, "Req 03": what is promised of series with torn specimens, on the bytes of files, for every limit of specimens, cutoffs and lent bytes.
+-- Document 02, "Req 03": what is promised of series with torn specimens, on the bytes of files, for every limit of specimens, table and lent bytes.
 use Prim.Native.Nat.{ℕ}
 use mathlib.Core.Path.{_≡_}
 use mathlib.Core.Bool.{Bool, false, not, _&&_, _||_, cond}
@@ -15,6 +15,7 @@ use Rattle.records.specs.Scan.{any}
 use Rattle.records.specs.File.{count, kindOf, rowOf, columnOf}
 use Rattle.records.specs.Written.{sequence, recordAt}
 use Rattle.records.specs.Layout.{answerBytes}
+use Rattle.records.specs.CutoffTable.{tableReasons, cutoffsIn}
 use Rattle.records.specs.Text.{textOf}
 use Rattle.records.specs.Shortened.{torn, keptBelow, shortened}
 use Rattle.records.specs.Series.{specimens, contrastRows, asSent, reasons, refusal, design, phi, sigma2, beta, betaH, contrast}
@@ -30,13 +31,13 @@ module _ (c : Cutoffs) (d : Design) (s : List ℕ) where
   unfoldable pub designReasons : List (ℕ × Bool)
   designReasons = adjustmentReasons c d (phi s) (sigma2 s) ++ ((10, designRun .refused) ∷ [])
 
--- what the call returns for the lent bytes and what they hold then, if the design is d: the reader's reasons are the file's own
-module _ (w : ℕ) (c : Cutoffs) (d : Design) (s answer : List ℕ) where
+-- what the call returns for the lent bytes and what they hold then, if the design is d: the table's reason is its own, and the reader's are the file's
+module _ (w : ℕ) (lab : List ℕ) (d : Design) (s answer : List ℕ) where
   unfoldable pub designReturned : ℕ
-  designReturned = first ((1, not (eqb (length answer) 168)) ∷ (reasons w s ++ designReasons c d s))
+  designReturned = first ((1, not (eqb (length answer) 168)) ∷ (tableReasons lab ++ (reasons w s ++ designReasons (cutoffsIn lab) d s)))
 
   unfoldable pub designWritten : List ℕ
-  designWritten = cond (eqb designReturned 0) (answerBytes (designRun c d s .entries)) answer
+  designWritten = cond (eqb designReturned 0) (answerBytes (designRun (cutoffsIn lab) d s .entries)) answer
 
 -- ---- the file with the torn rows' records taken out and the others numbered anew
 -- "1 X; 2 Z (absent is 0); .. 5 weight": the kinds of which a row is a specimen
@@ -67,14 +68,14 @@ pub record TornKeeps : Type 0 where
   -- a series without a zero weight has the design that it had
   pub noneTorn : (s : List ℕ) → any (specimens s) (torn (asSent s)) ≡ false → design s ≡ asSent s
   -- "The answer equals the definition's on the shortened series": the number that is returned, and the lent bytes
-  pub shortNumber : (w : ℕ) (c : Cutoffs) (s answer : List ℕ) → returned w c s answer ≡ designReturned w c (shortened (asSent s)) s answer
-  pub shortBytes : (w : ℕ) (c : Cutoffs) (s answer : List ℕ) → written w c s answer ≡ designWritten w c (shortened (asSent s)) s answer
+  pub shortNumber : (w : ℕ) (lab s answer : List ℕ) → returned w lab s answer ≡ designReturned w lab (shortened (asSent s)) s answer
+  pub shortBytes : (w : ℕ) (lab s answer : List ℕ) → written w lab s answer ≡ designWritten w lab (shortened (asSent s)) s answer
   -- and it is the answer of the file without the torn specimens, for every file that the reader accepts and of which no column of Z is lost: number, lent bytes, the program's text, and the archive
-  pub takenNumber : (w : ℕ) (c : Cutoffs) (s answer : List ℕ) → refusal w s ≡ 0 → any (count s) (columnLost s) ≡ false → returned w c (withoutTorn s) answer ≡ returned w c s answer
-  pub takenBytes : (w : ℕ) (c : Cutoffs) (s answer : List ℕ) → refusal w s ≡ 0 → any (count s) (columnLost s) ≡ false → written w c (withoutTorn s) answer ≡ written w c s answer
+  pub takenNumber : (w : ℕ) (lab s answer : List ℕ) → refusal w s ≡ 0 → any (count s) (columnLost s) ≡ false → returned w lab (withoutTorn s) answer ≡ returned w lab s answer
+  pub takenBytes : (w : ℕ) (lab s answer : List ℕ) → refusal w s ≡ 0 → any (count s) (columnLost s) ≡ false → written w lab (withoutTorn s) answer ≡ written w lab s answer
   pub takenText : (w : ℕ) (c : Cutoffs) (s : List ℕ) → refusal w s ≡ 0 → any (count s) (columnLost s) ≡ false
       → textOf (number w c (withoutTorn s)) (entries w c (withoutTorn s)) ≡ textOf (number w c s) (entries w c s)
-  pub takenArchive : (w : ℕ) (c : Cutoffs) (s lent : List ℕ) → refusal w s ≡ 0 → any (count s) (columnLost s) ≡ false
-      → (archivingReturned w c (withoutTorn s) lent ≡ archivingReturned w c s lent) × (archivingWritten w c (withoutTorn s) lent ≡ archivingWritten w c s lent)
+  pub takenArchive : (w : ℕ) (lab s lent : List ℕ) → refusal w s ≡ 0 → any (count s) (columnLost s) ≡ false
+      → (archivingReturned w lab (withoutTorn s) lent ≡ archivingReturned w lab s lent) × (archivingWritten w lab (withoutTorn s) lent ≡ archivingWritten w lab s lent)
   -- where no specimen is torn it is the file itself
   pub takenNone : (w : ℕ) (s : List ℕ) → refusal w s ≡ 0 → any (specimens s) (torn (asSent s)) ≡ false → withoutTorn s ≡ s

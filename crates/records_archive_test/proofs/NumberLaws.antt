@@ -6,7 +6,7 @@ use mathlib.Core.List.{List, _++_}
 use native.Mathlib.Omega.{arith}
 use lib.Dec.{eqb}
 use lib.ListN.{length, replicate}
-use borrow.Author.Tests.{eq-eqb, ne-eqb}
+use borrow.Author.Tests.{ne-eqb}
 use Rattle.arithmetic_cutoffs.specs.declared.Cutoffs.{Cutoffs}
 use Rattle.algebra.specs.Reasons.{first}
 use Rattle.algebra.proofs.ReasonLaws.{first-append}
@@ -16,10 +16,11 @@ use Rattle.tests.specs.Entries.{runRefusal, runEntries}
 use Rattle.records.specs.File.{lengthReasons, formReasons}
 use Rattle.records.specs.Order.{orderReasons}
 use Rattle.records.specs.Layout.{answerBytes}
+use Rattle.records.specs.CutoffTable.{badTable, cutoffsIn}
 use Rattle.records.specs.Archive as archive
 use Rattle.records.specs.SecondFile as second
 use Rattle.records.specs.ArchiveCall.{archiveRun, archiveTestReasons, fromArchiveReasons, fromArchiveNumber, fromArchiveEntries, testingReasons, testingReturned, testingWritten}
-use Rattle.records.proofs.CallLaws.{other-way}
+use Rattle.records.proofs.CallLaws.{other-length, other-table, own-answer}
 
 module _ (c : Cutoffs) (s t : List ℕ) where
   -- the second file's number, for the archive's coefficients
@@ -68,26 +69,18 @@ module _ (c : Cutoffs) (s t : List ℕ) where
       tests-answer true es fs k e f p q = let x = tests-number true e in (p ∙ sym (none-in-use 10 x (omega arith)), q ∙ sym x)
       tests-answer false es fs k e f p q = let x = tests-number false e in (p ∙ f ∙ rw x, q ∙ sym x)
 
-  -- ---- the lent bytes
-  testing-returned-is : (answer : List ℕ) → testingReturned c s t answer ≡ cond (eqb (length answer) 168) (fromArchiveNumber c s t) 1
-  unfolding testingReturned testingReasons fromArchiveNumber first
-  testing-returned-is answer = other-way (eqb (length answer) 168) 1 (first (fromArchiveReasons c s t))
+-- ---- the lent bytes: of another length; with another table; filled by the files' answer with the cutoffs c, which are those of an accepted table
+pub other-answer : (lab s t answer : List ℕ) → (length answer ≡ 168 → ⊥) → (1 ≡ testingReturned lab s t answer) × (answer ≡ testingWritten lab s t answer)
+unfolding testingReturned testingReasons testingWritten
+other-answer lab s t answer h = other-length 168 answer lab (fromArchiveReasons (cutoffsIn lab) s t) (answerBytes (fromArchiveEntries (cutoffsIn lab) s t)) h
 
-  -- of another length; refused; filled
-  pub testing-other-length : (answer : List ℕ) → (length answer ≡ 168 → ⊥) → (1 ≡ testingReturned c s t answer) × (answer ≡ testingWritten c s t answer)
-  unfolding testingWritten
-  testing-other-length answer h =
-      let e : testingReturned c s t answer ≡ 1 = testing-returned-is answer ∙ rw (ne-eqb (length answer) 168 h) in
-      (sym e, rw e)
+pub refused-table : (lab s t answer : List ℕ) → length answer ≡ 168 → badTable lab ≡ true → (14 ≡ testingReturned lab s t answer) × (answer ≡ testingWritten lab s t answer)
+unfolding testingReturned testingReasons testingWritten
+refused-table lab s t answer l bad = other-table 168 answer lab (fromArchiveReasons (cutoffsIn lab) s t) (answerBytes (fromArchiveEntries (cutoffsIn lab) s t)) l bad
 
-  module _ (answer : List ℕ) (l : length answer ≡ 168) (k : ℕ) (e : k ≡ fromArchiveNumber c s t) where
-    own-number : testingReturned c s t answer ≡ k
-    own-number = testing-returned-is answer ∙ rw (eq-eqb (length answer) 168 l) (sym e)
-
-    pub testing-refused : (k ≡ 0 → ⊥) → (k ≡ testingReturned c s t answer) × (answer ≡ testingWritten c s t answer)
-    unfolding testingWritten
-    testing-refused h = (sym own-number, rw (own-number, ne-eqb k 0 h))
-
-    pub testing-filled : k ≡ 0 → (es : List Entry) → es ≡ fromArchiveEntries c s t → (bytes : List ℕ) → bytes ≡ answerBytes es → (0 ≡ testingReturned c s t answer) × (bytes ≡ testingWritten c s t answer)
-    unfolding testingWritten
-    testing-filled z es f bytes b = let x = own-number ∙ z in (sym x, b ∙ ap answerBytes f ∙ rw x)
+pub own-call : (lab s t answer : List ℕ) → length answer ≡ 168 → badTable lab ≡ false → (c : Cutoffs) → c ≡ cutoffsIn lab → (n : ℕ) (bytes : List ℕ) → n ≡ fromArchiveNumber c s t
+    → bytes ≡ cond (eqb (fromArchiveNumber c s t) 0) (answerBytes (fromArchiveEntries c s t)) answer → (n ≡ testingReturned lab s t answer) × (bytes ≡ testingWritten lab s t answer)
+unfolding testingReturned testingReasons testingWritten fromArchiveNumber
+own-call lab s t answer l ok c e n bytes q b =
+    own-answer 168 answer lab (fromArchiveReasons (cutoffsIn lab) s t) (answerBytes (fromArchiveEntries (cutoffsIn lab) s t)) l ok n bytes (q ∙ ap (λ (x : Cutoffs). fromArchiveNumber x s t) e)
+    (b ∙ ap (λ (x : Cutoffs). cond (eqb (fromArchiveNumber x s t) 0) (answerBytes (fromArchiveEntries x s t)) answer) e)

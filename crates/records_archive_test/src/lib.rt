@@ -1,7 +1,11 @@
 // The test from an archive: the bytes of an archive and of a second file in, a number and seven entries out.
 ghost use mathlib.Core.Path.{_≡_};
 ghost use Prim.Native.Nat.{_≤_};
-ghost use Rattle.arithmetic_cutoffs.specs.Cutoffs.{documentCutoffs};
+ghost use mathlib.Core.Bool.{cond};
+ghost use lib.Dec.{eqb};
+ghost use lib.ListN.{length};
+ghost use Rattle.records.specs.Layout.{answerBytes};
+ghost use Rattle.records.specs.CutoffTable.{builtInTable};
 ghost use Rattle.algebra.specs.Kind.{marks};
 ghost use Rattle.tests.specs.KenwardRoger.{runOf};
 ghost use Rattle.tests_run.specs.joints.Units.{responseUnits};
@@ -119,14 +123,12 @@ pub fn judge(c: Cutoffs, s: &[u8], t: &[u8], told: &mut u32) -> [Entry; 7]
     answer_of(refused, es, told)
 }
 
-// The call with its cutoffs: the archive, the second file, and 168 bytes for the answer, as the direct call fills them. A refusal returns its number alone and leaves the bytes as they are.
-pub fn test_with(c: Cutoffs, archive: &[u8], tests: &[u8], answer: &mut [u8]) -> u32
-    ensures { λ r. ⌜ r ≡ testingReturned c (now (archive .entry)) (now (tests .entry)) (now (answer .entry)) ⌝ }
-    ensures { λ r. ⌜ now (answer .exit) ≡ testingWritten c (now (archive .entry)) (now (tests .entry)) (now (answer .entry)) ⌝ }
+// The answer to an archive and a second file with these cutoffs, in 168 lent bytes. A refusal returns its number alone and leaves the bytes as they are.
+fn fill_tests(c: Cutoffs, archive: &[u8], tests: &[u8], answer: &mut [u8]) -> u32
+    requires { ⌜ length (now answer) ≡ 168 ⌝ }
+    ensures { λ r. ⌜ r ≡ fromArchiveNumber c (now (archive .entry)) (now (tests .entry)) ⌝ }
+    ensures { λ _. ⌜ now (answer .exit) ≡ cond (eqb (fromArchiveNumber c (now (archive .entry)) (now (tests .entry))) 0) (answerBytes (fromArchiveEntries c (now (archive .entry)) (now (tests .entry)))) (now (answer .entry)) ⌝ }
 {
-    if answer.len() != 168 {
-        return 1;
-    }
     let mut told: u32 = 0;
     let es = judge(c, archive, tests, &mut told);
     if told != 0 {
@@ -136,10 +138,27 @@ pub fn test_with(c: Cutoffs, archive: &[u8], tests: &[u8], answer: &mut [u8]) ->
     0
 }
 
-// The call of the office application, with document 01's cutoffs.
-pub fn test(archive: &[u8], tests: &[u8], answer: &mut [u8]) -> u32
-    ensures { λ r. ⌜ r ≡ testingReturned documentCutoffs (now (archive .entry)) (now (tests .entry)) (now (answer .entry)) ⌝ }
-    ensures { λ r. ⌜ now (answer .exit) ≡ testingWritten documentCutoffs (now (archive .entry)) (now (tests .entry)) (now (answer .entry)) ⌝ }
+// The call with a lab's table: 1 for the lent length, 14 for the table, and then the answer to the archive and the second file with its cutoffs.
+pub fn test_with(table: &[u8], archive: &[u8], tests: &[u8], answer: &mut [u8]) -> u32
+    ensures { λ r. ⌜ r ≡ testingReturned (now (table .entry)) (now (archive .entry)) (now (tests .entry)) (now (answer .entry)) ⌝ }
+    ensures { λ _. ⌜ now (answer .exit) ≡ testingWritten (now (table .entry)) (now (archive .entry)) (now (tests .entry)) (now (answer .entry)) ⌝ }
 {
-    test_with(document_cutoffs(), archive, tests, answer)
+    if answer.len() != 168 {
+        return 1;
+    }
+    if records_cutoffs::bad_table(table) {
+        return 14;
+    }
+    fill_tests(records_cutoffs::cutoffs_in(table), archive, tests, answer)
+}
+
+// The call without a table: the one with the built-in table, whose numbers are at hand.
+pub fn test(archive: &[u8], tests: &[u8], answer: &mut [u8]) -> u32
+    ensures { λ r. ⌜ r ≡ testingReturned builtInTable (now (archive .entry)) (now (tests .entry)) (now (answer .entry)) ⌝ }
+    ensures { λ _. ⌜ now (answer .exit) ≡ testingWritten builtInTable (now (archive .entry)) (now (tests .entry)) (now (answer .entry)) ⌝ }
+{
+    if answer.len() != 168 {
+        return 1;
+    }
+    fill_tests(document_cutoffs(), archive, tests, answer)
 }

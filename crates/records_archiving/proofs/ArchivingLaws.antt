@@ -1,14 +1,14 @@
--- The number and the lent bytes of the archive's writer, by who refuses: the lent length, the reader, the adjustment; and what is archived of a series that none refuses.
+-- The number and the lent bytes of the archive's writer, by who refuses: the lent length, the table, the reader, the adjustment; and what is archived of a series that none refuses.
 use Prim.Native.Nat.{ℕ, _≤_}
 use native.Mathlib.Omega.{arith}
 use mathlib.Core.Path.{_≡_, refl, sym, ap, _∙_}
-use mathlib.Core.Bool.{Bool, not, cond}
+use mathlib.Core.Bool.{true, false, cond}
 use mathlib.Core.List.{List, _++_}
 use lib.Dec.{eqb}
 use lib.ListN.{length}
 use lib.Ieee.{Float}
 use lib.Seq.{sets}
-use borrow.Author.Tests.{eq-eqb, ne-eqb}
+use borrow.Author.Tests.{ne-eqb}
 use Rattle.arithmetic_cutoffs.specs.declared.Cutoffs.{Cutoffs}
 use Rattle.algebra.specs.Small.{Rows}
 use Rattle.algebra.specs.Reasons.{first}
@@ -19,10 +19,11 @@ use Rattle.records.specs.File.{lengthReasons, formReasons}
 use Rattle.records.specs.Order.{orderReasons}
 use Rattle.records.specs.Series.{coefficients, blockReasons, sizeReasons, valueReasons, reasons, refusal, design, phi, sigma2}
 use Rattle.records.specs.KenwardRogerCall.{adjusted}
+use Rattle.records.specs.CutoffTable.{badTable, cutoffsIn}
 use Rattle.records.specs.Kinds.{archiveKinds}
 use Rattle.records.specs.Archive.{sizesAt, archiveContent, archiveBytes}
 use Rattle.records.specs.ArchiveCall.{seriesArchive, seriesReasons, seriesRefusal, archivingReasons, archivingRefusal, archivingReturned, archivingWritten}
-use Rattle.records.proofs.CallLaws.{other-way, fileAdjustmentRefusal}
+use Rattle.records.proofs.CallLaws.{fileAdjustmentRefusal, length-refuses, table-refuses, files-decide}
 use Rattle.records.proofs.WrittenLaws.{length-file}
 use Rattle.records_archive_bytes.specs.joints.Parts.{archiveFrom}
 use Rattle.records.proofs.ArchiveLengths.{archive-slots}
@@ -47,39 +48,51 @@ module _ (w : ℕ) (c : Cutoffs) (s : List ℕ) where
   unfolding seriesRefusal seriesReasons refusal reasons lengthReasons orderReasons formReasons blockReasons sizeReasons valueReasons adjustmentRefusal
   series-number-is = first-append (reasons w s) (adjustmentReasons c (design s) (phi s) (sigma2 s)) refl
 
-  module _ (lent : List ℕ) where
-    archiving-is : archivingRefusal w c s lent ≡ cond (eqb (length lent) 7184) (seriesRefusal w c s) 1
-    unfolding archivingRefusal archivingReasons seriesRefusal first
-    archiving-is = other-way (eqb (length lent) 7184) 1 (first (seriesReasons w c s))
+  -- what is told of the series, and what the lent bytes hold then
+  abbrev pub seriesTold : ℕ
+  seriesTold = cond (eqb (seriesRefusal w c s) 0) (length (archiveBytes (seriesArchive c s))) (seriesRefusal w c s)
 
-    -- a refusal: its number is returned, and the lent bytes stay
-    refuses : (n : ℕ) → archivingRefusal w c s lent ≡ n → (n ≡ 0 → ⊥) → (n ≡ archivingReturned w c s lent) × (lent ≡ archivingWritten w c s lent)
-    unfolding archivingReturned archivingWritten
+  abbrev pub seriesPut : List ℕ → List ℕ
+  seriesPut lent = cond (eqb (seriesRefusal w c s) 0) (sets lent 0 (archiveBytes (seriesArchive c s))) lent
+
+  module _ (lent : List ℕ) where
+    -- a refusal: its number is told, and the lent bytes stay
+    refuses : (n : ℕ) → seriesRefusal w c s ≡ n → (n ≡ 0 → ⊥) → (n ≡ seriesTold) × (lent ≡ seriesPut lent)
     refuses n e h = (rw (e, ne-eqb n 0 h), rw (e, ne-eqb n 0 h))
 
-    pub other-lent : (length lent ≡ 7184 → ⊥) → (1 ≡ archivingReturned w c s lent) × (lent ≡ archivingWritten w c s lent)
-    other-lent h = refuses 1 (archiving-is ∙ rw (ne-eqb (length lent) 7184 h)) (λ e. absurd (one-is e))
-      where
-        one-is : _≡_ {A = ℕ} 1 0 → ⊥
-        one-is e = omega arith
+    -- by the reader
+    pub reader-refuses : (n : ℕ) → n ≡ refusal w s → (n ≡ 0 → ⊥) → (n ≡ seriesTold) × (lent ≡ seriesPut lent)
+    reader-refuses n e h = refuses n (series-number-is ∙ rw (← e, ne-eqb n 0 h)) h
 
-    module _ (whole : length lent ≡ 7184) where
-      own : archivingRefusal w c s lent ≡ seriesRefusal w c s
-      own = archiving-is ∙ rw (eq-eqb (length lent) 7184 whole)
+    module _ (taken : refusal w s ≡ 0) where
+      -- by the adjustment
+      pub adjustment-refuses : (n : ℕ) → n ≡ fileAdjustmentRefusal c s → (n ≡ 0 → ⊥) → (n ≡ seriesTold) × (lent ≡ seriesPut lent)
+      adjustment-refuses n e h = refuses n (series-number-is ∙ rw taken (sym e)) h
 
-      -- by the reader
-      pub reader-refuses : (n : ℕ) → n ≡ refusal w s → (n ≡ 0 → ⊥) → (n ≡ archivingReturned w c s lent) × (lent ≡ archivingWritten w c s lent)
-      reader-refuses n e h = refuses n (own ∙ series-number-is ∙ rw (← e, ne-eqb n 0 h)) h
+      -- by nobody
+      pub series-taken : fileAdjustmentRefusal c s ≡ 0 → seriesRefusal w c s ≡ 0
+      series-taken e = series-number-is ∙ rw (taken, e)
 
-      module _ (taken : refusal w s ≡ 0) where
-        -- by the adjustment
-        pub adjustment-refuses : (n : ℕ) → n ≡ fileAdjustmentRefusal c s → (n ≡ 0 → ⊥) → (n ≡ archivingReturned w c s lent) × (lent ≡ archivingWritten w c s lent)
-        adjustment-refuses n e h = refuses n (own ∙ series-number-is ∙ rw taken (sym e)) h
+      pub archives : (n : ℕ) (out : List ℕ) → fileAdjustmentRefusal c s ≡ 0 → n ≡ length (archiveBytes (seriesArchive c s)) → out ≡ sets lent 0 (archiveBytes (seriesArchive c s)) → (n ≡ seriesTold) × (out ≡ seriesPut lent)
+      archives n out e en eo = let z = series-taken e in (en ∙ rw z, eo ∙ rw z)
 
-        -- by nobody
-        pub series-taken : fileAdjustmentRefusal c s ≡ 0 → seriesRefusal w c s ≡ 0
-        series-taken e = series-number-is ∙ rw (taken, e)
+-- ---- the call: lent bytes of another length; another table; a series' own answer with the cutoffs c, which are those of an accepted table
+module _ (lab s lent : List ℕ) where
+  call-refuses : (n : ℕ) → archivingRefusal 24 lab s lent ≡ n → (n ≡ 0 → ⊥) → (n ≡ archivingReturned 24 lab s lent) × (lent ≡ archivingWritten 24 lab s lent)
+  unfolding archivingReturned archivingWritten
+  call-refuses n e h = (rw (e, ne-eqb n 0 h), rw (e, ne-eqb n 0 h))
 
-        pub archives : (n : ℕ) (out : List ℕ) → fileAdjustmentRefusal c s ≡ 0 → n ≡ length (archiveBytes (seriesArchive c s)) → out ≡ sets lent 0 (archiveBytes (seriesArchive c s)) → (n ≡ archivingReturned w c s lent) × (out ≡ archivingWritten w c s lent)
-        unfolding archivingReturned archivingWritten
-        archives n out e en eo = let z : archivingRefusal w c s lent ≡ 0 = own ∙ series-taken e in (en ∙ rw z, eo ∙ rw z)
+  pub other-lent : (length lent ≡ 7184 → ⊥) → (1 ≡ archivingReturned 24 lab s lent) × (lent ≡ archivingWritten 24 lab s lent)
+  unfolding archivingRefusal archivingReasons
+  other-lent h = call-refuses 1 (length-refuses 7184 lent lab (seriesReasons 24 (cutoffsIn lab) s) h) (λ e. omega arith)
+
+  pub refused-table : length lent ≡ 7184 → badTable lab ≡ true → (14 ≡ archivingReturned 24 lab s lent) × (lent ≡ archivingWritten 24 lab s lent)
+  unfolding archivingRefusal archivingReasons
+  refused-table l bad = call-refuses 14 (table-refuses 7184 lent lab (seriesReasons 24 (cutoffsIn lab) s) l bad) (λ e. omega arith)
+
+  pub own-call : length lent ≡ 7184 → badTable lab ≡ false → (c : Cutoffs) → c ≡ cutoffsIn lab → (n : ℕ) (bytes : List ℕ) → n ≡ seriesTold 24 c s → bytes ≡ seriesPut 24 c s lent
+      → (n ≡ archivingReturned 24 lab s lent) × (bytes ≡ archivingWritten 24 lab s lent)
+  unfolding archivingReturned archivingWritten archivingRefusal archivingReasons seriesRefusal
+  own-call l ok c e n bytes q b =
+      let r = files-decide 7184 lent lab (seriesReasons 24 (cutoffsIn lab) s) l ok in
+      (q ∙ ap (λ (x : Cutoffs). seriesTold 24 x s) e ∙ rw r, b ∙ ap (λ (x : Cutoffs). seriesPut 24 x s lent) e ∙ rw r)

@@ -3,11 +3,13 @@ ghost use mathlib.Core.Path.{_≡_};
 ghost use Prim.Native.Nat.{_*_, _≤_};
 ghost use lib.ListN.{length};
 ghost use lib.Seq.{sets};
-ghost use Rattle.arithmetic_cutoffs.specs.Cutoffs.{documentCutoffs};
+ghost use mathlib.Core.Bool.{cond};
+ghost use lib.Dec.{eqb};
 ghost use Rattle.records.specs.Series.{sizes, kinds};
 ghost use Rattle.records.specs.KenwardRogerCall.{adjusted};
 ghost use Rattle.records.specs.Archive.{archiveBytes};
-ghost use Rattle.records.specs.ArchiveCall.{seriesArchive, archivingReturned, archivingWritten};
+ghost use Rattle.records.specs.CutoffTable.{builtInTable};
+ghost use Rattle.records.specs.ArchiveCall.{seriesArchive, seriesRefusal, archivingReturned, archivingWritten};
 ghost use Rattle.records_sheet.specs.joints.Sheet.{firstSlots};
 ghost use Rattle.records_refusals.specs.joints.Room.{Room, SeriesRead, SeriesShort};
 use arithmetic_cutoffs::Cutoffs;
@@ -64,8 +66,8 @@ fn adjust_and_put(
 ) -> u32
     requires { ⌜ SeriesRead limit (now s) (sizes (now s)) (firstSlots (kinds (now s))) (now sheet) × (length (now archive) ≡ 7184) ⌝ }
     requires { ⌜ (6 * (limit * limit) ≤ length (now work)) × (36 * limit ≤ length (now narrow)) ⌝ }
-    ensures { λ r. ⌜ r ≡ archivingReturned limit c (now (s .entry)) (now (archive .entry)) ⌝ }
-    ensures { λ _. ⌜ now (archive .exit) ≡ archivingWritten limit c (now (s .entry)) (now (archive .entry)) ⌝ }
+    ensures { λ r. ⌜ r ≡ cond (eqb (seriesRefusal limit c (now (s .entry))) 0) (length (archiveBytes (seriesArchive c (now (s .entry))))) (seriesRefusal limit c (now (s .entry))) ⌝ }
+    ensures { λ _. ⌜ now (archive .exit) ≡ cond (eqb (seriesRefusal limit c (now (s .entry))) 0) (sets (now (archive .entry)) 0 (archiveBytes (seriesArchive c (now (s .entry))))) (now (archive .entry)) ⌝ }
 {
     let z = records_sizes::series_sizes(s);
     let firsts = records_sheet::first_slots(0, z);
@@ -107,7 +109,7 @@ fn adjust_and_put(
     )
 }
 
-// The archive of a file, whatever its bytes are, with a limit of specimens. What is lent for the reading and for the adjustment has the room that the limit asks for.
+// The archive of a file, whatever its bytes are, with a limit of specimens and these cutoffs, in 7,184 lent bytes. What is lent for the reading and for the adjustment has the room that the limit asks for.
 pub fn archive_series(
     limit: usize,
     c: Cutoffs,
@@ -118,13 +120,10 @@ pub fn archive_series(
     narrow: &mut [f64],
     archive: &mut [u8],
 ) -> u32
-    requires { ⌜ Room limit (now flags) (now sheet) × (6 * (limit * limit) ≤ length (now work)) × (36 * limit ≤ length (now narrow)) ⌝ }
-    ensures { λ r. ⌜ r ≡ archivingReturned limit c (now (s .entry)) (now (archive .entry)) ⌝ }
-    ensures { λ _. ⌜ now (archive .exit) ≡ archivingWritten limit c (now (s .entry)) (now (archive .entry)) ⌝ }
+    requires { ⌜ Room limit (now flags) (now sheet) × (6 * (limit * limit) ≤ length (now work)) × (36 * limit ≤ length (now narrow)) × (length (now archive) ≡ 7184) ⌝ }
+    ensures { λ r. ⌜ r ≡ cond (eqb (seriesRefusal limit c (now (s .entry))) 0) (length (archiveBytes (seriesArchive c (now (s .entry))))) (seriesRefusal limit c (now (s .entry))) ⌝ }
+    ensures { λ _. ⌜ now (archive .exit) ≡ cond (eqb (seriesRefusal limit c (now (s .entry))) 0) (sets (now (archive .entry)) 0 (archiveBytes (seriesArchive c (now (s .entry))))) (now (archive .entry)) ⌝ }
 {
-    if archive.len() != 7184 {
-        return 1;
-    }
     let early = records_refusals::refusal(limit, s, flags, sheet);
     if early != 0 {
         return early;
@@ -132,10 +131,11 @@ pub fn archive_series(
     adjust_and_put(limit, c, s, sheet, work, narrow, archive)
 }
 
-// The call with its cutoffs, at the panel, whose limit is 24 specimens: the records, and 7,184 bytes for the archive. Returns its length, or the number of the refusal, and then leaves the bytes as they are.
-pub fn archive_with(c: Cutoffs, records: &[u8], archive: &mut [u8]) -> u32
-    ensures { λ r. ⌜ r ≡ archivingReturned 24 c (now (records .entry)) (now (archive .entry)) ⌝ }
-    ensures { λ _. ⌜ now (archive .exit) ≡ archivingWritten 24 c (now (records .entry)) (now (archive .entry)) ⌝ }
+// The same at the panel, whose limit is 24 specimens: room for every cell that it allows, for six squares of 24 rows of 24 and for six parts of 24 rows of 6.
+fn archive_panel(c: Cutoffs, s: &[u8], archive: &mut [u8]) -> u32
+    requires { ⌜ length (now archive) ≡ 7184 ⌝ }
+    ensures { λ r. ⌜ r ≡ cond (eqb (seriesRefusal 24 c (now (s .entry))) 0) (length (archiveBytes (seriesArchive c (now (s .entry))))) (seriesRefusal 24 c (now (s .entry))) ⌝ }
+    ensures { λ _. ⌜ now (archive .exit) ≡ cond (eqb (seriesRefusal 24 c (now (s .entry))) 0) (sets (now (archive .entry)) 0 (archiveBytes (seriesArchive c (now (s .entry))))) (now (archive .entry)) ⌝ }
 {
     let mut flags = [false; 1024];
     let mut sheet = [0.0; 1024];
@@ -144,7 +144,7 @@ pub fn archive_with(c: Cutoffs, records: &[u8], archive: &mut [u8]) -> u32
     archive_series(
         24,
         c,
-        records,
+        s,
         &mut flags,
         &mut sheet,
         &mut work,
@@ -153,10 +153,28 @@ pub fn archive_with(c: Cutoffs, records: &[u8], archive: &mut [u8]) -> u32
     )
 }
 
-// The call of the office application, with document 01's cutoffs.
-pub fn archive(records: &[u8], archive: &mut [u8]) -> u32
-    ensures { λ r. ⌜ r ≡ archivingReturned 24 documentCutoffs (now (records .entry)) (now (archive .entry)) ⌝ }
-    ensures { λ _. ⌜ now (archive .exit) ≡ archivingWritten 24 documentCutoffs (now (records .entry)) (now (archive .entry)) ⌝ }
+// The call with a lab's table: the records, and 7,184 bytes for the archive. 1 for the lent length, 14 for the table; then the archive's length, or the number of the refusal, and then the bytes stay as they are.
+pub fn archive_with(table: &[u8], records: &[u8], archive: &mut [u8]) -> u32
+    ensures { λ r. ⌜ r ≡ archivingReturned 24 (now (table .entry)) (now (records .entry)) (now (archive .entry)) ⌝ }
+    ensures { λ _. ⌜ now (archive .exit) ≡ archivingWritten 24 (now (table .entry)) (now (records .entry)) (now (archive .entry)) ⌝ }
 {
-    archive_with(document_cutoffs(), records, archive)
+    if archive.len() != 7184 {
+        return 1;
+    }
+    if records_cutoffs::bad_table(table) {
+        return 14;
+    }
+    archive_panel(records_cutoffs::cutoffs_in(table), records, archive)
+}
+
+// The call without a table: the one with the built-in table, whose numbers are at hand.
+pub fn archive(records: &[u8], archive: &mut [u8]) -> u32
+    ensures { λ r. ⌜ r ≡ archivingReturned 24 builtInTable (now (records .entry)) (now (archive .entry)) ⌝ }
+    ensures { λ _. ⌜ now (archive .exit) ≡ archivingWritten 24 builtInTable (now (records .entry)) (now (archive .entry)) ⌝ }
+{
+    let lent = archive.len();
+    if lent != 7184 {
+        return 1;
+    }
+    archive_panel(document_cutoffs(), records, archive)
 }

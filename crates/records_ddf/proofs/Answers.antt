@@ -8,14 +8,13 @@ use mathlib.Core.List.{List, [], _∷_, append-nil}
 use lib.Dec.{T, eqb}
 use lib.ListN.{getD}
 use lib.Ieee.{Float, nan, binary64, fits, sub, mul, div, lt}
-use lib.Ieee.Fits.{cond-fits, nan-fits, mul-fits, div-fits, round-fits}
+use lib.Ieee.Fits.{cond-fits, nan-fits, mul-fits, div-fits}
 use borrow.Author.Tests.{eq-eqb, ne-eqb}
 use Rattle.arithmetic.specs.Numbers.{plusZero, ofCount}
 use Rattle.arithmetic.specs.declared.Marked.{Marked}
 use Rattle.arithmetic.specs.Marks.{markedMul, markedDiv}
 use Rattle.arithmetic.proofs.MarkLaws.{mul-value, div-value}
 use Rattle.arithmetic_cutoffs.specs.declared.Cutoffs.{Cutoffs}
-use Rattle.arithmetic_cutoffs.specs.Cutoffs.{documentCutoffs, decimal}
 use Rattle.algebra.specs.Kind.{floats, marks}
 use Rattle.algebra.specs.Jacobi.{two}
 use Rattle.algebra.specs.Small.{Rows}
@@ -29,7 +28,9 @@ use Rattle.tests.specs.PooledDf.{tolerance, allWithin, anyLow, expected, pooled
 use Rattle.tests.specs.Satterthwaite.{Inputs, squaresOver, gradientAt, capped, componentDf, componentDfs, anyNone, severalDf, variances, directions, jxStack, fOne, fSeveral, dfOne, dfSeveral, oneRow, severalRows, satterthwaite}
 use Rattle.records.specs.Layout.{entryBytes, answerBytes, entryFrom}
 use Rattle.records.specs.Parameters.{contrastRows, refusal, inputs}
+use Rattle.records.specs.CutoffTable.{cutoffsIn}
 use Rattle.records.specs.SatterthwaiteCall.{outcome, number, entry, returned, written}
+use Rattle.records.proofs.CutoffLaws.{cap-fits}
 use Rattle.records_answer_bytes.proofs.LayoutLaws.{Held, number-held, read-back}
 use Rattle.records_ddf.proofs.Judged.{judged-early, contrast-rows-within}
 use Rattle.tests.specs.Both.{isPositive, squareOne}
@@ -175,20 +176,16 @@ module _ (c : Cutoffs) (s : List ℕ) where
         ap (λ (b : List ℕ). entryFrom b 0) (sym (append-nil (entryBytes (entry c s))))
         ∙ read-back (entry c s ∷ []) 0 noEntry (omega arith) (entry-held .0) (entry-held .1)
 
--- document 01's cap, 3000
-document-cap : T (fits binary64 (documentCutoffs .cap))
-unfolding documentCutoffs decimal
-document-cap = round-fits binary64 false _ _
-
+-- ---- with every table: its cap is an f64 number, read from bits
 -- THE ENTRY IS READ BACK from the 24 bytes whole: F, df, the rank and the mark
-pub file-read-back : (s : List ℕ) → entryFrom (entryBytes (entry documentCutoffs s)) 0 ≡ entry documentCutoffs s
-file-read-back s = entry-back documentCutoffs s document-cap
+pub file-read-back : (lab s : List ℕ) → entryFrom (entryBytes (entry (cutoffsIn lab) s)) 0 ≡ entry (cutoffsIn lab) s
+file-read-back lab s = entry-back (cutoffsIn lab) s (cap-fits lab)
 
 -- the same of the bytes that an accepting call has filled
-pub call-read-back : (s answer : List ℕ) → returned documentCutoffs s answer ≡ 0 → entryFrom (written documentCutoffs s answer) 0 ≡ entry documentCutoffs s
+pub call-read-back : (lab s answer : List ℕ) → returned lab s answer ≡ 0 → entryFrom (written lab s answer) 0 ≡ entry (cutoffsIn lab) s
 unfolding written
-call-read-back s answer h = rw (eq-eqb (returned documentCutoffs s answer) 0 h) (file-read-back s)
+call-read-back lab s answer h = rw (eq-eqb (returned lab s answer) 0 h) (file-read-back lab s)
 
 -- SO THE BYTES DETERMINE THE ANSWER: equal bytes are equal entries
-pub file-determined : (s t : List ℕ) → entryBytes (entry documentCutoffs s) ≡ entryBytes (entry documentCutoffs t) → entry documentCutoffs s ≡ entry documentCutoffs t
-file-determined s t same = sym (file-read-back s) ∙ ap (λ (b : List ℕ). entryFrom b 0) same ∙ file-read-back t
+pub file-determined : (lab lab' s t : List ℕ) → entryBytes (entry (cutoffsIn lab) s) ≡ entryBytes (entry (cutoffsIn lab') t) → entry (cutoffsIn lab) s ≡ entry (cutoffsIn lab') t
+file-determined lab lab' s t same = sym (file-read-back lab s) ∙ ap (λ (b : List ℕ). entryFrom b 0) same ∙ file-read-back lab' t

@@ -35,8 +35,9 @@ use Rattle.records.specs.Written.{recordOf}
 use Rattle.records.specs.Order.{numbersMatrix, matrixOf, standsBefore, falls, orderReasons}
 use Rattle.records.specs.Parameters.{sizes, valueReasons, reasons, refusal, jacobians, inputs}
 use Rattle.records.specs.SatterthwaiteCall.{outcome, number, entry, returned, written}
-use Rattle.records.proofs.CallLaws.{satterthwaite-returned-is}
-use Rattle.records_ddf.proofs.Judged.{judged-taken, judged-late, other-length}
+use Rattle.records.specs.CutoffTable.{builtInTable}
+use Rattle.records.proofs.CutoffLaws.{built-in-numbers, built-in-test-returned}
+use Rattle.records_ddf.proofs.Judged.{judged-taken, judged-late}
 
 abbrev oneBits : ℕ
 oneBits = 0x3ff0000000000000
@@ -126,16 +127,16 @@ tested-file = ap (satterthwaite marks documentCutoffs) (file-sends .0) ∙ teste
 pub record Example : Type 0 where
   pub number-i : number documentCutoffs fileI ≡ 0
   pub entry-i : entry documentCutoffs fileI ≡ answered
-  pub returned-i : returned documentCutoffs fileI (replicate 24 255) ≡ 0
-  pub written-i : written documentCutoffs fileI (replicate 24 255) ≡ 0 ∷ 0 ∷ 0 ∷ 0 ∷ 0 ∷ 0 ∷ 4 ∷ 0x40 ∷ 0 ∷ 0 ∷ 0 ∷ 0 ∷ 0 ∷ 0 ∷ 0x10 ∷ 0x40 ∷ 2 ∷ 1 ∷ 1 ∷ 1 ∷ 0 ∷ 0 ∷ 0 ∷ 0 ∷ []
+  pub returned-i : returned builtInTable fileI (replicate 24 255) ≡ 0
+  pub written-i : written builtInTable fileI (replicate 24 255) ≡ 0 ∷ 0 ∷ 0 ∷ 0 ∷ 0 ∷ 0 ∷ 4 ∷ 0x40 ∷ 0 ∷ 0 ∷ 0 ∷ 0 ∷ 0 ∷ 0 ∷ 0x10 ∷ 0x40 ∷ 2 ∷ 1 ∷ 1 ∷ 1 ∷ 0 ∷ 0 ∷ 0 ∷ 0 ∷ []
 
 pub example-i : Example
 unfolding written entryBytes bitsOf bytesOf toBits
 example-i =
     let j = judged-taken documentCutoffs fileI answered (file-taken .0) (ap (λ (o : Outcome). o .refused) tested-file) (sym (ap (λ (o : Outcome). o .entry) tested-file)) in
     let n : number documentCutoffs fileI ≡ 0 = sym (j .1) in
-    let r : returned documentCutoffs fileI (replicate 24 255) ≡ 0 = satterthwaite-returned-is documentCutoffs fileI (replicate 24 255) ∙ n in
-    record { number-i = n; entry-i = sym (j .0); returned-i = r; written-i = rw (r, sym (j .0)) }
+    let r : returned builtInTable fileI (replicate 24 255) ≡ 0 = built-in-test-returned fileI (replicate 24 255) ∙ n in
+    record { number-i = n; entry-i = sym (j .0); returned-i = r; written-i = rw (r, built-in-numbers, sym (j .0)) }
 
 -- ---- and what is refused
 eleven-file : outcome documentCutoffs fileEleven .refused ≡ true
@@ -144,7 +145,7 @@ eleven-file = ap (λ (i : Inputs). satterthwaite marks documentCutoffs i .refuse
 
 pub record Refused : Type 0 where
   -- 1: 23 lent bytes
-  pub short : returned documentCutoffs fileI (replicate 23 0) ≡ 1
+  pub short : returned builtInTable fileI (replicate 23 0) ≡ 1
   -- 2: no records; X, a kind of the other call; β_H of one row where there are two coefficients; two parameters and one Jacobian
   pub empty : refusal [] ≡ 2
   pub otherCall : refusal (recordOf 1 0 0 0 oneBits ++ fileI) ≡ 2
@@ -165,7 +166,7 @@ pub record Refused : Type 0 where
 pub refused : Refused
 unfolding refusal reasons lengthReasons orderReasons falls standsBefore matrixOf numbersMatrix formReasons valueReasons first sizes outOf badRecord isCell again has fileCell rows columns beyond missing notFinite kindAt holds width indexOf valueHolds satterthwaiteKinds limits any most last word long bytesOf isFinite isZero ofBits le eq
 refused = record {
-  short = sym (other-length documentCutoffs fileI (replicate 23 0) (λ e. absurd (omega arith)) .0);
+  short = built-in-test-returned fileI (replicate 23 0);
   empty = refl;
   otherCall = refl;
   partly = refl;

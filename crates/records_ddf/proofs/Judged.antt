@@ -7,7 +7,7 @@ use native.Mathlib.Omega.{arith}
 use lib.Dec.{eqb}
 use lib.ListN.{length}
 use lib.Seq.{sets}
-use borrow.Author.Tests.{eq-eqb, ne-eqb}
+use borrow.Author.Tests.{ne-eqb}
 use Rattle.arithmetic_cutoffs.specs.declared.Cutoffs.{Cutoffs}
 use Rattle.algebra.specs.Reasons.{first}
 use Rattle.algebra.proofs.ReasonLaws.{first-append}
@@ -21,10 +21,11 @@ use Rattle.records.specs.Cells.{slots, firstSlot, slotCount}
 use Rattle.records.specs.File.{count, beyond, notFinite, lengthReasons, formReasons}
 use Rattle.records.specs.Order.{orderReasons}
 use Rattle.records.specs.Parameters.{contrastRows, sizes, kinds, valueReasons, reasons, refusal}
-use Rattle.records.specs.SatterthwaiteCall.{outcome, number, entry, returned, written}
+use Rattle.records.specs.CutoffTable.{badTable, cutoffsIn}
+use Rattle.records.specs.SatterthwaiteCall.{outcome, allReasons, number, entry, returnedReasons, returned, written}
 use Rattle.records.proofs.Limits.{Below, parameters-below, fewer-slots}
 use Rattle.records.proofs.AcceptedParameters.{accepted-parameters}
-use Rattle.records.proofs.CallLaws.{satterthwaite-number-is, satterthwaite-returned-is}
+use Rattle.records.proofs.CallLaws.{satterthwaite-number-is, other-length, other-table, own-answer}
 use Rattle.records_answer_bytes.proofs.LayoutLaws.{length-entry}
 use Rattle.records_little_endian.proofs.StoreLaws.{sets-all}
 use Rattle.records_sheet.specs.joints.Sheet.{Small}
@@ -100,22 +101,22 @@ module _ (c : Cutoffs) (s : List ℕ) where
       let x : number c s ≡ 0 = satterthwaite-number-is c s ∙ rw (q, h) in
       (p ∙ sym (entry-of 0 x), sym x)
 
-  -- ---- the lent bytes: of another length; refused; filled
-  pub other-length : (a : List ℕ) → (length a ≡ 24 → ⊥) → (1 ≡ returned c s a) × (a ≡ written c s a)
-  unfolding written
-  other-length a h =
-      let e : returned c s a ≡ 1 = satterthwaite-returned-is c s a ∙ rw (ne-eqb (length a) 24 h) in
-      (sym e, rw e)
+-- ---- the lent bytes: of another length; with another table; filled by a file's answer with the cutoffs c, which are those of an accepted table
+pub other-answer : (lab s answer : List ℕ) → (length answer ≡ 24 → ⊥) → (1 ≡ returned lab s answer) × (answer ≡ written lab s answer)
+unfolding returned returnedReasons written
+other-answer lab s answer h = other-length 24 answer lab (allReasons (cutoffsIn lab) s) (entryBytes (entry (cutoffsIn lab) s)) h
 
-  returned-is : (a : List ℕ) (n : ℕ) → length a ≡ 24 → n ≡ number c s → returned c s a ≡ n
-  returned-is a n h q = satterthwaite-returned-is c s a ∙ rw (eq-eqb (length a) 24 h) (sym q)
+pub refused-table : (lab s answer : List ℕ) → length answer ≡ 24 → badTable lab ≡ true → (14 ≡ returned lab s answer) × (answer ≡ written lab s answer)
+unfolding returned returnedReasons written
+refused-table lab s answer l bad = other-table 24 answer lab (allReasons (cutoffsIn lab) s) (entryBytes (entry (cutoffsIn lab) s)) l bad
 
-  pub call-refused : (a : List ℕ) (n : ℕ) → length a ≡ 24 → n ≡ number c s → (n ≡ 0 → ⊥) → (n ≡ returned c s a) × (a ≡ written c s a)
-  unfolding written
-  call-refused a n h q f = let x = returned-is a n h q in (sym x, rw (x, ne-eqb n 0 f))
+pub own-call : (lab s answer : List ℕ) → length answer ≡ 24 → badTable lab ≡ false → (c : Cutoffs) → c ≡ cutoffsIn lab → (n : ℕ) (bytes : List ℕ) → n ≡ number c s
+    → bytes ≡ cond (eqb (number c s) 0) (entryBytes (entry c s)) answer → (n ≡ returned lab s answer) × (bytes ≡ written lab s answer)
+unfolding returned returnedReasons written number
+own-call lab s answer l ok c e n bytes q b =
+    own-answer 24 answer lab (allReasons (cutoffsIn lab) s) (entryBytes (entry (cutoffsIn lab) s)) l ok n bytes (q ∙ ap (λ (x : Cutoffs). number x s) e)
+    (b ∙ ap (λ (x : Cutoffs). cond (eqb (number x s) 0) (entryBytes (entry x s)) answer) e)
 
-  pub call-filled : (a : List ℕ) (n : ℕ) (e : Entry) → length a ≡ 24 → n ≡ number c s → n ≡ 0 → e ≡ entry c s → (0 ≡ returned c s a) × (sets a 0 (entryBytes e) ≡ written c s a)
-  unfolding written
-  call-filled a n e h q z p =
-      let x = returned-is a n h q ∙ z in
-      (sym x, sets-all a (entryBytes e) (length-entry e ∙ sym h) ∙ ap entryBytes p ∙ rw x)
+-- an entry put into 24 bytes is all of them
+pub entry-fills : (a : List ℕ) (e f : Entry) → length a ≡ 24 → e ≡ f → sets a 0 (entryBytes e) ≡ entryBytes f
+entry-fills a e f l q = sets-all a (entryBytes e) (length-entry e ∙ sym l) ∙ ap entryBytes q

@@ -3,3 +3,4 @@ pub mod Inputs
 pub mod Judged
 pub mod Answers
 pub mod Bench
+pub mod RotationMarks

@@ -1,13 +1,15 @@
 // The whole Satterthwaite call: the bytes of a file in, a number and an entry out (ddf).
 ghost use mathlib.Core.Path.{_≡_};
-ghost use mathlib.Core.Bool.{false};
+ghost use mathlib.Core.Bool.{false, cond};
+ghost use lib.Dec.{eqb};
 ghost use Prim.Native.Nat.{_≤_};
 ghost use lib.ListN.{length, replicate};
 ghost use Rattle.arithmetic.specs.Numbers.{plusZero};
-ghost use Rattle.arithmetic_cutoffs.specs.Cutoffs.{documentCutoffs};
 ghost use Rattle.tests.specs.Satterthwaite.{satterthwaite as testOf};
 ghost use Rattle.records.specs.Kinds.{satterthwaiteKinds, satterthwaite};
 ghost use Rattle.records.specs.Cells.{slotCount};
+ghost use Rattle.records.specs.Layout.{entryBytes};
+ghost use Rattle.records.specs.CutoffTable.{builtInTable};
 ghost use Rattle.records.specs.File.{count};
 ghost use Rattle.records.specs.Parameters.{kinds, refusal};
 ghost use Rattle.records_sheet.specs.joints.Sheet.{firstSlots, sheetAfter};
@@ -96,14 +98,12 @@ pub fn judge(c: Cutoffs, s: &[u8], number: &mut u32) -> Entry
     e
 }
 
-// The call with its cutoffs: its number, and the entry's 24 bytes where the number is 0. A refusal leaves the lent bytes as they were.
-pub fn call_with(c: Cutoffs, records: &[u8], answer: &mut [u8]) -> u32
-    ensures { λ r. ⌜ r ≡ returned c (now (records .entry)) (now (answer .entry)) ⌝ }
-    ensures { λ r. ⌜ now (answer .exit) ≡ written c (now (records .entry)) (now (answer .entry)) ⌝ }
+// The answer to a file with these cutoffs, in 24 lent bytes. A refusal returns its number alone and leaves the bytes as they are.
+fn fill_entry(c: Cutoffs, records: &[u8], answer: &mut [u8]) -> u32
+    requires { ⌜ length (now answer) ≡ 24 ⌝ }
+    ensures { λ r. ⌜ r ≡ fileNumber c (now (records .entry)) ⌝ }
+    ensures { λ _. ⌜ now (answer .exit) ≡ cond (eqb (fileNumber c (now (records .entry))) 0) (entryBytes (entry c (now (records .entry)))) (now (answer .entry)) ⌝ }
 {
-    if answer.len() != 24 {
-        return 1;
-    }
     let mut number: u32 = 0;
     let e = judge(c, records, &mut number);
     if number != 0 {
@@ -113,10 +113,27 @@ pub fn call_with(c: Cutoffs, records: &[u8], answer: &mut [u8]) -> u32
     0
 }
 
-// The call of the office application, with document 01's cutoffs.
-pub fn call(records: &[u8], answer: &mut [u8]) -> u32
-    ensures { λ r. ⌜ r ≡ returned documentCutoffs (now (records .entry)) (now (answer .entry)) ⌝ }
-    ensures { λ r. ⌜ now (answer .exit) ≡ written documentCutoffs (now (records .entry)) (now (answer .entry)) ⌝ }
+// The call with a lab's table: 1 for the lent length, 14 for the table, and then the answer to the records with its cutoffs.
+pub fn call_with(table: &[u8], records: &[u8], answer: &mut [u8]) -> u32
+    ensures { λ r. ⌜ r ≡ returned (now (table .entry)) (now (records .entry)) (now (answer .entry)) ⌝ }
+    ensures { λ _. ⌜ now (answer .exit) ≡ written (now (table .entry)) (now (records .entry)) (now (answer .entry)) ⌝ }
 {
-    call_with(document_cutoffs(), records, answer)
+    if answer.len() != 24 {
+        return 1;
+    }
+    if records_cutoffs::bad_table(table) {
+        return 14;
+    }
+    fill_entry(records_cutoffs::cutoffs_in(table), records, answer)
+}
+
+// The call without a table: the one with the built-in table, whose numbers are at hand.
+pub fn call(records: &[u8], answer: &mut [u8]) -> u32
+    ensures { λ r. ⌜ r ≡ returned builtInTable (now (records .entry)) (now (answer .entry)) ⌝ }
+    ensures { λ _. ⌜ now (answer .exit) ≡ written builtInTable (now (records .entry)) (now (answer .entry)) ⌝ }
+{
+    if answer.len() != 24 {
+        return 1;
+    }
+    fill_entry(document_cutoffs(), records, answer)
 }

@@ -29,6 +29,7 @@ use Rattle.tests.specs.Used.{inUse}
 use Rattle.tests_run.proofs.Used.{all-alike, unused-entry, in-use-is}
 use Rattle.records.specs.Series.{coefficients, contrastRows, refusal, beta, betaH, contrast}
 use Rattle.records.specs.Layout.{entryBytes, answerBytes, entryFrom}
+use Rattle.records.specs.CutoffTable.{cutoffsIn}
 use Rattle.records.specs.Text.{textOf, seriesText}
 use Rattle.records.specs.KenwardRogerCall.{scaled, run, number, entries, returned, written}
 use Rattle.records.proofs.AcceptedSeries.{AcceptedSeries, accepted-series}
@@ -124,11 +125,6 @@ module _ (w : ℕ) (c : Cutoffs) (s : List ℕ) where
   pub file-read-back : (i : ℕ) → i < 7 → entryFrom (answerBytes (entries w c s)) i ≡ getD (entries w c s) i noEntry
   file-read-back i l = let e = entries-seven .long in let k = entries-seven .held i in read-back (entries w c s) i noEntry (omega arith) (k .0) (k .1)
 
-  -- the same of the 168 bytes that an accepting call has filled
-  pub call-read-back : (answer : List ℕ) → returned w c s answer ≡ 0 → (i : ℕ) → i < 7 → entryFrom (written w c s answer) i ≡ getD (entries w c s) i noEntry
-  unfolding written
-  call-read-back answer h i l = rw (eq-eqb (returned w c s answer) 0 h) (file-read-back i l)
-
   module _ (some : 1 ≤ w) (h : number w c s ≡ 0) where
     taken : refusal w s ≡ 0
     taken = go (ℕ-discrete (refusal w s) 0)
@@ -157,6 +153,11 @@ module _ (w : ℕ) (c : Cutoffs) (s : List ℕ) where
     unused-bytes i e =
         ap (λ (es : List Entry). entryBytes (getD es i noEntry)) (sym (run-entries w c s (run c s .entries) refl (sym h)))
         ∙ ap entryBytes (unused-entry c (scaled c s) (beta s) (betaH s) (contrastRows s) (contrast s) i e) ∙ unused-zero
+
+-- the same of the 168 bytes that an accepting call with a table has filled
+pub call-read-back : (w : ℕ) (lab s answer : List ℕ) → returned w lab s answer ≡ 0 → (i : ℕ) → i < 7 → entryFrom (written w lab s answer) i ≡ getD (entries w (cutoffsIn lab) s) i noEntry
+unfolding written
+call-read-back w lab s answer h i l = rw (eq-eqb (returned w lab s answer) 0 h) (file-read-back w (cutoffsIn lab) s i l)
 
 -- SO THE BYTES DETERMINE THE ANSWER: equal bytes are equal entries
 pub file-determined : (w v : ℕ) (c d : Cutoffs) (s t : List ℕ) → answerBytes (entries w c s) ≡ answerBytes (entries v d t) → entries w c s ≡ entries v d t

@@ -5,6 +5,9 @@ ghost use Prim.Native.Nat.{_*_, _≤_};
 ghost use lib.ListN.{length};
 ghost use lib.Seq.{sets};
 ghost use Rattle.arithmetic_cutoffs.specs.Cutoffs.{documentCutoffs};
+ghost use lib.Dec.{eqb};
+ghost use Rattle.records.specs.Layout.{answerBytes};
+ghost use Rattle.records.specs.CutoffTable.{builtInTable};
 ghost use Rattle.records.specs.Text.{textOf};
 ghost use Rattle.records.specs.Series.{sizes, kinds, design, phi, sigma2};
 ghost use Rattle.records_sheet.specs.joints.Sheet.{firstSlots};
@@ -272,14 +275,12 @@ pub fn judge_panel(
     )
 }
 
-// The call with its cutoffs: the records, and 168 bytes for the answer. A refusal returns its number alone and leaves the bytes as they are.
-pub fn call_with(c: Cutoffs, records: &[u8], answer: &mut [u8]) -> u32
-    ensures { λ r. ⌜ r ≡ returned 24 c (now (records .entry)) (now (answer .entry)) ⌝ }
-    ensures { λ r. ⌜ now (answer .exit) ≡ written 24 c (now (records .entry)) (now (answer .entry)) ⌝ }
+// The answer to a file with these cutoffs, in 168 lent bytes. A refusal returns its number alone and leaves the bytes as they are.
+fn fill_answer(c: Cutoffs, records: &[u8], answer: &mut [u8]) -> u32
+    requires { ⌜ length (now answer) ≡ 168 ⌝ }
+    ensures { λ r. ⌜ r ≡ number 24 c (now (records .entry)) ⌝ }
+    ensures { λ _. ⌜ now (answer .exit) ≡ cond (eqb (number 24 c (now (records .entry))) 0) (answerBytes (entries 24 c (now (records .entry)))) (now (answer .entry)) ⌝ }
 {
-    if answer.len() != 168 {
-        return 1;
-    }
     let mut number: u32 = 0;
     let mut made: usize = 0;
     let mut pulled: usize = 0;
@@ -291,12 +292,29 @@ pub fn call_with(c: Cutoffs, records: &[u8], answer: &mut [u8]) -> u32
     0
 }
 
-// The call of the office application, with document 01's cutoffs.
-pub fn call(records: &[u8], answer: &mut [u8]) -> u32
-    ensures { λ r. ⌜ r ≡ returned 24 documentCutoffs (now (records .entry)) (now (answer .entry)) ⌝ }
-    ensures { λ r. ⌜ now (answer .exit) ≡ written 24 documentCutoffs (now (records .entry)) (now (answer .entry)) ⌝ }
+// The call with a lab's table: 1 for the lent length, 14 for the table, and then the answer to the records with its cutoffs.
+pub fn call_with(table: &[u8], records: &[u8], answer: &mut [u8]) -> u32
+    ensures { λ r. ⌜ r ≡ returned 24 (now (table .entry)) (now (records .entry)) (now (answer .entry)) ⌝ }
+    ensures { λ _. ⌜ now (answer .exit) ≡ written 24 (now (table .entry)) (now (records .entry)) (now (answer .entry)) ⌝ }
 {
-    call_with(document_cutoffs(), records, answer)
+    if answer.len() != 168 {
+        return 1;
+    }
+    if records_cutoffs::bad_table(table) {
+        return 14;
+    }
+    fill_answer(records_cutoffs::cutoffs_in(table), records, answer)
+}
+
+// The call without a table: the one with the built-in table, whose numbers are at hand.
+pub fn call(records: &[u8], answer: &mut [u8]) -> u32
+    ensures { λ r. ⌜ r ≡ returned 24 builtInTable (now (records .entry)) (now (answer .entry)) ⌝ }
+    ensures { λ _. ⌜ now (answer .exit) ≡ written 24 builtInTable (now (records .entry)) (now (answer .entry)) ⌝ }
+{
+    if answer.len() != 168 {
+        return 1;
+    }
+    fill_answer(document_cutoffs(), records, answer)
 }
 
 // What `pulltest` prints of a file: its text from the front of `out`, whose other bytes stay, and the text's length.

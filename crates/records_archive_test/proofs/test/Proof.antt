@@ -1,27 +1,38 @@
 -- `records_archive_test::test` meets its contract.
-use mathlib.Core.Path.{ap, _∙_}
+use mathlib.Core.Path.{sym, _∙_}
 use denote.Ref.{now}
-use Rattle.arithmetic_cutoffs.specs.declared.Cutoffs.{Cutoffs}
-use Rattle.records.specs.ArchiveCall.{testingReturned, testingWritten}
+use Rattle.records.specs.CutoffTable.{builtInTable}
+use Rattle.records.proofs.CutoffLaws.{built-in-accepted, built-in-numbers}
+use Rattle.records_archive_test.proofs.NumberLaws.{other-answer, own-call}
 use borrow.Author.Needs.{needs}
 use Rattle.records_archive_test.proofs.test.Statement.{statement}
 use Rattle.records_archive_test.proofs.test.Tie as tie
+use Rattle.records_archive_test.proofs.test.Reads as reads
+use Rattle.records_archive_test.proofs.test.Lts as lts
+use Rattle.arithmetic_cutoffs.proofs.document_cutoffs.Reads as document-cutoffs-reads
+use Rattle.records_archive_test.proofs.fill_tests.Reads as fill-tests-reads
+
+returns : tie.Need-returns
+returns c =
+    let a = c .before .before .before .before .args in
+    other-answer builtInTable (now (a .archive)) (now (a .tests)) (now (a .answer)) (c .if1 .taken)
 
 document-cutoffs-requires : tie.Need-document-cutoffs-requires
 document-cutoffs-requires c κs = search needs
 
-test-with-requires : tie.Need-test-with-requires
-test-with-requires c κs = search needs
+fill-tests-requires : tie.Need-fill-tests-requires
+fill-tests-requires c κs = search needs
 
 same-length : tie.Need-same-length
 same-length c = search needs
 
-returns : tie.Need-returns
-returns c =
-    let a = c .before .before .before .before .before .before .before .before .args in
-    let e = c .before .before .before .before .document-cutoffs .ensures in
-    let r = c .before .before .test-with .ensures in
-    (r .0 ∙ ap (λ (x : Cutoffs). testingReturned x (now (a .archive)) (now (a .tests)) (now (a .answer))) e, r .1 ∙ ap (λ (x : Cutoffs). testingWritten x (now (a .archive)) (now (a .tests)) (now (a .answer))) e)
+returns-2 : tie.Need-returns-2
+returns-2 c =
+    let a = c .before .before .before .before .before .before .before .before .before .args in
+    let f = c .before .before .fill-tests .ensures in
+    own-call builtInTable (now (a .archive)) (now (a .tests)) (now (a .answer)) (c .before .before .before .before .before .if1 .left) built-in-accepted _ (c .before .before .before .before .document-cutoffs .ensures ∙ sym built-in-numbers) _ _ (f .0) (f .1)
 
 pub test-spec : {M : Type 1} → statement M
-test-spec = tie.close (tie.spec document-cutoffs-requires test-with-requires same-length returns)
+test-spec =
+    tie.close
+    (tie.spec returns document-cutoffs-requires fill-tests-requires same-length returns-2)

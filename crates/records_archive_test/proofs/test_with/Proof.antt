@@ -1,34 +1,53 @@
 -- `records_archive_test::test_with` meets its contract.
+use mathlib.Core.Path.{sym, _∙_}
 use denote.Ref.{now}
-use Rattle.records_archive_test.proofs.NumberLaws.{testing-other-length, testing-refused, testing-filled}
+use Rattle.records.proofs.CutoffLaws.{table-length}
+use Rattle.records_archive_test.proofs.NumberLaws.{other-answer, refused-table, own-call}
 use borrow.Author.Needs.{needs}
 use Rattle.records_archive_test.proofs.test_with.Statement.{statement}
 use Rattle.records_archive_test.proofs.test_with.Tie as tie
+use Rattle.records_archive_test.proofs.test_with.Reads as reads
+use Rattle.records_archive_test.proofs.test_with.Lts as lts
+use Rattle.records_archive_test.proofs.fill_tests.Reads as fill-tests-reads
+use Rattle.records_cutoffs.proofs.bad_table.Reads as bad-table-reads
+use Rattle.records_cutoffs.proofs.cutoffs_in.Reads as cutoffs-in-reads
 
 returns : tie.Need-returns
 returns c =
-    let a = c .before .before .before .before .args in
-    testing-other-length (a .c) (now (a .archive)) (now (a .tests)) (now (a .answer)) (c .if1 .taken)
+    let a = c .before .before .before .before .before .args in
+    other-answer (now (a .table)) (now (a .archive)) (now (a .tests)) (now (a .answer)) (c .if1 .taken)
 
-judge-requires : tie.Need-judge-requires
-judge-requires c κs = search needs
+bad-table-requires : tie.Need-bad-table-requires
+bad-table-requires c κs = search needs
 
 returns-2 : tie.Need-returns-2
 returns-2 c =
     let a = c .before .before .before .before .before .before .before .args in
-    testing-refused (a .c) (now (a .archive)) (now (a .tests)) (now (a .answer)) (c .before .before .before .if1 .left) _ (c .before .judge .ensures .1) (c .if2 .taken)
+    refused-table (now (a .table)) (now (a .archive)) (now (a .tests)) (now (a .answer)) (c .before .before .if1 .left) (sym (c .before .bad-table .ensures) ∙ c .if2 .taken)
 
-put-answer-requires : tie.Need-put-answer-requires
-put-answer-requires c κs = search needs
+cutoffs-in-requires : tie.Need-cutoffs-in-requires
+cutoffs-in-requires c κs = table-length (now (c .before .before .before .before .before .before .before .args .table)) (sym (c .before .bad-table .ensures) ∙ c .if2 .left)
+
+fill-tests-requires : tie.Need-fill-tests-requires
+fill-tests-requires c κs = search needs
 
 same-length : tie.Need-same-length
 same-length c = search needs
 
 returns-3 : tie.Need-returns-3
 returns-3 c =
-    let a = c .before .before .before .before .before .before .before .before .before .before .before .args in
-    testing-filled (a .c) (now (a .archive)) (now (a .tests)) (now (a .answer)) (c .before .before .before .before .before .before .before .if1 .left) _ (c .before .before .before .before .before .judge .ensures .1) (c .before .before .before .before .if2 .left) _ (c .before .before .before .before .before .judge .ensures .0) _ (c .before .before .put-answer .ensures)
+    let a = c .before .before .before .before .before .before .before .before .before .before .before .before .args in
+    let f = c .before .before .fill-tests .ensures in
+    own-call (now (a .table)) (now (a .archive)) (now (a .tests)) (now (a .answer)) (c .before .before .before .before .before .before .before .if1 .left) (sym (c .before .before .before .before .before .before .bad-table .ensures) ∙ c .before .before .before .before .before .if2 .left) _ (c .before .before .before .before .cutoffs-in .ensures) _ _ (f .0) (f .1)
 
 pub test-with-spec : {M : Type 1} → statement M
 test-with-spec =
-    tie.close (tie.spec returns judge-requires returns-2 put-answer-requires same-length returns-3)
+    tie.close
+    (tie.spec
+    returns
+    bad-table-requires
+    returns-2
+    cutoffs-in-requires
+    fill-tests-requires
+    same-length
+    returns-3)

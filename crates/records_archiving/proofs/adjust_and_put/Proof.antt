@@ -55,7 +55,7 @@ returns : tie.Need-returns
 returns c =
     let a = c .before .before .before .before .before .before .before .before .before .before .before .before .before .before .before .before .before .before .before .before .before .before .before .before .before .before .before .args in
     let g = c .before .before .before .before .before .before .before .before .before .before .before .before .before .before .before .before .before .before .before .before .before .before .before .before .before .before .before .pre in
-    adjustment-refuses (a .limit) (a .c) (now (a .s)) (now (a .archive)) (g .0 .1) (g .0 .0 .taken) _ (c .before .before .before .before .before .kenward-roger-modcomp-data .ensures .0) (c .if1 .taken)
+    adjustment-refuses (a .limit) (a .c) (now (a .s)) (now (a .archive)) (g .0 .0 .taken) _ (c .before .before .before .before .before .kenward-roger-modcomp-data .ensures .0) (c .if1 .taken)
 
 put-series-requires : tie.Need-put-series-requires
 put-series-requires c κs =
@@ -81,7 +81,7 @@ returns-2 c =
     let g = c .before .before .before .before .before .before .before .before .before .before .before .before .before .before .before .before .before .before .before .before .before .before .before .before .before .before .before .before .before .before .before .before .before .before .before .before .pre in
     let z = sym (c .before .before .before .before .before .before .before .before .before .before .before .before .before .before .kenward-roger-modcomp-data .ensures .0) ∙ c .before .before .before .before .before .before .before .before .before .if1 .left in
     let q = c .before .before .put-series .ensures in
-    archives (a .limit) (a .c) (now (a .s)) (now (a .archive)) (g .0 .1) (g .0 .0 .taken) _ _ z (q .0) (q .1)
+    archives (a .limit) (a .c) (now (a .s)) (now (a .archive)) (g .0 .0 .taken) _ _ z (q .0) (q .1)
 
 pub adjust-and-put-spec : {M : Type 1} → statement M
 adjust-and-put-spec =

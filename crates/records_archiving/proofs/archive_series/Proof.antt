@@ -1,15 +1,10 @@
 -- `records_archiving::archive_series` meets its contract.
 use denote.Ref.{now}
 use Rattle.records_refusals.proofs.RoomLaws.{series-read}
-use Rattle.records_archiving.proofs.ArchivingLaws.{other-lent, reader-refuses}
+use Rattle.records_archiving.proofs.ArchivingLaws.{reader-refuses}
 use borrow.Author.Needs.{needs}
 use Rattle.records_archiving.proofs.archive_series.Statement.{statement}
 use Rattle.records_archiving.proofs.archive_series.Tie as tie
-
-returns : tie.Need-returns
-returns c =
-    let a = c .before .before .before .before .before .before .before .args in
-    other-lent (a .limit) (a .c) (now (a .s)) (now (a .archive)) (c .if1 .taken)
 
 refusal-requires : tie.Need-refusal-requires
 refusal-requires c κs = search needs
@@ -20,17 +15,17 @@ same-length c = search needs
 same-length-2 : tie.Need-same-length-2
 same-length-2 c = search needs
 
-returns-2 : tie.Need-returns-2
-returns-2 c =
-    let a = c .before .before .before .before .before .before .before .before .before .before .before .before .before .before .before .args in
-    reader-refuses (a .limit) (a .c) (now (a .s)) (now (a .archive)) (c .before .before .before .before .before .before .before .before .if1 .left) _ (c .before .before .before .before .before .refusal .ensures .0) (c .if2 .taken)
+returns : tie.Need-returns
+returns c =
+    let a = c .before .before .before .before .before .before .before .before .before .before .before .before .before .before .args in
+    reader-refuses (a .limit) (a .c) (now (a .s)) (now (a .archive)) _ (c .before .before .before .before .before .refusal .ensures .0) (c .if1 .taken)
 
 adjust-and-put-requires : tie.Need-adjust-and-put-requires
 adjust-and-put-requires c κs =
-    let a = c .before .before .before .before .before .before .before .before .before .before .before .before .before .before .before .before .before .before .before .args in
-    let g = c .before .before .before .before .before .before .before .before .before .before .before .before .before .before .before .before .before .before .before .pre in
+    let a = c .before .before .before .before .before .before .before .before .before .before .before .before .before .before .before .before .before .before .args in
+    let g = c .before .before .before .before .before .before .before .before .before .before .before .before .before .before .before .before .before .before .pre in
     let r = c .before .before .before .before .before .before .before .before .before .refusal .ensures in
-    ((series-read (a .limit) (now (a .s)) (now (a .flags)) (now (a .sheet)) _ _ (g .0) (r .0) (c .before .before .before .before .if2 .left) (r .1), c .before .before .before .before .before .before .before .before .before .before .before .before .if1 .left), (g .1, g .2))
+    ((series-read (a .limit) (now (a .s)) (now (a .flags)) (now (a .sheet)) _ _ (g .0) (r .0) (c .before .before .before .before .if1 .left) (r .1), g .3), (g .1, g .2))
 
 same-length-3 : tie.Need-same-length-3
 same-length-3 c = search needs
@@ -47,22 +42,21 @@ same-length-6 c = search needs
 same-length-7 : tie.Need-same-length-7
 same-length-7 c = search needs
 
-returns-3 : tie.Need-returns-3
-returns-3 c = search needs
+returns-2 : tie.Need-returns-2
+returns-2 c = search needs
 
 pub archive-series-spec : {M : Type 1} → statement M
 archive-series-spec =
     tie.close
     (tie.spec
-    returns
     refusal-requires
     same-length
     same-length-2
-    returns-2
+    returns
     adjust-and-put-requires
     same-length-3
     same-length-4
     same-length-5
     same-length-6
     same-length-7
-    returns-3)
+    returns-2)

@@ -1,44 +1,53 @@
 -- `records_archiving::archive_with` meets its contract.
-use native.Mathlib.Omega.{arith}
-use mathlib.Core.Path.{refl}
-use lib.Ieee.{ofBits}
-use Rattle.records.proofs.Limits.{panel-slots}
+use mathlib.Core.Path.{sym, _∙_}
+use denote.Ref.{now}
+use Rattle.records.proofs.CutoffLaws.{table-length}
+use Rattle.records_archiving.proofs.ArchivingLaws.{other-lent, refused-table, own-call}
 use borrow.Author.Needs.{needs}
 use Rattle.records_archiving.proofs.archive_with.Statement.{statement}
 use Rattle.records_archiving.proofs.archive_with.Tie as tie
+use Rattle.records_archiving.proofs.archive_with.Reads as reads
+use Rattle.records_archiving.proofs.archive_with.Lts as lts
+use Rattle.records_archiving.proofs.archive_panel.Reads as archive-panel-reads
+use Rattle.records_cutoffs.proofs.bad_table.Reads as bad-table-reads
+use Rattle.records_cutoffs.proofs.cutoffs_in.Reads as cutoffs-in-reads
 
-slice-aggregate-archive-series : tie.Need-slice-aggregate-archive-series
-slice-aggregate-archive-series c = search needs
+returns : tie.Need-returns
+returns c =
+    let a = c .before .before .before .before .args in
+    other-lent (now (a .table)) (now (a .records)) (now (a .archive)) (c .if1 .taken)
 
-slice-aggregate-archive-series-2 : tie.Need-slice-aggregate-archive-series-2
-slice-aggregate-archive-series-2 c = search needs
+bad-table-requires : tie.Need-bad-table-requires
+bad-table-requires c κs = search needs
 
-slice-aggregate-archive-series-3 : tie.Need-slice-aggregate-archive-series-3
-slice-aggregate-archive-series-3 c = search needs
+returns-2 : tie.Need-returns-2
+returns-2 c =
+    let a = c .before .before .before .before .before .before .args in
+    refused-table (now (a .table)) (now (a .records)) (now (a .archive)) (c .before .before .if1 .left) (sym (c .before .bad-table .ensures) ∙ c .if2 .taken)
 
-slice-aggregate-archive-series-4 : tie.Need-slice-aggregate-archive-series-4
-slice-aggregate-archive-series-4 c = search needs
+cutoffs-in-requires : tie.Need-cutoffs-in-requires
+cutoffs-in-requires c κs = table-length (now (c .before .before .before .before .before .before .args .table)) (sym (c .before .bad-table .ensures) ∙ c .if2 .left)
 
-archive-series-requires : tie.Need-archive-series-requires
-unfolding ofBits
-archive-series-requires c κs =
-    let e = panel-slots in
-    (record { some = omega arith; most = omega arith; clear = refl; blank = refl; flagged = omega arith; written = omega arith }, omega arith, omega arith)
+archive-panel-requires : tie.Need-archive-panel-requires
+archive-panel-requires c κs = search needs
 
 same-length : tie.Need-same-length
 same-length c = search needs
 
-returns : tie.Need-returns
-returns c = search needs
+returns-3 : tie.Need-returns-3
+returns-3 c =
+    let a = c .before .before .before .before .before .before .before .before .before .before .before .args in
+    let f = c .before .before .archive-panel .ensures in
+    own-call (now (a .table)) (now (a .records)) (now (a .archive)) (c .before .before .before .before .before .before .before .if1 .left) (sym (c .before .before .before .before .before .before .bad-table .ensures) ∙ c .before .before .before .before .before .if2 .left) _ (c .before .before .before .before .cutoffs-in .ensures) _ _ (f .0) (f .1)
 
 pub archive-with-spec : {M : Type 1} → statement M
 archive-with-spec =
     tie.close
     (tie.spec
-    slice-aggregate-archive-series
-    slice-aggregate-archive-series-2
-    slice-aggregate-archive-series-3
-    slice-aggregate-archive-series-4
-    archive-series-requires
+    returns
+    bad-table-requires
+    returns-2
+    cutoffs-in-requires
+    archive-panel-requires
     same-length
-    returns)
+    returns-3)

@@ -1,31 +1,38 @@
 -- `records_ddf::call` meets its contract.
-use mathlib.Core.Path.{ap, _∙_}
+use mathlib.Core.Path.{sym, _∙_}
 use denote.Ref.{now}
-use Rattle.arithmetic_cutoffs.specs.declared.Cutoffs.{Cutoffs}
-use Rattle.records.specs.SatterthwaiteCall.{returned, written}
+use Rattle.records.specs.CutoffTable.{builtInTable}
+use Rattle.records.proofs.CutoffLaws.{built-in-accepted, built-in-numbers}
+use Rattle.records_ddf.proofs.Judged.{other-answer, own-call}
 use borrow.Author.Needs.{needs}
 use Rattle.records_ddf.proofs.call.Statement.{statement}
 use Rattle.records_ddf.proofs.call.Tie as tie
+use Rattle.records_ddf.proofs.call.Reads as reads
+use Rattle.records_ddf.proofs.call.Lts as lts
+use Rattle.arithmetic_cutoffs.proofs.document_cutoffs.Reads as document-cutoffs-reads
+use Rattle.records_ddf.proofs.fill_entry.Reads as fill-entry-reads
 
--- src/lib.rt:120:15
+returns : tie.Need-returns
+returns c =
+    let a = c .before .before .before .args in
+    other-answer builtInTable (now (a .records)) (now (a .answer)) (c .if1 .taken)
+
 document-cutoffs-requires : tie.Need-document-cutoffs-requires
 document-cutoffs-requires c κs = search needs
 
--- src/lib.rt:120:5
-call-with-requires : tie.Need-call-with-requires
-call-with-requires c κs = search needs
+fill-entry-requires : tie.Need-fill-entry-requires
+fill-entry-requires c κs = search needs
 
--- src/lib.rt:116:1
 same-length : tie.Need-same-length
 same-length c = search needs
 
--- src/lib.rt:116:1
-returns : tie.Need-returns
-returns c =
-    let a = c .before .before .before .before .before .before .before .args in
-    let d = c .before .before .before .before .document-cutoffs .ensures in
-    let e = c .before .before .call-with .ensures in
-    (e .0 ∙ ap (λ (k : Cutoffs). returned k (now (a .records)) (now (a .answer))) d, e .1 ∙ ap (λ (k : Cutoffs). written k (now (a .records)) (now (a .answer))) d)
+returns-2 : tie.Need-returns-2
+returns-2 c =
+    let a = c .before .before .before .before .before .before .before .before .args in
+    let f = c .before .before .fill-entry .ensures in
+    own-call builtInTable (now (a .records)) (now (a .answer)) (c .before .before .before .before .before .if1 .left) built-in-accepted _ (c .before .before .before .before .document-cutoffs .ensures ∙ sym built-in-numbers) _ _ (f .0) (f .1)
 
 pub call-spec : {M : Type 1} → statement M
-call-spec = tie.close (tie.spec document-cutoffs-requires call-with-requires same-length returns)
+call-spec =
+    tie.close
+    (tie.spec returns document-cutoffs-requires fill-entry-requires same-length returns-2)

@@ -1,36 +1,53 @@
 -- `records_ddf::call_with` meets its contract.
-use mathlib.Core.Path.{_∙_}
-use Rattle.records_ddf.proofs.Judged.{other-length, call-refused, call-filled}
+use mathlib.Core.Path.{sym, _∙_}
+use denote.Ref.{now}
+use Rattle.records.proofs.CutoffLaws.{table-length}
+use Rattle.records_ddf.proofs.Judged.{other-answer, refused-table, own-call}
 use borrow.Author.Needs.{needs}
 use Rattle.records_ddf.proofs.call_with.Statement.{statement}
 use Rattle.records_ddf.proofs.call_with.Tie as tie
+use Rattle.records_ddf.proofs.call_with.Reads as reads
+use Rattle.records_ddf.proofs.call_with.Lts as lts
+use Rattle.records_cutoffs.proofs.bad_table.Reads as bad-table-reads
+use Rattle.records_cutoffs.proofs.cutoffs_in.Reads as cutoffs-in-reads
+use Rattle.records_ddf.proofs.fill_entry.Reads as fill-entry-reads
 
--- src/lib.rt:104:9
 returns : tie.Need-returns
-returns c = other-length _ _ _ (c .if1 .taken)
+returns c =
+    let a = c .before .before .before .before .args in
+    other-answer (now (a .table)) (now (a .records)) (now (a .answer)) (c .if1 .taken)
 
--- src/lib.rt:107:9
-judge-requires : tie.Need-judge-requires
-judge-requires c κs = search needs
+bad-table-requires : tie.Need-bad-table-requires
+bad-table-requires c κs = search needs
 
--- src/lib.rt:109:9
 returns-2 : tie.Need-returns-2
-returns-2 c = call-refused _ _ _ _ (c .before .before .before .if1 .left) (c .before .judge .ensures .1) (c .if2 .taken)
+returns-2 c =
+    let a = c .before .before .before .before .before .before .args in
+    refused-table (now (a .table)) (now (a .records)) (now (a .answer)) (c .before .before .if1 .left) (sym (c .before .bad-table .ensures) ∙ c .if2 .taken)
 
--- src/lib.rt:111:5
-put-entry-requires : tie.Need-put-entry-requires
-put-entry-requires c κs = search needs
+cutoffs-in-requires : tie.Need-cutoffs-in-requires
+cutoffs-in-requires c κs = table-length (now (c .before .before .before .before .before .before .args .table)) (sym (c .before .bad-table .ensures) ∙ c .if2 .left)
 
--- src/lib.rt:99:1
+fill-entry-requires : tie.Need-fill-entry-requires
+fill-entry-requires c κs = search needs
+
 same-length : tie.Need-same-length
 same-length c = search needs
 
--- src/lib.rt:99:1
 returns-3 : tie.Need-returns-3
 returns-3 c =
-    let f = call-filled _ _ _ _ _ (c .before .before .before .before .before .before .before .if1 .left) (c .before .before .before .before .before .judge .ensures .1) (c .before .before .before .before .if2 .left) (c .before .before .before .before .before .judge .ensures .0) in
-    (f .0, c .before .before .put-entry .ensures ∙ f .1)
+    let a = c .before .before .before .before .before .before .before .before .before .before .before .args in
+    let f = c .before .before .fill-entry .ensures in
+    own-call (now (a .table)) (now (a .records)) (now (a .answer)) (c .before .before .before .before .before .before .before .if1 .left) (sym (c .before .before .before .before .before .before .bad-table .ensures) ∙ c .before .before .before .before .before .if2 .left) _ (c .before .before .before .before .cutoffs-in .ensures) _ _ (f .0) (f .1)
 
 pub call-with-spec : {M : Type 1} → statement M
 call-with-spec =
-    tie.close (tie.spec returns judge-requires returns-2 put-entry-requires same-length returns-3)
+    tie.close
+    (tie.spec
+    returns
+    bad-table-requires
+    returns-2
+    cutoffs-in-requires
+    fill-entry-requires
+    same-length
+    returns-3)

@@ -1,31 +1,38 @@
 -- `records_kenward_roger::call` meets its contract.
-use mathlib.Core.Path.{ap, _∙_}
+use mathlib.Core.Path.{sym, _∙_}
 use denote.Ref.{now}
-use Rattle.arithmetic_cutoffs.specs.declared.Cutoffs.{Cutoffs}
-use Rattle.records.specs.KenwardRogerCall.{returned, written}
+use Rattle.records.specs.CutoffTable.{builtInTable}
+use Rattle.records.proofs.CutoffLaws.{built-in-accepted, built-in-numbers}
+use Rattle.records_kenward_roger.proofs.Numbers.{other-answer, own-call}
 use borrow.Author.Needs.{needs}
 use Rattle.records_kenward_roger.proofs.call.Statement.{statement}
 use Rattle.records_kenward_roger.proofs.call.Tie as tie
 use Rattle.records_kenward_roger.proofs.call.Reads as reads
 use Rattle.records_kenward_roger.proofs.call.Lts as lts
 use Rattle.arithmetic_cutoffs.proofs.document_cutoffs.Reads as document-cutoffs-reads
-use Rattle.records_kenward_roger.proofs.call_with.Reads as call-with-reads
+use Rattle.records_kenward_roger.proofs.fill_answer.Reads as fill-answer-reads
+
+returns : tie.Need-returns
+returns c =
+    let a = c .before .before .before .args in
+    other-answer builtInTable (now (a .records)) (now (a .answer)) (c .if1 .taken)
 
 document-cutoffs-requires : tie.Need-document-cutoffs-requires
 document-cutoffs-requires c κs = search needs
 
-call-with-requires : tie.Need-call-with-requires
-call-with-requires c κs = search needs
+fill-answer-requires : tie.Need-fill-answer-requires
+fill-answer-requires c κs = search needs
 
 same-length : tie.Need-same-length
 same-length c = search needs
 
-returns : tie.Need-returns
-returns c =
-    let a = c .before .before .before .before .before .before .before .args in
-    let e = c .before .before .before .before .document-cutoffs .ensures in
-    let r = c .before .before .call-with .ensures in
-    (r .0 ∙ ap (λ (x : Cutoffs). returned 24 x (now (a .records)) (now (a .answer))) e, r .1 ∙ ap (λ (x : Cutoffs). written 24 x (now (a .records)) (now (a .answer))) e)
+returns-2 : tie.Need-returns-2
+returns-2 c =
+    let a = c .before .before .before .before .before .before .before .before .args in
+    let f = c .before .before .fill-answer .ensures in
+    own-call builtInTable (now (a .records)) (now (a .answer)) (c .before .before .before .before .before .if1 .left) built-in-accepted _ (c .before .before .before .before .document-cutoffs .ensures ∙ sym built-in-numbers) _ _ (f .0) (f .1)
 
 pub call-spec : {M : Type 1} → statement M
-call-spec = tie.close (tie.spec document-cutoffs-requires call-with-requires same-length returns)
+call-spec =
+    tie.close
+    (tie.spec returns document-cutoffs-requires fill-answer-requires same-length returns-2)

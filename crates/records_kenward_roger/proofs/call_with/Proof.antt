@@ -1,39 +1,53 @@
 -- `records_kenward_roger::call_with` meets its contract.
+use mathlib.Core.Path.{sym, _∙_}
 use denote.Ref.{now}
-use Rattle.records_kenward_roger.proofs.Numbers.{other-length, refused-call, accepted-call}
+use Rattle.records.proofs.CutoffLaws.{table-length}
+use Rattle.records_kenward_roger.proofs.Numbers.{other-answer, refused-table, own-call}
 use borrow.Author.Needs.{needs}
 use Rattle.records_kenward_roger.proofs.call_with.Statement.{statement}
 use Rattle.records_kenward_roger.proofs.call_with.Tie as tie
 use Rattle.records_kenward_roger.proofs.call_with.Reads as reads
 use Rattle.records_kenward_roger.proofs.call_with.Lts as lts
-use Rattle.records_answer_bytes.proofs.put_answer.Reads as put-answer-reads
-use Rattle.records_kenward_roger.proofs.judge_panel.Reads as judge-panel-reads
+use Rattle.records_cutoffs.proofs.bad_table.Reads as bad-table-reads
+use Rattle.records_cutoffs.proofs.cutoffs_in.Reads as cutoffs-in-reads
+use Rattle.records_kenward_roger.proofs.fill_answer.Reads as fill-answer-reads
 
 returns : tie.Need-returns
 returns c =
-    let a = c .before .before .before .args in
-    other-length 24 (a .c) (now (a .records)) (now (a .answer)) (c .if1 .taken)
+    let a = c .before .before .before .before .args in
+    other-answer (now (a .table)) (now (a .records)) (now (a .answer)) (c .if1 .taken)
 
-judge-panel-requires : tie.Need-judge-panel-requires
-judge-panel-requires c κs = search needs
+bad-table-requires : tie.Need-bad-table-requires
+bad-table-requires c κs = search needs
 
 returns-2 : tie.Need-returns-2
 returns-2 c =
-    let a = c .before .before .before .before .before .before .before .before .args in
-    refused-call 24 (a .c) (now (a .records)) (now (a .answer)) (c .before .before .before .before .before .if1 .left) _ (c .before .judge-panel .ensures .1 .0) (c .if2 .taken)
+    let a = c .before .before .before .before .before .before .args in
+    refused-table (now (a .table)) (now (a .records)) (now (a .answer)) (c .before .before .if1 .left) (sym (c .before .bad-table .ensures) ∙ c .if2 .taken)
 
-put-answer-requires : tie.Need-put-answer-requires
-put-answer-requires c κs = search needs
+cutoffs-in-requires : tie.Need-cutoffs-in-requires
+cutoffs-in-requires c κs = table-length (now (c .before .before .before .before .before .before .args .table)) (sym (c .before .bad-table .ensures) ∙ c .if2 .left)
+
+fill-answer-requires : tie.Need-fill-answer-requires
+fill-answer-requires c κs = search needs
 
 same-length : tie.Need-same-length
 same-length c = search needs
 
 returns-3 : tie.Need-returns-3
 returns-3 c =
-    let a = c .before .before .before .before .before .before .before .before .before .before .before .before .args in
-    accepted-call 24 (a .c) (now (a .records)) (now (a .answer)) (c .before .before .before .before .before .before .before .before .before .if1 .left) _ (c .before .before .before .before .before .judge-panel .ensures .1 .0) (c .before .before .before .before .if2 .left) _ (c .before .before .before .before .before .judge-panel .ensures .0) _ (c .before .before .put-answer .ensures)
+    let a = c .before .before .before .before .before .before .before .before .before .before .before .args in
+    let f = c .before .before .fill-answer .ensures in
+    own-call (now (a .table)) (now (a .records)) (now (a .answer)) (c .before .before .before .before .before .before .before .if1 .left) (sym (c .before .before .before .before .before .before .bad-table .ensures) ∙ c .before .before .before .before .before .if2 .left) _ (c .before .before .before .before .cutoffs-in .ensures) _ _ (f .0) (f .1)
 
 pub call-with-spec : {M : Type 1} → statement M
 call-with-spec =
     tie.close
-    (tie.spec returns judge-panel-requires returns-2 put-answer-requires same-length returns-3)
+    (tie.spec
+    returns
+    bad-table-requires
+    returns-2
+    cutoffs-in-requires
+    fill-answer-requires
+    same-length
+    returns-3)

@@ -1,0 +1,2 @@
+-- The laws that the checks of a table's records cite.
+pub mod CutoffChecks
