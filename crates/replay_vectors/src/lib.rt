@@ -1,6 +1,7 @@
 // Replays a list of vectors: reads it from standard input and prints each line again with this library's own answer, so that what it prints is what it has read.
 // A line is a file in hexadecimal digits (`-` for an empty file), one blank, and what `pulltest` prints of it with `|` for each newline; of a Satterthwaite file, the one `test` line; of a series that is archived, its
-// archive in digits and what the test from it prints. A test from an archive has two files, the archive and the second file, with a comma between.
+// archive in digits and what the test from it prints. A test from an archive has two files, the archive and the second file, with a comma between. A
+// line with a lab's table is replay_with_table's.
 ghost use Prim.Native.Nat.{_+_, _<_, _≤_};
 ghost use lib.ListN.{length};
 ghost use Rattle.records.specs.File.{count};
@@ -151,27 +152,16 @@ fn print_answer(call: usize, file: &[u8]) {
     print_kenward_roger(file);
 }
 
-// Where the first of the n digits that is a comma stands; n where none is.
-fn comma_in(digits: &[u8], n: usize) -> usize
-    requires { ⌜ n ≤ length (now digits) ⌝ }
-    ensures { λ r. ⌜ r ≤ n ⌝ }
-{
-    let mut i = 0;
-    while i < n {
-        if digits[i] == 44 {
-            return i;
-        }
-        i += 1;
-    }
-    n
-}
-
 // The answer to the file, or to the two files, that the n digits of a line spell.
 fn print_files(call: usize, digits: &[u8], n: usize)
     requires { ⌜ (n ≤ length (now digits)) × (n ≤ 32768) ⌝ }
 {
+    if call == 3 {
+        replay_with_table::print_with(digits, n);
+        return;
+    }
     let mut file = [0u8; 16384];
-    let end = comma_in(digits, n);
+    let end = table_bits_text::comma_in(digits, n);
     let bytes = end / 2;
     table_bits_text::spell(digits, bytes, &mut file);
     if end < n {
@@ -233,7 +223,7 @@ fn next_part(call: usize, digits: &mut [u8; 32768], held: usize) -> usize
     take_all(call, &part[..n], digits, held)
 }
 
-// Replays the list on standard input, of at most 16 MiB, by one of the calls: 2 is the archive's writer with a test from what it wrote, 1 Satterthwaite's, any other Kenward and Roger's. A line with a comma is a test from
+// Replays the list on standard input, of at most 16 MiB, by one of the calls: 3 is any call with a lab's table, as the line says, 2 is the archive's writer with a test from what it wrote, 1 Satterthwaite's, any other Kenward and Roger's. A line with a comma is a test from
 // an archive in each.
 pub fn replay(call: usize) {
     let mut digits = [0u8; 32768];

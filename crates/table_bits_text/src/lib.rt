@@ -80,3 +80,18 @@ pub fn print_bytes(bytes: &[u8]) {
         print_byte(bytes[i]);
     }
 }
+
+// Where the first of the n digits that is a comma stands; n where none is.
+pub fn comma_in(digits: &[u8], n: usize) -> usize
+    requires { ⌜ n ≤ length (now digits) ⌝ }
+    ensures { λ r. ⌜ r ≤ n ⌝ }
+{
+    let mut i = 0;
+    while i < n {
+        if digits[i] == 44 {
+            return i;
+        }
+        i += 1;
+    }
+    n
+}

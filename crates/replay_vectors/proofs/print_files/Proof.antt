@@ -5,6 +5,12 @@ use borrow.Author.Needs.{needs}
 use Rattle.replay_vectors.proofs.print_files.Statement.{statement}
 use Rattle.replay_vectors.proofs.print_files.Tie as tie
 
+print-with-requires : tie.Need-print-with-requires
+print-with-requires c κs = search needs
+
+returns : tie.Need-returns
+returns c = search needs
+
 comma-in-requires : tie.Need-comma-in-requires
 comma-in-requires c κs = search needs
 
@@ -35,8 +41,8 @@ part-print-pair-end c = search needs
 print-pair-requires : tie.Need-print-pair-requires
 print-pair-requires c κs = search needs
 
-returns : tie.Need-returns
-returns c = search needs
+returns-2 : tie.Need-returns-2
+returns-2 c = search needs
 
 array-share-prefix-file-2 : tie.Need-array-share-prefix-file-2
 array-share-prefix-file-2 c = search needs
@@ -47,13 +53,15 @@ slice-aggregate-print-answer c = sym (length-take-le _ (c .before .before .befor
 print-answer-requires : tie.Need-print-answer-requires
 print-answer-requires c κs = search needs
 
-returns-2 : tie.Need-returns-2
-returns-2 c = search needs
+returns-3 : tie.Need-returns-3
+returns-3 c = search needs
 
 pub print-files-spec : {M : Type 1} → statement M
 print-files-spec =
     tie.close
     (tie.spec
+    print-with-requires
+    returns
     comma-in-requires
     slice-aggregate-spell
     spell-requires
@@ -64,8 +72,8 @@ print-files-spec =
     part-print-pair-start
     part-print-pair-end
     print-pair-requires
-    returns
+    returns-2
     array-share-prefix-file-2
     slice-aggregate-print-answer
     print-answer-requires
-    returns-2)
+    returns-3)

@@ -1,8 +1,8 @@
--- `replay_vectors::comma_in` meets its contract.
+-- `table_bits_text::comma_in` meets its contract.
 use Prim.Native.Nat.{_≤_, _-_}
 use borrow.Author.Needs.{needs}
-use Rattle.replay_vectors.proofs.comma_in.Statement.{statement}
-use Rattle.replay_vectors.proofs.comma_in.Tie as tie
+use Rattle.table_bits_text.proofs.comma_in.Statement.{statement}
+use Rattle.table_bits_text.proofs.comma_in.Tie as tie
 
 abbrev Inv-loop : tie.InvT-loop
 Inv-loop digits n i₀ i = i ≤ n
