@@ -1,5 +1,5 @@
 #!/usr/bin/env python3
-"""Writes the example series of this folder as record files (16 bytes a record, rising; see ../README.md).
+"""Writes the example series of this folder as record files (16 bytes a record, rising; see ../README.md), and two tables of cutoffs.
 
     python3 make.py
 
@@ -132,6 +132,24 @@ TWO_ROWS = fitted("sleepstudy-rows-df-4")
 DECADES = fitted("units-seconds-decades")
 
 
+# The small numbers that the panel has built in, by their rows in a table (../docs/CHEMIST.md says what each is).
+BUILT_IN = [1e-15, 1e-10, 1e-10, 1e-12, 1e-2, 1e-10, 1e-8, 2.0 ** -100, 3000.0]
+
+
+def table(values):
+    """A table of cutoffs: nine records of kind 20 with the rows 0 to 8."""
+    return b"".join(record(20, row, 0, value) for row, value in enumerate(values))
+
+
+def changed(row, value):
+    """The built-in values, that of one row another."""
+    return BUILT_IN[:row] + [value] + BUILT_IN[row + 1:]
+
+
+# IE of decades.rec has the smallest eigenvalue 3.4e-12: with row 5 below it nothing joins its diagonal, and the df of the slope is pbkrtest's 5.
+TABLES = (("built-in", BUILT_IN), ("decades", changed(5, 1e-13)))
+
+
 def rises(data):
     """Each record stands before the next: by kind, then row and column. A series of the Kenward-Roger call has no kind 31, which goes by its count before them."""
     keys = [data[i:i + 3] for i in range(0, len(data), 16)]
@@ -151,3 +169,7 @@ for name, data in (
     assert rises(data), name
     with open(f"{name}.rec", "wb") as f:
         f.write(data)
+
+for name, values in TABLES:
+    with open(f"{name}.table", "wb") as f:
+        f.write(table(values))

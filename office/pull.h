@@ -20,9 +20,13 @@ extern "C" {
 #define PULL_KENWARD_ROGER_BYTES 168u /* seven entries */
 #define PULL_ARCHIVE_BYTES 7184u      /* the longest archive */
 
-/* What a call returns: 0, or the number of the refusal; pull_archive returns
- * the archive's length where it accepts, at least 128, which is no refusal's
- * number. Where several refusals apply it is the first of these:
+/* The length of a table of cutoffs: nine records. */
+#define PULL_TABLE_BYTES 144u
+
+/* What a call returns: 0, or the number of the refusal; pull_archive and
+ * pull_archive_with return the archive's length where they accept, at least 128,
+ * which is no refusal's number. Where several refusals apply it is the first of
+ * these:
  *
  *   pull_kenward_roger: 1; 2 for records_length; 12; 2 for any of its other
  *     reasons; 13; 3; 4 of an input; 5; 6; 7; 8; 9 and 10 of the covariance
@@ -33,10 +37,13 @@ extern "C" {
  *     those in residual units, scaled; then of the second file 2 for its
  *     length; 12; 2 for any of its other reasons; 4; 8; then 10 of a test
  *   pull_satterthwaite: 1; 2 for records_length; 12; 2 for any of its other
- *     reasons; 4; 11 */
+ *     reasons; 4; 11
+ *   pull_kenward_roger_with, pull_archive_with, pull_archive_test_with and
+ *     pull_satterthwaite_with: 1; 14; then as the call without a table */
 enum pull_number {
     PULL_ACCEPTED = 0,
-    PULL_LENGTH = 1,        /* answer_length (of pull_archive: archive_length) is not the stated one */
+    PULL_LENGTH = 1,        /* answer_length (of the two that write an archive: archive_length) is
+                               not the stated one */
     PULL_RECORDS = 2,       /* a file's length not a multiple of 16, bad kind, nonzero unused field,
                                index past a limit, cell twice (a block with two k's), missing or
                                beyond the sizes; in an archive also a record in response units whose
@@ -55,7 +62,10 @@ enum pull_number {
                                not finite or <= 0 */
     PULL_ORDER = 12,        /* a record that does not stand before the next one, as the records
                                argument says; so also any other cell twice */
-    PULL_PARAMETER_COUNT = 13 /* a block whose written number is not k(k+1)/2 */
+    PULL_PARAMETER_COUNT = 13, /* a block whose written number is not k(k+1)/2 */
+    PULL_TABLE = 14         /* a table of cutoffs that is none, as the last part of this header says:
+                               of another length, with other or other-ordered records, with a value
+                               not finite or not above zero, or with a cap not above 2 */
 };
 
 /* One series by Kenward-Roger: each coefficient alone, then the contrast if
@@ -202,6 +212,71 @@ uint32_t pull_archive(const uint8_t *records, size_t records_length,
 uint32_t pull_archive_test(const uint8_t *archive, size_t archive_length,
                            const uint8_t *tests, size_t tests_length,
                            uint8_t *answer, size_t answer_length);
+
+/* The lab's own cutoffs. Each of the four functions above has a form that takes
+ * the small numbers at which the tests decide from a table; the function above is
+ * the same with the built-in table.
+ *
+ * table         the table: nine records of 16 bytes, of kind 20 (byte 0), with the
+ *               rows 0 to 8 (byte 1) in this order. Bytes 2 to 7 are zero, bytes 8
+ *               to 15 hold the bits of an f64, little-endian: finite and above zero
+ *               (a subnormal is, +0 and -0 are not), that of row 8 above 2. Any
+ *               other table is refused with PULL_TABLE, after PULL_LENGTH and
+ *               before anything of the other files is looked at; a table out of
+ *               order too, so that no table is refused with 12. Read, never
+ *               written.
+ * table_length  the number of bytes at table. Any other than PULL_TABLE_BYTES is
+ *               refused with PULL_TABLE.
+ *
+ *   row  built in  what it is
+ *   0    1e-15     a Kenward-Roger test of several rows: where |a2| is not above it
+ *                  g is 0; where |d| is not above it c1 is 0
+ *   1    1e-10     there too: V0 and V2 below it in magnitude become 0
+ *   2    1e-10     there too: a quotient whose denominator, V1 or V2, is below it in
+ *                  magnitude is 0
+ *   3    1e-12     there too: where |q rho - 1| is not above it df is none
+ *   4    1e-2      there too: where |df - 2| is below it F is not scaled
+ *   5    1e-10     the covariance adjustment: where the smallest eigenvalue of IE is
+ *                  not above it in magnitude, the next one joins IE's diagonal
+ *   6    1e-8      what then joins each cell of IE's diagonal
+ *   7    2^-100    the Jacobi sweeps of IE, and of the covariance V of a
+ *                  Satterthwaite contrast of several rows: a pair is rotated where
+ *                  the square of its cell is above this factor times the product of
+ *                  the two diagonal cells
+ *   8    3000      a Satterthwaite test of several rows: a component's df above it
+ *                  becomes it
+ *
+ * The rows 0 to 4 show in a test of one row only where a2 is not above zero or not
+ * finite. 2^-52, of the rank of a contrast, and the 1e-8 within which components of
+ * df count as equal stand fast.
+ *
+ * Of the nine only the factor of row 7 stands in steps that the mark looks at, those
+ * of V's sweeps: with a binary exponent outside -800 to 800, or where its product
+ * with the two diagonal cells leaves that range or is lost to zero, such a test is
+ * outside as soon as one pair is looked at. A V whose cells off the diagonal are all
+ * zero has none, and stays inside.
+ *
+ * The other arguments, the answer and the refusals are those of the function without
+ * a table, with PULL_TABLE besides. The table may not overlap the bytes that are
+ * written; its pointer is not NULL even where table_length is 0. A test from an
+ * archive is the direct call's where the archive, the test and the direct call have
+ * one table: an archive does not tell its table. */
+uint32_t pull_kenward_roger_with(const uint8_t *table, size_t table_length,
+                                 const uint8_t *records, size_t records_length,
+                                 uint8_t *answer, size_t answer_length);
+
+uint32_t pull_satterthwaite_with(const uint8_t *table, size_t table_length,
+                                 const uint8_t *records, size_t records_length,
+                                 uint8_t *answer, size_t answer_length);
+
+uint32_t pull_archive_with(const uint8_t *table, size_t table_length,
+                           const uint8_t *records, size_t records_length,
+                           uint8_t *archive, size_t archive_length);
+
+uint32_t pull_archive_test_with(const uint8_t *table, size_t table_length,
+                                const uint8_t *archive, size_t archive_length,
+                                const uint8_t *tests, size_t tests_length,
+                                uint8_t *answer, size_t answer_length);
 
 #ifdef __cplusplus
 }

@@ -213,7 +213,7 @@ fn report_pair(pair: &Pair, plan: &Plan) {
 }
 
 /// The numbers, and each part of so many bytes that differs.
-fn describe(panel: &Outcome, other: &Result<Outcome, String>, part: usize) -> String {
+pub(crate) fn describe(panel: &Outcome, other: &Result<Outcome, String>, part: usize) -> String {
     let other = match other {
         Ok(other) => other,
         Err(text) => {

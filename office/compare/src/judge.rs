@@ -1,6 +1,7 @@
 //! One file through the panel and through the oracle.
 
 use oracle::calls::{both_runs, entry_bytes, satterthwaite_fill, series_to_run, ENTRY, KR_ANSWER};
+use reader::cutoffs::Cutoffs;
 use reader::tries::Call;
 use std::panic::{catch_unwind, AssertUnwindSafe};
 
@@ -57,7 +58,7 @@ fn kenward_roger(file: &[u8]) -> Result<Outcome, String> {
         Ok(series) => series,
         Err(number) => return Ok(refused(number)),
     };
-    Ok(match both_runs(&series)? {
+    Ok(match both_runs(&Cutoffs::BUILT_IN, &series)? {
         Err(number) => refused(number),
         Ok(runs) => {
             Outcome { number: 0, answer: runs.entries().iter().flat_map(entry_bytes).collect() }

@@ -6,6 +6,7 @@
 //! - `shrink`: a smaller file that differs in the same manner.
 //! - `live`: the comparison of many files, and its summary.
 //! - `archive`: the same for the archive's two functions.
+//! - `tables`: the same for the four functions that take a table of cutoffs.
 //! - `torn`: how many of the files had torn specimens.
 //! - `numbers`: how many of the files had blocks, and wrong numbers in them.
 
@@ -15,4 +16,5 @@ pub mod judge;
 pub mod live;
 pub mod numbers;
 pub mod shrink;
+pub mod tables;
 pub mod torn;

@@ -20,6 +20,8 @@ pub struct Plan {
     pub files: usize,
     /// Series that are archived, and tested from their archives.
     pub archives: usize,
+    /// Cases with a table for each of the four calls.
+    pub tables: usize,
     pub seed: u64,
     /// One family alone.
     pub family: Option<String>,

@@ -4,6 +4,8 @@ use compare::archive;
 use compare::cases::{families, file, name, CALLS};
 use compare::judge::{describe, manner};
 use compare::live::{report, run, Plan};
+use compare::tables;
+use reader::table_vectors::{TableCall, TABLE_CALLS};
 use reader::tries::Call;
 use std::path::{Path, PathBuf};
 use std::process::ExitCode;
@@ -13,6 +15,8 @@ const USAGE: &str = "usage: compare [FLAGS]
                      (usually 27000 each), shared among the families
   --archives N       series that are archived and tested from their archives, with two
                      pairs of damaged files beside each (usually 20000)
+  --tables N         cases with a table of cutoffs for each of the four calls that take
+                     one (usually 10000)
   --seed S           another seed (usually 1)
   --family NAME      one family alone
   --untorn           pass over files with torn specimens (a weight of zero)
@@ -20,6 +24,7 @@ const USAGE: &str = "usage: compare [FLAGS]
   --trace            print each family and seed before its call
   --case FAMILY SEED one case again, as a difference prints it
   --archive FAMILY SEED  the same for a case of the archive
+  --table-case CALL FAMILY SEED  the same for a case with a table; CALL is k, s, a or t
   --file PATH        a record file
   --satterthwaite    --case and --file: for that call
 ";
@@ -29,6 +34,7 @@ struct Flags {
     branches: bool,
     case: Option<(String, u64)>,
     archive: Option<(String, u64)>,
+    table_case: Option<(TableCall, String, u64)>,
     file: Option<PathBuf>,
     call: Call,
 }
@@ -42,6 +48,7 @@ fn main() -> ExitCode {
     std::panic::set_hook(Box::new(|_| {}));
     let same = match (&flags.case, &flags.file) {
         _ if flags.archive.is_some() => one_archive(&flags),
+        _ if flags.table_case.is_some() => one_table(&flags),
         (Some((family, seed)), _) => {
             single(&flags, &format!("{family}-{seed}"), &file(flags.call, family, *seed))
         }
@@ -66,13 +73,15 @@ fn all(flags: &Flags) -> bool {
     let began = std::time::Instant::now();
     let summary = run(&flags.plan);
     let archives = archive::run(&flags.plan);
+    let tables = tables::run(&flags.plan);
     if flags.branches {
         println!("branches, by the number of files:");
         summary.branches.iter().for_each(|(branch, files)| println!("  {branch}: {files}"));
     }
     println!(
         "{} files ({} with torn specimens, {} refused 13), {} archives ({} of series with torn \
-         specimens; {} series refused 13) and {} other pairs, {} differ; seed {}, {} s",
+         specimens; {} series refused 13) and {} other pairs, {} cases with a table ({} refused \
+         14), {} differ; seed {}, {} s",
         summary.files,
         summary.torn.files,
         summary.numbers.refused_13(),
@@ -80,17 +89,27 @@ fn all(flags: &Flags) -> bool {
         archives.torn.accepted(),
         archives.numbers.refused_13(),
         archives.pairs,
-        summary.failures + archives.failures,
+        tables.cases.values().sum::<usize>(),
+        tables.tables()[1],
+        summary.failures + archives.failures + tables.failures,
         flags.plan.seed,
         began.elapsed().as_secs()
     );
-    summary.failures + archives.failures == 0
+    summary.failures + archives.failures + tables.failures == 0
 }
 
 /// One case of the archive.
 fn one_archive(flags: &Flags) -> bool {
     let (family, seed) = flags.archive.as_ref().expect("asked for");
     let same = archive::one(family, *seed, &flags.plan, &mut archive::Summary::default());
+    println!("{}", if same { "the same" } else { "DIFFERENT" });
+    same
+}
+
+/// One case with a table.
+fn one_table(flags: &Flags) -> bool {
+    let (call, family, seed) = flags.table_case.as_ref().expect("asked for");
+    let same = tables::one(*call, family, *seed, &flags.plan, &mut tables::Summary::default());
     println!("{}", if same { "the same" } else { "DIFFERENT" });
     same
 }
@@ -113,6 +132,7 @@ fn flags(mut words: impl Iterator<Item = String>) -> Option<Flags> {
     let plan = Plan {
         files: 27_000,
         archives: 20_000,
+        tables: 10_000,
         seed: 1,
         family: None,
         untorn: false,
@@ -124,6 +144,7 @@ fn flags(mut words: impl Iterator<Item = String>) -> Option<Flags> {
         branches: false,
         case: None,
         archive: None,
+        table_case: None,
         file: None,
         call: Call::KenwardRoger,
     };
@@ -131,6 +152,7 @@ fn flags(mut words: impl Iterator<Item = String>) -> Option<Flags> {
         match word.as_str() {
             "--files" => flags.plan.files = words.next()?.parse().ok()?,
             "--archives" => flags.plan.archives = words.next()?.parse().ok()?,
+            "--tables" => flags.plan.tables = words.next()?.parse().ok()?,
             "--seed" => flags.plan.seed = words.next()?.parse().ok()?,
             "--family" => flags.plan.family = Some(known_family(words.next()?)?),
             "--branches" => flags.branches = true,
@@ -142,12 +164,22 @@ fn flags(mut words: impl Iterator<Item = String>) -> Option<Flags> {
             "--archive" => {
                 flags.archive = Some((known_family(words.next()?)?, words.next()?.parse().ok()?))
             }
+            "--table-case" => {
+                let call = table_call(&words.next()?)?;
+                let family = known_family(words.next()?)?;
+                flags.table_case = Some((call, family, words.next()?.parse().ok()?))
+            }
             "--file" => flags.file = Some(words.next()?.into()),
             "--satterthwaite" => flags.call = Call::Satterthwaite,
             _ => return None,
         }
     }
     Some(flags)
+}
+
+/// The call of a letter.
+fn table_call(letter: &str) -> Option<TableCall> {
+    TABLE_CALLS.into_iter().find(|call| call.letter().to_string() == letter)
 }
 
 /// A name that some call has a family of.

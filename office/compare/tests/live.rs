@@ -3,7 +3,7 @@
 
 use compare::archive;
 use compare::live::{run, Plan};
-use compare::{numbers, torn};
+use compare::{numbers, tables, torn};
 use std::path::Path;
 
 fn plan() -> Plan {
@@ -11,6 +11,7 @@ fn plan() -> Plan {
     Plan {
         files: 27_000,
         archives: 20_000,
+        tables: 10_000,
         seed: 2,
         family: None,
         untorn: false,
@@ -39,6 +40,21 @@ fn enough_numbers(numbers: &numbers::Tally) {
         && numbers.behind >= 100
         && numbers.size >= 100;
     assert!(enough, "{}", numbers.line());
+}
+
+/// Thousands of cases with each sort of table, of answers that are not the built-in
+/// table's, and of tables that are none.
+#[test]
+fn tables_agree_in_every_bit() {
+    let summary = tables::run(&plan());
+    let [accepted, refused] = summary.tables();
+    assert!(summary.cases.len() == 4 && summary.cases.values().all(|&n| n >= 10_000));
+    assert!(accepted >= 30_000 && refused >= 3_000, "{accepted}, {refused}");
+    assert!(summary.sorts.len() == 10 && summary.sorts.values().all(|&n| n >= 300));
+    assert!(summary.ways.len() == 22 && summary.ways.values().all(|&n| n >= 50));
+    assert!(summary.classes.len() == 7 && summary.classes.values().all(|&n| n >= 500));
+    assert!(summary.changed.len() == 4 && summary.changed.values().all(|&n| n >= 500));
+    assert_eq!(summary.failures, 0, "cases differ; see above");
 }
 
 #[test]

@@ -11,6 +11,7 @@ use crate::random::{
     kr_case, power, satt_case, Random, KR_FAMILIES, MORE_KR_FAMILIES, SATT_FAMILIES, SHUFFLED,
 };
 use crate::reader::archive::{read_archive, test_records};
+use crate::reader::cutoffs::Cutoffs;
 use crate::reader::torn::Torn;
 use crate::reader::{self, order, Record, Series};
 use crate::{
@@ -19,6 +20,8 @@ use crate::{
 use ::reader::vectors::hex;
 use listed_algebra::Matrix;
 use ndarray::{Array1, Array2};
+
+const BUILT_IN: &Cutoffs = &Cutoffs::BUILT_IN;
 
 #[test]
 fn a_b_packed_places() {
@@ -86,13 +89,14 @@ fn h_one_coefficient() {
         w: rows(&[[2.0]]),
         inside: true,
     };
-    let (entry, _) = marked::kr_test(&scaled, &rows(&[[-8.0]]), &[6.0], None).expect("no refusal");
+    let (entry, _) =
+        marked::kr_test(BUILT_IN, &scaled, &rows(&[[-8.0]]), &[6.0], None).expect("no refusal");
     assert_eq!((entry.f, entry.df, entry.rank, entry.inside), (Some(9.0), Some(1.0), 1, true));
 }
 
 #[test]
 fn i_two_rows() {
-    let answer = lme_run::satterthwaite_test(&example_i()).expect("no refusal");
+    let answer = lme_run::satterthwaite_test(BUILT_IN, &example_i()).expect("no refusal");
     assert_eq!((answer.f, answer.df, answer.rank), (2.5, 4.0, 2));
 }
 
@@ -100,17 +104,17 @@ fn i_two_rows() {
 fn j_cap_of_several_rows_alone() {
     let mut s = example_i();
     s.a = rows(&[[power(-12)]]);
-    assert_eq!(lme_run::satterthwaite_test(&s).expect("no refusal").df, 3000.0);
+    assert_eq!(lme_run::satterthwaite_test(BUILT_IN, &s).expect("no refusal").df, 3000.0);
     s.contrast = rows(&[[1.0, 0.0]]);
-    assert_eq!(lme_run::satterthwaite_test(&s).expect("no refusal").df, 8192.0);
+    assert_eq!(lme_run::satterthwaite_test(BUILT_IN, &s).expect("no refusal").df, 8192.0);
 }
 
 #[test]
 fn k_theta_zero() {
     let series = example_k();
-    let rust = lme_run::adjust(&series).expect("no refusal");
+    let rust = lme_run::adjust(BUILT_IN, &series).expect("no refusal");
     assert_eq!((rust.phi_a[(0, 0)], rust.w[(0, 0)]), (0.5, 200000000.0));
-    let own = marked::adjust(&series).expect("no refusal");
+    let own = marked::adjust(BUILT_IN, &series).expect("no refusal");
     assert_eq!((own.phi_a[(0, 0)], own.w[(0, 0)]), (0.5, 200000000.0));
 }
 
@@ -172,10 +176,10 @@ fn points_of_the_archive() {
         assert_eq!(text(name).matches("outside").count(), 2, "{name}");
     }
     let series = known_archive::outside_by_scaling();
-    let (_, scaled) = marked::adjusted(&series).expect("no refusal");
+    let (_, scaled) = marked::adjusted(BUILT_IN, &series).expect("no refusal");
     let given = Scaled { inside: true, ..scaled };
     let l = series.contrast.as_ref().expect("a contrast");
-    let (entry, _) = marked::kr_test(&given, l, &series.beta, None).expect("no refusal");
+    let (entry, _) = marked::kr_test(BUILT_IN, &given, l, &series.beta, None).expect("no refusal");
     assert!(entry.inside, "its numbers in response units alone would be inside");
     let minus_zero = Record { kind: 17, row: 0, column: 1, zero: 0, count: 0, bits: 1 << 63 };
     assert!(text("-0 in Φ and in P").contains(&hex(&minus_zero.to_bytes())));
@@ -398,7 +402,7 @@ fn late_refusal_is_not_in_lme_rs() {
     let infinite_phi_a = Series { sigma2: power(1023), ..single };
     let zero_phi = Series { sigma2: power(-1074), ..pulltest_series() };
     for series in [&infinite_p, &infinite_phi_a, &zero_phi] {
-        assert_eq!(lme_run::kenward_roger_run(series).err(), Some(4));
+        assert_eq!(lme_run::kenward_roger_run(BUILT_IN, series).err(), Some(4));
     }
     let first = |series| lme_run::run_without_late_4(series).map(|run| run.coefficients[0]);
     let none = first(&infinite_p).expect("lme-rs answers");
@@ -413,8 +417,8 @@ fn late_refusal_is_not_in_lme_rs() {
 #[test]
 fn sums_from_minus_zero() {
     let series = known::minus_zero_series();
-    let rust = lme_run::adjust(&series).expect("no refusal");
-    let own = marked::adjust(&series).expect("no refusal");
+    let rust = lme_run::adjust(BUILT_IN, &series).expect("no refusal");
+    let own = marked::adjust(BUILT_IN, &series).expect("no refusal");
     assert_eq!(rust.ie[(0, 1)].to_bits(), (-0.0f64).to_bits());
     assert_eq!(own.ie[(0, 1)].to_bits(), 0.0f64.to_bits());
     let bits = |m: &Matrix| m.cells.iter().map(|v| v.to_bits()).collect::<Vec<_>>();

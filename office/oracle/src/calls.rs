@@ -3,10 +3,12 @@
 //! that both have; if they do not, the oracle stops, since then one of them is
 //! wrong. The archive's two calls are in `archive`.
 //!
-//! A file becomes the series that is run in one place, `series_to_run`.
+//! A file becomes the series that is run in one place, `series_to_run`. Each call has
+//! a form with a table; the one without a table is the same with the built-in one.
 
 use crate::lme_run::{self, same, Verdict, Verdicts};
 use crate::marked::{self, Entry, Tested};
+use crate::reader::cutoffs::Cutoffs;
 use crate::reader::{read, read_satterthwaite, Refusal, Series};
 use crate::trace::hit_if;
 use listed_algebra::Matrix;
@@ -49,8 +51,9 @@ pub struct BothRuns {
 }
 
 /// Runs both on a series; `Err` of text where they disagree.
-pub fn both_runs(series: &Series) -> Result<Result<BothRuns, Refusal>, String> {
-    match (lme_run::kenward_roger_run(series), marked::kenward_roger_run(series)) {
+pub fn both_runs(cutoffs: &Cutoffs, series: &Series) -> Result<Result<BothRuns, Refusal>, String> {
+    let rust = lme_run::kenward_roger_run(cutoffs, series);
+    match (rust, marked::kenward_roger_run(cutoffs, series)) {
         (Ok(rust), Ok(marked)) => {
             compare_runs(&rust, &marked)?;
             Ok(Ok(BothRuns { rust, marked }))
@@ -166,14 +169,24 @@ pub fn series_to_run(bytes: &[u8]) -> Result<Series, Refusal> {
 
 /// The Kenward–Roger call.
 pub fn kenward_roger(bytes: &[u8]) -> Result<Entries, Refusal> {
+    kenward_roger_with(&Cutoffs::BUILT_IN, bytes)
+}
+
+pub fn kenward_roger_with(cutoffs: &Cutoffs, bytes: &[u8]) -> Result<Entries, Refusal> {
     let series = series_to_run(bytes)?;
-    both_runs(&series).unwrap_or_else(|text| panic!("{text}")).map(|runs| runs.entries())
+    let runs = both_runs(cutoffs, &series).unwrap_or_else(|text| panic!("{text}"));
+    runs.map(|runs| runs.entries())
 }
 
 /// The Satterthwaite call.
 pub fn satterthwaite(bytes: &[u8]) -> Result<Entry, Refusal> {
+    satterthwaite_with(&Cutoffs::BUILT_IN, bytes)
+}
+
+pub fn satterthwaite_with(cutoffs: &Cutoffs, bytes: &[u8]) -> Result<Entry, Refusal> {
     let series = read_satterthwaite(bytes)?;
-    match (lme_run::satterthwaite_test(&series), marked::satterthwaite_test(&series)) {
+    let rust = lme_run::satterthwaite_test(cutoffs, &series);
+    match (rust, marked::satterthwaite_test(cutoffs, &series)) {
         (Ok(a), Ok(b)) => {
             assert!(!verdicts_differ(&a, &b), "verdicts differ ({a:?}, {b:?})");
             Ok(entry(&a, &b))
@@ -202,10 +215,15 @@ pub fn entry_bytes(entry: &Option<Entry>) -> [u8; ENTRY] {
 /// As the C function of the Kenward–Roger call: the number, and the answer
 /// bytes where it is 0.
 pub fn kenward_roger_fill(bytes: &[u8], answer: &mut [u8]) -> Refusal {
+    kenward_roger_with_fill(&Cutoffs::BUILT_IN.to_table(), bytes, answer)
+}
+
+/// The same with a table: 1, then 14, then all else.
+pub fn kenward_roger_with_fill(table: &[u8], bytes: &[u8], answer: &mut [u8]) -> Refusal {
     if answer.len() != KR_ANSWER {
         return 1;
     }
-    fill(kenward_roger(bytes), answer)
+    fill(Cutoffs::read(table).and_then(|c| kenward_roger_with(&c, bytes)), answer)
 }
 
 /// The number, and the 168 answer bytes where it is 0.
@@ -223,10 +241,15 @@ pub(crate) fn fill(entries: Result<Entries, Refusal>, answer: &mut [u8]) -> Refu
 
 /// As the C function of the Satterthwaite call.
 pub fn satterthwaite_fill(bytes: &[u8], answer: &mut [u8]) -> Refusal {
+    satterthwaite_with_fill(&Cutoffs::BUILT_IN.to_table(), bytes, answer)
+}
+
+/// The same with a table: 1, then 14, then all else.
+pub fn satterthwaite_with_fill(table: &[u8], bytes: &[u8], answer: &mut [u8]) -> Refusal {
     if answer.len() != ENTRY {
         return 1;
     }
-    match satterthwaite(bytes) {
+    match Cutoffs::read(table).and_then(|c| satterthwaite_with(&c, bytes)) {
         Err(number) => number,
         Ok(e) => {
             answer.copy_from_slice(&entry_bytes(&Some(e)));

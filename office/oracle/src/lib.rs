@@ -2,7 +2,8 @@
 //!
 //! - `reader`: record files, from document 01 and the project's decisions (a
 //!   crate of its own).
-//! - `lme_run`: F, df and rank by lme-rs's own four files, unchanged.
+//! - `lme_run`: F, df and rank by lme-rs's own four files, unchanged, and by copies
+//!   of them that read a lab's cutoffs from the table in force (`cutoffs`).
 //! - `marked`: a run written from document 01, which also has the mark.
 //! - `calls`, `archive`: the four calls on bytes, which hold the two runs
 //!   together.
@@ -17,14 +18,17 @@ pub use ::reader;
 
 pub mod archive;
 pub mod calls;
+pub mod cutoffs;
 pub mod known;
 pub mod known_archive;
 pub mod known_numbers;
 pub mod known_order;
+pub mod known_tables;
 pub mod known_torn;
 pub mod lme_run;
 pub mod make;
 pub mod make_archive;
+pub mod make_tables;
 pub mod marked;
 pub mod numbers;
 pub mod print;
@@ -34,3 +38,5 @@ pub mod trace;
 
 #[cfg(test)]
 mod bench;
+#[cfg(test)]
+mod table_bench;

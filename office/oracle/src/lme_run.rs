@@ -1,12 +1,31 @@
-//! The two tests by lme-rs's own functions.
+//! The two tests by lme-rs's own functions, with a table of cutoffs in force.
+//!
+//! The answer is that of the copies of lme-rs's files that read the table. Where it
+//! is the built-in one the files as they are run too, and must have the same bits:
+//! so the copies are lme-rs's but for the table.
 
-use crate::kr_modcomp::KenwardRogerModcompData;
+use crate::cutoffs::in_force;
 use crate::reader::archive::{Archive, Tests};
+use crate::reader::cutoffs::Cutoffs;
 use crate::reader::{Refusal, SattSeries, Series};
-use crate::{ddf, kenward_roger, kr_modcomp, kr_vcov_adj, LmeError, LmeFit};
+use crate::{LmeError, LmeFit};
 use listed_algebra::Matrix;
 use ndarray::{Array1, Array2};
 use polars::prelude::{BlockShape, DataFrame};
+
+/// By the files as they are.
+mod unchanged {
+    use crate::{ddf, kenward_roger, kr_modcomp, kr_vcov_adj};
+    include!("lme_steps.rs");
+}
+
+/// By their copies, which read the table in force. What only the built-in table has
+/// is not called here.
+#[allow(dead_code)]
+mod alike {
+    use crate::alike::{ddf, kenward_roger, kr_modcomp, kr_vcov_adj};
+    include!("lme_steps.rs");
+}
 
 /// F and df (NaN: none) and the rank of one test, as lme-rs has them.
 #[derive(Debug, Clone, Copy)]
@@ -27,7 +46,6 @@ pub struct Adjusted {
     /// IE, and the rotations of its Jacobi.
     pub ie: Matrix,
     pub rotations: u32,
-    data: KenwardRogerModcompData,
 }
 
 /// The coefficients' verdicts, and the contrast's.
@@ -89,40 +107,6 @@ fn matrices(list: &[Array2<f64>]) -> Vec<Matrix> {
     list.iter().map(|m| m.to_matrix()).collect()
 }
 
-/// `kenward_roger_modcomp_data`, and the late refusal 4 behind it, which is
-/// document 01's own.
-pub fn adjust(series: &Series) -> Result<Adjusted, Refusal> {
-    let adjusted = adjust_unchecked(series)?;
-    if adjusted.finite() {
-        Ok(adjusted)
-    } else {
-        Err(4)
-    }
-}
-
-/// `kenward_roger_modcomp_data` as lme-rs has it.
-fn adjust_unchecked(series: &Series) -> Result<Adjusted, Refusal> {
-    let data = frame(series);
-    // With sigma2 = 1 the scaling changes no bit, so this is the output in
-    // residual units, of which no function of lme-rs gives Φ_A and P by itself.
-    let unit = kr_vcov_adj::kenward_roger_modcomp_data(&fit(series, 1.0), &data).map_err(number)?;
-    let rotations = ndarray_linalg::last_rotations();
-    let ie = ndarray_linalg::last_eigh().expect("IE has been through eigh");
-    let scaled = kr_vcov_adj::kenward_roger_modcomp_data(&fit(series, series.sigma2), &data)
-        .map_err(number)?;
-    Ok(Adjusted {
-        phi_a: unit.phi_a.to_matrix(),
-        p: matrices(&unit.p_list),
-        w: unit.w.to_matrix(),
-        scaled_phi: scaled.phi.to_matrix(),
-        scaled_phi_a: scaled.phi_a.to_matrix(),
-        scaled_p: matrices(&scaled.p_list),
-        ie,
-        rotations,
-        data: scaled,
-    })
-}
-
 impl Adjusted {
     fn finite(&self) -> bool {
         let singles = [&self.phi_a, &self.w, &self.scaled_phi, &self.scaled_phi_a];
@@ -134,105 +118,100 @@ impl Adjusted {
     }
 }
 
-/// The Kenward–Roger run.
-pub fn kenward_roger_run(series: &Series) -> Result<Run, Refusal> {
-    tests(series, adjust(series)?)
+/// What is held together, bit by bit.
+trait Numbers {
+    fn numbers(&self) -> Vec<f64>;
 }
 
-/// lme-rs alone, each of its steps once: the adjustment, each coefficient, the
-/// contrast. Without the late refusal 4, the numbers in residual units and the
+impl Numbers for Verdict {
+    fn numbers(&self) -> Vec<f64> {
+        vec![self.f, self.df, self.rank.into()]
+    }
+}
+
+impl Numbers for Verdicts {
+    fn numbers(&self) -> Vec<f64> {
+        self.0.iter().chain(&self.1).flat_map(Numbers::numbers).collect()
+    }
+}
+
+impl Numbers for Adjusted {
+    fn numbers(&self) -> Vec<f64> {
+        let singles = [&self.phi_a, &self.w, &self.scaled_phi, &self.scaled_phi_a, &self.ie];
+        let all = singles.into_iter().chain(&self.p).chain(&self.scaled_p);
+        all.flat_map(|m| m.cells.iter().copied()).chain([self.rotations.into()]).collect()
+    }
+}
+
+impl Numbers for Run {
+    fn numbers(&self) -> Vec<f64> {
+        let verdicts = self.coefficients.iter().chain(&self.contrast).flat_map(Numbers::numbers);
+        self.adjusted.numbers().into_iter().chain(verdicts).collect()
+    }
+}
+
+/// The copies' answer; with the built-in table it must be the files' own.
+fn held<T: Numbers>(
+    cutoffs: &Cutoffs,
+    alike: impl FnOnce() -> Result<T, Refusal>,
+    unchanged: impl FnOnce() -> Result<T, Refusal>,
+) -> Result<T, Refusal> {
+    let answer = in_force(cutoffs, alike);
+    if *cutoffs == Cutoffs::BUILT_IN {
+        let equal = match (&answer, &unchanged()) {
+            (Ok(a), Ok(b)) => all_same(&a.numbers(), &b.numbers()),
+            (Err(a), Err(b)) => a == b,
+            _ => false,
+        };
+        assert!(equal, "the copies of lme-rs's files differ from the files");
+    }
+    answer
+}
+
+fn all_same(a: &[f64], b: &[f64]) -> bool {
+    a.len() == b.len() && a.iter().zip(b).all(|(&a, &b)| same(a, b))
+}
+
+/// `kenward_roger_modcomp_data`, and the late refusal 4 behind it.
+pub fn adjust(cutoffs: &Cutoffs, series: &Series) -> Result<Adjusted, Refusal> {
+    held(cutoffs, || alike::adjust(series), || unchanged::adjust(series))
+}
+
+/// The Kenward–Roger run.
+pub fn kenward_roger_run(cutoffs: &Cutoffs, series: &Series) -> Result<Run, Refusal> {
+    held(cutoffs, || alike::kenward_roger_run(series), || unchanged::kenward_roger_run(series))
+}
+
+/// The tests on an archive's matrices.
+pub fn archive_tests(
+    cutoffs: &Cutoffs,
+    archive: &Archive,
+    tests: &Tests,
+) -> Result<Verdicts, Refusal> {
+    held(
+        cutoffs,
+        || alike::archive_tests(archive, tests),
+        || unchanged::archive_tests(archive, tests),
+    )
+}
+
+/// The Satterthwaite test.
+pub fn satterthwaite_test(cutoffs: &Cutoffs, series: &SattSeries) -> Result<Verdict, Refusal> {
+    held(cutoffs, || alike::satterthwaite_test(series), || unchanged::satterthwaite_test(series))
+}
+
+/// lme-rs alone, as it is, each of its steps once: the adjustment, each coefficient,
+/// the contrast. Without the late refusal 4, the numbers in residual units and the
 /// mark, which the judgement of the port needs; so this is what its time is
 /// to be compared with.
 pub fn each_step_once(series: &Series) -> Result<Verdicts, Refusal> {
-    let fit = fit(series, series.sigma2);
-    let data = kr_vcov_adj::kenward_roger_modcomp_data(&fit, &frame(series)).map_err(number)?;
-    verdicts(&data, &series.beta, series.contrast.as_ref(), series.beta_h.as_deref())
-}
-
-/// `kr_modcomp_test` and `kenward_roger_contrast_f_test` on an archive's
-/// matrices, brought to response units by plain f64.
-pub fn archive_tests(archive: &Archive, tests: &Tests) -> Result<Verdicts, Refusal> {
-    let data = KenwardRogerModcompData {
-        phi: array(&archive.response_phi()),
-        phi_a: array(&archive.response_phi_a()),
-        p_list: archive.response_p().iter().map(array).collect(),
-        w: array(&archive.w),
-    };
-    verdicts(&data, &tests.beta, tests.contrast.as_ref(), tests.beta_h.as_deref())
+    unchanged::each_step_once(series)
 }
 
 /// The run that lme-rs makes where document 01 has its late refusal 4
 /// (docs/DIFFERENCES.md, "The late refusal 4 is document 01's own").
 pub fn run_without_late_4(series: &Series) -> Result<Run, Refusal> {
-    tests(series, adjust_unchecked(series)?)
-}
-
-/// Each coefficient alone, then the contrast.
-fn tests(series: &Series, adjusted: Adjusted) -> Result<Run, Refusal> {
-    // lme-rs's own loop over the coefficients keeps df alone; its F comes from
-    // the same call made here.
-    let own = kenward_roger::compute_kenward_roger(&fit(series, series.sigma2), &frame(series))
-        .map_err(number)?;
-    let (l, beta_h) = (series.contrast.as_ref(), series.beta_h.as_deref());
-    let (coefficients, contrast) = verdicts(&adjusted.data, &series.beta, l, beta_h)?;
-    for (verdict, &df) in coefficients.iter().zip(own.dfs.iter()) {
-        assert!(same(verdict.df, df), "lme-rs's loop and its test differ in df");
-    }
-    Ok(Run { adjusted, coefficients, contrast })
-}
-
-/// The tests from adjusted matrices in response units.
-fn verdicts(
-    data: &KenwardRogerModcompData,
-    beta: &[f64],
-    contrast: Option<&Matrix>,
-    beta_h: Option<&[f64]>,
-) -> Result<Verdicts, Refusal> {
-    let beta: Array1<f64> = beta.to_vec().into();
-    let beta_h: Option<Array1<f64>> = beta_h.map(|h| h.to_vec().into());
-    let coefficients = (0..beta.len()).map(|i| coefficient_test(data, &beta, i));
-    let coefficients = coefficients.collect::<Result<_, _>>()?;
-    let contrast = contrast.map(|l| contrast_test(data, &beta, l, beta_h.as_ref())).transpose()?;
-    Ok((coefficients, contrast))
-}
-
-fn coefficient_test(
-    data: &KenwardRogerModcompData,
-    beta: &Array1<f64>,
-    i: usize,
-) -> Result<Verdict, Refusal> {
-    let mut unit = Array2::zeros((1, beta.len()));
-    unit[[0, i]] = 1.0;
-    let test = kr_modcomp::kr_modcomp_test(data, &unit, beta, None).map_err(number)?;
-    Ok(Verdict { f: test.f_stat, df: test.den_df, rank: 1 })
-}
-
-fn contrast_test(
-    data: &KenwardRogerModcompData,
-    beta: &Array1<f64>,
-    l: &Matrix,
-    beta_h: Option<&Array1<f64>>,
-) -> Result<Verdict, Refusal> {
-    let (f, df, _, rank) =
-        kr_modcomp::kenward_roger_contrast_f_test(data, beta, &array(l), beta_h).map_err(number)?;
-    Ok(Verdict { f, df, rank: rank as u8 })
-}
-
-/// The Satterthwaite test.
-pub fn satterthwaite_test(series: &SattSeries) -> Result<Verdict, Refusal> {
-    let beta: Array1<f64> = series.beta.clone().into();
-    let beta_h: Option<Array1<f64>> = series.beta_h.clone().map(Array1::from);
-    let jacobians: Vec<Array2<f64>> = series.jacobians.iter().map(array).collect();
-    let (f, df, _, rank) = ddf::satterthwaite_contrast_f_test(
-        &beta,
-        &array(&series.v),
-        &array(&series.contrast),
-        &jacobians,
-        &array(&series.a),
-        beta_h.as_ref(),
-    )
-    .map_err(number)?;
-    Ok(Verdict { f, df, rank: rank as u8 })
+    unchanged::run_without_late_4(series)
 }
 
 /// Equal bits, any NaN like any other.

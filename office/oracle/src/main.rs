@@ -1,5 +1,6 @@
 //! The command `oracle`: see the usage text.
 
+use oracle::reader::cutoffs::Cutoffs;
 use std::io::{Read, Write};
 use std::path::Path;
 use std::process::ExitCode;
@@ -9,9 +10,11 @@ const USAGE: &str = "usage:
   oracle bits < FILE                the same, and the numbers behind them
   oracle satterthwaite < FILE       the Satterthwaite call, as one `test` line
   oracle archive < FILE             the archive in hexadecimal, and the test from it
+                                    each of these with a lab's cutoffs: --table TABLE < FILE
   oracle places                     where each pair of indices is packed
   oracle make-vectors DIR SEED COUNT
   oracle make-archive-vectors DIR SEED COUNT
+  oracle make-table-vectors DIR SEED COUNT
   oracle replay FILE..              checks files of vectors against the oracle
 ";
 
@@ -19,13 +22,14 @@ fn main() -> ExitCode {
     let args: Vec<String> = std::env::args().skip(1).collect();
     let words: Vec<&str> = args.iter().map(String::as_str).collect();
     let done = match words.as_slice() {
-        ["pulltest"] => filter(oracle::print::pulltest),
-        ["bits"] => filter(oracle::print::bits_report),
-        ["satterthwaite"] => filter(oracle::print::satterthwaite_line),
-        ["archive"] => filter(oracle::print::archive_lines),
+        ["pulltest", table @ ..] => filter(oracle::print::pulltest_with, table),
+        ["bits", table @ ..] => filter(oracle::print::bits_report_with, table),
+        ["satterthwaite", table @ ..] => filter(oracle::print::satterthwaite_line_with, table),
+        ["archive", table @ ..] => filter(oracle::print::archive_lines_with, table),
         ["places"] => write(&oracle::print::places()),
         ["make-vectors", folder, seed, count] => make(folder, seed, count),
         ["make-archive-vectors", folder, seed, count] => make_archive(folder, seed, count),
+        ["make-table-vectors", folder, seed, count] => make_tables(folder, seed, count),
         ["replay", files @ ..] if !files.is_empty() => replay(files),
         _ => Err(USAGE.to_string()),
     };
@@ -38,10 +42,22 @@ fn main() -> ExitCode {
     }
 }
 
-fn filter(answer: fn(&[u8]) -> String) -> Result<(), String> {
+/// The answer on the standard input, with the built-in table or with that of
+/// `--table TABLE`, which comes first: any other table is refused.
+fn filter(answer: fn(&Cutoffs, &[u8]) -> String, table: &[&str]) -> Result<(), String> {
+    let cutoffs = match table {
+        [] => Ok(Cutoffs::BUILT_IN),
+        ["--table", name] => {
+            Cutoffs::read(&std::fs::read(name).map_err(|e| format!("{name}: {e}\n"))?)
+        }
+        _ => return Err(USAGE.to_string()),
+    };
     let mut bytes = Vec::new();
     std::io::stdin().read_to_end(&mut bytes).map_err(|e| format!("{e}\n"))?;
-    write(&answer(&bytes))
+    match cutoffs {
+        Ok(cutoffs) => write(&answer(&cutoffs, &bytes)),
+        Err(number) => write(&format!("refused {number}\n")),
+    }
 }
 
 fn write(text: &str) -> Result<(), String> {
@@ -57,11 +73,22 @@ fn make_archive(folder: &str, seed: &str, count: &str) -> Result<(), String> {
     let (seed, count) = numbers(seed, count)?;
     let made = oracle::make_archive::make_archive_vectors(Path::new(folder), seed, count)
         .map_err(|e| format!("{e}\n"))?;
-    for (list, tally) in made {
-        println!("{list}: {} cases", tally.values().sum::<usize>());
-        tally.iter().for_each(|(answer, cases)| println!("- {answer}: {cases}"));
-    }
+    made.iter().for_each(|(list, tally)| print_tally(list, tally));
     Ok(())
+}
+
+fn make_tables(folder: &str, seed: &str, count: &str) -> Result<(), String> {
+    let (seed, count) = numbers(seed, count)?;
+    let tally = oracle::make_tables::make_table_vectors(Path::new(folder), seed, count)
+        .map_err(|e| format!("{e}\n"))?;
+    print_tally(oracle::make_tables::TABLES, &tally);
+    Ok(())
+}
+
+/// How often each answer stands in a list.
+fn print_tally(list: &str, tally: &oracle::make_archive::Tally) {
+    println!("{list}: {} cases", tally.values().sum::<usize>());
+    tally.iter().for_each(|(answer, cases)| println!("- {answer}: {cases}"));
 }
 
 fn numbers(seed: &str, count: &str) -> Result<(u64, usize), String> {

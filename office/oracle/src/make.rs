@@ -3,7 +3,7 @@
 use crate::known::{self, Known};
 use crate::print::{pulltest, satterthwaite_line};
 use crate::random::{kr_case, satt_case, Random, KR_FAMILIES, SATT_FAMILIES, SHUFFLED};
-use crate::{known_numbers, known_order, known_torn, make_archive, trace};
+use crate::{known_numbers, known_order, known_torn, make_archive, make_tables, trace};
 use ::reader::numbers::Numbers;
 use ::reader::torn::Torn;
 use ::reader::vectors::{hex, unhex};
@@ -186,6 +186,9 @@ pub fn make_vectors(folder: &Path, seed: u64, count: usize) -> io::Result<()> {
 
 /// Checks one line of a list of vectors, told by the name of its file.
 pub fn check_line(list: &str, line: &str) -> Result<(), String> {
+    if list == make_tables::TABLES {
+        return make_tables::check_line(line);
+    }
     let (files, expected) = line.split_once(' ').ok_or("a line without a blank")?;
     let output = match list {
         make_archive::ARCHIVE | make_archive::ARCHIVE_TEST => make_archive::output(list, files),

@@ -3,8 +3,12 @@
 //! The mark is kept by the arithmetic and not by the numbers: every marked
 //! step that is done leaves its trace in `Marking`, also where its result is
 //! dropped afterwards. That is the reading of "the mark" word for word.
+//!
+//! The cutoffs go through as a parameter. Of the nine only the rotation factor is an
+//! operand of a marked step, that of V's rotation test; there it counts as any other.
 
 use crate::reader::archive::{Archive, Tests};
+use crate::reader::cutoffs::Cutoffs;
 use crate::reader::{Refusal, SattSeries, Series};
 use crate::trace::{hit, hit_if};
 use listed_algebra::{
@@ -203,10 +207,10 @@ pub fn packed(r: usize, s: usize, n: usize) -> usize {
     a * n - a * (a + 1) / 2 + b
 }
 
-/// W: twice the inverse of IE, with 1e-8 on the diagonal where IE is near
-/// singular. Also the rotations of IE's Jacobi.
-fn weights_of(ie: &Matrix) -> Result<(Matrix, u32), Refusal> {
-    let eigen = jacobi(&Plain, ie);
+/// W: twice the inverse of IE, with the cutoffs' ridge on the diagonal where IE is
+/// near singular. Also the rotations of IE's Jacobi.
+fn weights_of(cutoffs: &Cutoffs, ie: &Matrix) -> Result<(Matrix, u32), Refusal> {
+    let eigen = jacobi(&Plain, ie, cutoffs.rotation);
     let mut smallest = f64::INFINITY;
     for value in &eigen.values {
         if value.abs() < smallest {
@@ -214,9 +218,9 @@ fn weights_of(ie: &Matrix) -> Result<(Matrix, u32), Refusal> {
         }
     }
     let mut invertible = ie.clone();
-    if hit_if(!(smallest > 1e-10), "adjustment: 1e-8 joins the diagonal") {
+    if hit_if(!(smallest > cutoffs.eigenvalue), "adjustment: 1e-8 joins the diagonal") {
         for i in 0..ie.rows {
-            invertible[(i, i)] += 1e-8;
+            invertible[(i, i)] += cutoffs.ridge;
         }
     }
     let inverse = inverse(&Plain, &invertible).ok_or_else(|| refuse(10, "10: inverse of IE"))?;
@@ -224,7 +228,7 @@ fn weights_of(ie: &Matrix) -> Result<(Matrix, u32), Refusal> {
 }
 
 /// `vcov_adj16_with_pw`.
-pub fn adjust(series: &Series) -> Result<Adjustment, Refusal> {
+pub fn adjust(cutoffs: &Cutoffs, series: &Series) -> Result<Adjustment, Refusal> {
     let (phi, x) = (&series.phi, &series.x);
     let gs = structure(series);
     let count = gs.len();
@@ -257,7 +261,7 @@ pub fn adjust(series: &Series) -> Result<Adjustment, Refusal> {
             ie[(b, a)] = cell;
         }
     }
-    let (w, rotations) = weights_of(&ie)?;
+    let (w, rotations) = weights_of(cutoffs, &ie)?;
 
     let term = |a: usize, b: usize| {
         let ppp = mul(&mul(&p[a], phi), &p[b]);
@@ -326,17 +330,17 @@ fn contrast_basis(mark: &Marking, l: &Matrix) -> Matrix {
     Matrix::from_fn(rank, l.cols, |i, j| values.units[(i, j)])
 }
 
-/// div: 0 for a denominator below 1e-10 in magnitude.
-fn div(a: f64, b: f64) -> f64 {
-    if b.abs() < 1e-10 {
+/// div: 0 for a denominator below the cutoff in magnitude.
+fn div(cutoffs: &Cutoffs, a: f64, b: f64) -> f64 {
+    if b.abs() < cutoffs.divisor {
         0.0
     } else {
         a / b
     }
 }
 
-fn zero_if_small(x: f64, branch: &'static str) -> f64 {
-    if hit_if(x.abs() < 1e-10, branch) {
+fn zero_if_small(cutoffs: &Cutoffs, x: f64, branch: &'static str) -> f64 {
+    if hit_if(x.abs() < cutoffs.leading, branch) {
         0.0
     } else {
         x
@@ -355,33 +359,34 @@ pub struct Parts {
 }
 
 /// From a1 and a2 to qρ − 1 (unmarked).
-pub fn parts(a1: f64, a2: f64, q: f64) -> Parts {
+pub fn parts(cutoffs: &Cutoffs, a1: f64, a2: f64, q: f64) -> Parts {
     let b = (a1 + 6.0 * a2) / (2.0 * q);
-    let g = if !hit_if(!(a2.abs() > 1e-15), "test: |a2| small, g = 0") {
+    let g = if !hit_if(!(a2.abs() > cutoffs.moment), "test: |a2| small, g = 0") {
         ((q + 1.0) * a1 - (q + 4.0) * a2) / ((q + 2.0) * a2)
     } else {
         0.0
     };
     let d = 3.0 * q + 2.0 * (1.0 - g);
-    let c1 = if !hit_if(!(d.abs() > 1e-15), "test: |d| small, c1 = 0") { g / d } else { 0.0 };
+    let d_small = hit_if(!(d.abs() > cutoffs.moment), "test: |d| small, c1 = 0");
+    let c1 = if d_small { 0.0 } else { g / d };
     let c2 = (q - g) / d;
     let c3 = ((q + 2.0) - g) / d;
     let v = [1.0 + c1 * b, 1.0 - c2 * b, 1.0 - c3 * b];
-    let v0 = zero_if_small(v[0], "test: V0 small");
-    let v2 = zero_if_small(v[2], "test: V2 small");
-    hit_if(v[1].abs() < 1e-10, "test: V1 small");
-    let h = div(1.0 - a2 / q, v[1]);
-    let rho = ((1.0 / q) * (h * h)) * div(v0, v2);
+    let v0 = zero_if_small(cutoffs, v[0], "test: V0 small");
+    let v2 = zero_if_small(cutoffs, v[2], "test: V2 small");
+    hit_if(v[1].abs() < cutoffs.divisor, "test: V1 small");
+    let h = div(cutoffs, 1.0 - a2 / q, v[1]);
+    let rho = ((1.0 / q) * (h * h)) * div(cutoffs, v0, v2);
     let excess = q * rho - 1.0;
     Parts { d, v, excess, df: 4.0 + (q + 2.0) / excess }
 }
 
 /// df and scaling from the moments (unmarked). NaN is none in both.
-pub fn df_and_scaling(a1: f64, a2: f64, rank: usize) -> (f64, f64) {
+pub fn df_and_scaling(cutoffs: &Cutoffs, a1: f64, a2: f64, rank: usize) -> (f64, f64) {
     let q = rank as f64;
-    let parts = parts(a1, a2, q);
+    let parts = parts(cutoffs, a1, a2, q);
     let mut df = parts.df;
-    if hit_if(!(parts.excess.abs() > 1e-12), "test: |qρ-1| small or NaN") {
+    if hit_if(!(parts.excess.abs() > cutoffs.excess), "test: |qρ-1| small or NaN") {
         df = f64::NAN;
     }
     if hit_if(df <= 0.0, "test: df not positive") {
@@ -389,7 +394,7 @@ pub fn df_and_scaling(a1: f64, a2: f64, rank: usize) -> (f64, f64) {
     }
     if hit_if(rank == 1 && a2.is_finite() && a2 > 0.0, "test: q = 1, df = 2/a2") {
         (2.0 / a2, 1.0)
-    } else if hit_if((df - 2.0).abs() < 1e-2, "test: |df-2| < 1e-2") {
+    } else if hit_if((df - 2.0).abs() < cutoffs.near, "test: |df-2| < 1e-2") {
         (df, 1.0)
     } else if hit_if(df.is_nan(), "test: df none, F none") {
         (df, f64::NAN)
@@ -401,6 +406,7 @@ pub fn df_and_scaling(a1: f64, a2: f64, rank: usize) -> (f64, f64) {
 
 /// `kr_modcomp_test` of one contrast.
 pub fn kr_test(
+    cutoffs: &Cutoffs,
     scaled: &Scaled,
     l: &Matrix,
     beta: &[f64],
@@ -424,7 +430,7 @@ pub fn kr_test(
         .collect();
 
     let moments = moments(&u, &scaled.w);
-    let (df, scaling) = df_and_scaling(moments.a1, moments.a2, rank);
+    let (df, scaling) = df_and_scaling(cutoffs, moments.a1, moments.a2, rank);
     let wald = wald(&mark, scaled, &l, &d)?;
     let f = scaling * (wald / rank as f64);
     let inside = mark.inside() && scaled.inside;
@@ -480,10 +486,10 @@ pub struct Run {
     pub contrast: Option<(Entry, Moments)>,
 }
 
-pub fn kenward_roger_run(series: &Series) -> Result<Run, Refusal> {
-    let (adjustment, scaled) = adjusted(series)?;
+pub fn kenward_roger_run(cutoffs: &Cutoffs, series: &Series) -> Result<Run, Refusal> {
+    let (adjustment, scaled) = adjusted(cutoffs, series)?;
     let (l, beta_h) = (series.contrast.as_ref(), series.beta_h.as_deref());
-    let (coefficients, contrast) = tested(&scaled, &series.beta, l, beta_h)?;
+    let (coefficients, contrast) = tested(cutoffs, &scaled, &series.beta, l, beta_h)?;
     Ok(Run { adjustment, scaled, coefficients, contrast })
 }
 
@@ -499,8 +505,8 @@ pub fn residual(series: &Series, adjustment: &Adjustment) -> Archive {
 }
 
 /// The adjustment, scaled, and the late refusal 4 behind both.
-pub fn adjusted(series: &Series) -> Result<(Adjustment, Scaled), Refusal> {
-    let adjustment = adjust(series)?;
+pub fn adjusted(cutoffs: &Cutoffs, series: &Series) -> Result<(Adjustment, Scaled), Refusal> {
+    let adjustment = adjust(cutoffs, series)?;
     let scaled = scale(&residual(series, &adjustment));
     let singles = [&adjustment.phi_a, &adjustment.w, &scaled.phi, &scaled.phi_a];
     if !finite(singles[..2].iter().copied().chain(&adjustment.p)) {
@@ -513,13 +519,18 @@ pub fn adjusted(series: &Series) -> Result<(Adjustment, Scaled), Refusal> {
 }
 
 /// The tests from an archive: it is scaled again, by marked steps.
-pub fn archive_tests(archive: &Archive, tests: &Tests) -> Result<Tested, Refusal> {
+pub fn archive_tests(
+    cutoffs: &Cutoffs,
+    archive: &Archive,
+    tests: &Tests,
+) -> Result<Tested, Refusal> {
     let scaled = scale(archive);
-    tested(&scaled, &tests.beta, tests.contrast.as_ref(), tests.beta_h.as_deref())
+    tested(cutoffs, &scaled, &tests.beta, tests.contrast.as_ref(), tests.beta_h.as_deref())
 }
 
 /// Each coefficient alone, then the contrast.
 fn tested(
+    cutoffs: &Cutoffs,
     scaled: &Scaled,
     beta: &[f64],
     contrast: Option<&Matrix>,
@@ -529,9 +540,9 @@ fn tested(
     let mut coefficients = Vec::new();
     for i in 0..p {
         let unit = Matrix::from_fn(1, p, |_, j| if j == i { 1.0 } else { 0.0 });
-        coefficients.push(kr_test(scaled, &unit, beta, None)?);
+        coefficients.push(kr_test(cutoffs, scaled, &unit, beta, None)?);
     }
-    let contrast = contrast.map(|l| kr_test(scaled, l, beta, beta_h)).transpose()?;
+    let contrast = contrast.map(|l| kr_test(cutoffs, scaled, l, beta, beta_h)).transpose()?;
     Ok((coefficients, contrast))
 }
 
@@ -579,7 +590,7 @@ pub fn pooled_df(nu: &[f64]) -> f64 {
     (2.0 * e) / (e - nu.len() as f64)
 }
 
-pub fn satterthwaite_test(series: &SattSeries) -> Result<Entry, Refusal> {
+pub fn satterthwaite_test(cutoffs: &Cutoffs, series: &SattSeries) -> Result<Entry, Refusal> {
     let mark = Marking::new();
     let l = &series.contrast;
     let lt = l.transposed();
@@ -594,7 +605,7 @@ pub fn satterthwaite_test(series: &SattSeries) -> Result<Entry, Refusal> {
     let (f, df) = if l.rows == 1 {
         one_row(&mark, lbd[0], v[(0, 0)], &jacobians, &series.a)
     } else {
-        several_rows(&mark, &lbd, &v, &jacobians, &series.a)?
+        several_rows(cutoffs, &mark, &lbd, &v, &jacobians, &series.a)?
     };
     Ok(Entry { f: number(f), df: number(df), rank: l.rows as u8, inside: mark.inside() })
 }
@@ -607,13 +618,14 @@ fn one_row(mark: &Marking, lbd: f64, v: f64, jacobians: &[Matrix], a: &Matrix) -
 }
 
 fn several_rows(
+    cutoffs: &Cutoffs,
     mark: &Marking,
     lbd: &[f64],
     v: &Matrix,
     jacobians: &[Matrix],
     a: &Matrix,
 ) -> Result<(f64, f64), Refusal> {
-    let eigen = jacobi(mark, v);
+    let eigen = jacobi(mark, v, cutoffs.rotation);
     if eigen.values.iter().any(|d| !(d.is_finite() && *d > 0.0)) {
         return Err(refuse(11, "11: eigenvalue of V"));
     }
@@ -627,7 +639,8 @@ fn several_rows(
         let gradient: Vec<f64> =
             jacobians.iter().map(|j| dot(mark, &x, &apply(mark, j, &x))).collect();
         let df = variance_df(mark, value, &gradient, a);
-        nu.push(if hit_if(df > 3000.0, "satt: capped at 3000") { 3000.0 } else { df });
+        let above = hit_if(df > cutoffs.cap, "satt: capped at 3000");
+        nu.push(if above { cutoffs.cap } else { df });
     }
     let f = mark.div(sum, lbd.len() as f64);
     let df = if hit_if(nu.iter().any(|d| d.is_nan()), "satt: several rows, some ν none") {

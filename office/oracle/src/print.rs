@@ -1,11 +1,14 @@
 //! What the program `pulltest` prints, and more for the `bits` command; and
 //! what the program `table_packing` prints.
 
-use crate::archive::{archive, archive_test};
-use crate::calls::{both_runs, kenward_roger, satterthwaite, series_to_run, BothRuns, Entries};
+use crate::archive::{archive_test_with, archive_with};
+use crate::calls::{
+    both_runs, kenward_roger_with, satterthwaite_with, series_to_run, BothRuns, Entries,
+};
 use crate::kr_vcov_adj::reach::packed;
 use crate::marked::{Entry, Moments};
 use crate::reader::archive::test_records;
+use crate::reader::cutoffs::Cutoffs;
 use crate::reader::Refusal;
 use ::reader::vectors::hex;
 use listed_algebra::Matrix;
@@ -38,24 +41,42 @@ fn lines(entries: &Entries) -> String {
 
 /// The output of `pulltest` for a file.
 pub fn pulltest(bytes: &[u8]) -> String {
-    kenward_roger(bytes).map_or_else(refused, |entries| lines(&entries))
+    pulltest_with(&Cutoffs::BUILT_IN, bytes)
+}
+
+/// The same with a lab's own cutoffs, and so each of these.
+pub fn pulltest_with(cutoffs: &Cutoffs, bytes: &[u8]) -> String {
+    kenward_roger_with(cutoffs, bytes).map_or_else(refused, |entries| lines(&entries))
 }
 
 /// The same form for the Satterthwaite call: one `test` line.
 pub fn satterthwaite_line(bytes: &[u8]) -> String {
-    satterthwaite(bytes).map_or_else(refused, |e| format!("test {}", fields(&e)))
+    satterthwaite_line_with(&Cutoffs::BUILT_IN, bytes)
+}
+
+pub fn satterthwaite_line_with(cutoffs: &Cutoffs, bytes: &[u8]) -> String {
+    satterthwaite_with(cutoffs, bytes).map_or_else(refused, |e| format!("test {}", fields(&e)))
 }
 
 /// The same form for the test from an archive.
 pub fn archive_test_lines(archive: &[u8], tests: &[u8]) -> String {
-    archive_test(archive, tests).map_or_else(refused, |entries| lines(&entries))
+    archive_test_lines_with(&Cutoffs::BUILT_IN, archive, tests)
+}
+
+pub fn archive_test_lines_with(cutoffs: &Cutoffs, archive: &[u8], tests: &[u8]) -> String {
+    let entries = archive_test_with(cutoffs, archive, tests);
+    entries.map_or_else(refused, |entries| lines(&entries))
 }
 
 /// A series' archive, and the lines of the test from it with the series' own
 /// records of the kinds 8 to 10.
 pub fn archive_lines(bytes: &[u8]) -> String {
-    archive(bytes).map_or_else(refused, |file| {
-        let tests = archive_test_lines(&file, &test_records(bytes));
+    archive_lines_with(&Cutoffs::BUILT_IN, bytes)
+}
+
+pub fn archive_lines_with(cutoffs: &Cutoffs, bytes: &[u8]) -> String {
+    archive_with(cutoffs, bytes).map_or_else(refused, |file| {
+        let tests = archive_test_lines_with(cutoffs, &file, &test_records(bytes));
         format!("archive {}\n{tests}", hex(&file))
     })
 }
@@ -76,7 +97,11 @@ fn moments(name: &str, m: &Moments) -> String {
 
 /// `pulltest`'s lines and the numbers behind them.
 pub fn bits_report(bytes: &[u8]) -> String {
-    let run = |s| both_runs(&s).unwrap_or_else(|text| panic!("{text}"));
+    bits_report_with(&Cutoffs::BUILT_IN, bytes)
+}
+
+pub fn bits_report_with(cutoffs: &Cutoffs, bytes: &[u8]) -> String {
+    let run = |s| both_runs(cutoffs, &s).unwrap_or_else(|text| panic!("{text}"));
     let runs = series_to_run(bytes).and_then(run);
     match runs {
         Err(number) => refused(number),

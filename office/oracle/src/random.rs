@@ -2,6 +2,7 @@
 //! seed alone decides what comes out.
 
 use crate::numbers::with_faults;
+use crate::reader::cutoffs::Cutoffs;
 use crate::reader::numbers::{self, parameter_count};
 use crate::reader::{self, order, torn::is_torn, Block, Record, SattSeries, Series};
 use crate::torn::torn;
@@ -526,8 +527,9 @@ fn moved(s: &Series, cell: Option<usize>, k: f64) -> Series {
 
 /// The number to be brought to zero, where the run is accepted.
 fn distance(s: &Series, root: Root) -> Option<f64> {
-    let (entry, moments) = marked::kenward_roger_run(s).ok()?.contrast?;
-    let parts = marked::parts(moments.a1, moments.a2, entry.rank.into());
+    let cutoffs = &Cutoffs::BUILT_IN;
+    let (entry, moments) = marked::kenward_roger_run(cutoffs, s).ok()?.contrast?;
+    let parts = marked::parts(cutoffs, moments.a1, moments.a2, entry.rank.into());
     let value = match root {
         Root::Df(target) => parts.df - target,
         Root::A2 => moments.a2,

@@ -34,6 +34,11 @@ fn archive_test() {
 }
 
 #[test]
+fn tables() {
+    replay("tables.txt");
+}
+
+#[test]
 fn places() {
     let file = PathBuf::from(env!("CARGO_MANIFEST_DIR")).join("../../crates/table_packing/stdout");
     let text = std::fs::read_to_string(&file).unwrap_or_else(|e| panic!("{}: {e}", file.display()));

@@ -1,28 +1,35 @@
 //! Archives a series, and tests from the archive.
 //!
-//!     cargo run --offline --release -p pull --example archive -- FILE [ARCHIVE [TESTS]]
+//!     cargo run --offline --release -p pull --example archive -- FILE [ARCHIVE [TESTS [TABLE]]]
 //!
 //! It prints the adjusted matrices in response units, then the table of the test
 //! from the archive with the series' own β and contrast, which is the one that
 //! `judge` prints for the series. ARCHIVE is where the archive is written, and
 //! TESTS where the series' β, contrast and hypothesis values are: what
-//! `archive_test` asks for later. `-` is the standard input; without a FILE it
+//! `archive_test` asks for later. TABLE is a file with a lab's own cutoffs, for the
+//! archive and for the test; without it the built-in ones hold. `-` is the standard input; without a FILE it
 //! takes document 01's example. It ends with status 0 on an answer, 1 on a
 //! refusal, 2 where a file cannot be read or written.
 
 mod table;
 
 use std::process::ExitCode;
-use table::{answer, bytes, failed, number};
+use table::{answer, bytes, cutoffs, failed, number};
 
 fn main() -> ExitCode {
     let names: Vec<String> = std::env::args().skip(1).collect();
     let name = names.first().map(String::as_str);
+    let table = names.get(3).map(String::as_str);
+    let cutoffs = match cutoffs(table) {
+        Ok(Ok(cutoffs)) => cutoffs,
+        Ok(Err(refusal)) => return answer(Err(refusal)),
+        Err(error) => return failed(table, error),
+    };
     let series = match bytes(name) {
         Ok(file) => file,
         Err(error) => return failed(name, error),
     };
-    let archive = match pull::archive(&series) {
+    let archive = match pull::archive_with(&cutoffs, &series) {
         Ok(archive) => archive,
         Err(refusal) => return answer(Err(refusal)),
     };
@@ -35,7 +42,7 @@ fn main() -> ExitCode {
         }
     }
     println!("{}", matrices(&archive));
-    answer(pull::archive_test(&archive, &tests))
+    answer(pull::archive_test_with(&cutoffs, &archive, &tests))
 }
 
 /// The kinds 11 to 14, one cell to a line.

@@ -17,6 +17,10 @@
 //! the tests from that archive later, with the series' β and contrast
 //! ([`test_records`]) or with others.
 //!
+//! A lab's own small numbers are [`Cutoffs`]; each of the four has a form that takes
+//! them ([`kenward_roger_with`] and so on), or their file (the functions that end in
+//! `_with_fill`). The form without them has the built-in ones.
+//!
 //! ```
 //! # let file: Vec<u8> = pull::example::records();
 //! match pull::kenward_roger(&file) {
@@ -33,10 +37,12 @@
 //! give an answer or a [`Refusal`].
 
 mod answer;
+mod cutoffs;
 pub mod example;
 mod refusal;
 
 pub use answer::{Run, Test};
+pub use cutoffs::{Cutoffs, TABLE_BYTES};
 pub use refusal::Refusal;
 
 /// Answer bytes of one test.
@@ -85,6 +91,74 @@ mod c {
             answer: *mut u8,
             answer_length: usize,
         ) -> u32;
+
+        pub fn pull_kenward_roger_with(
+            table: *const u8,
+            table_length: usize,
+            records: *const u8,
+            records_length: usize,
+            answer: *mut u8,
+            answer_length: usize,
+        ) -> u32;
+
+        pub fn pull_satterthwaite_with(
+            table: *const u8,
+            table_length: usize,
+            records: *const u8,
+            records_length: usize,
+            answer: *mut u8,
+            answer_length: usize,
+        ) -> u32;
+
+        pub fn pull_archive_with(
+            table: *const u8,
+            table_length: usize,
+            records: *const u8,
+            records_length: usize,
+            archive: *mut u8,
+            archive_length: usize,
+        ) -> u32;
+
+        pub fn pull_archive_test_with(
+            table: *const u8,
+            table_length: usize,
+            archive: *const u8,
+            archive_length: usize,
+            tests: *const u8,
+            tests_length: usize,
+            answer: *mut u8,
+            answer_length: usize,
+        ) -> u32;
+    }
+}
+
+/// The run of a call that was lent 168 bytes, or its refusal.
+fn run(fill: impl FnOnce(&mut [u8]) -> u32) -> Result<Run, Refusal> {
+    let mut answer = [0; KENWARD_ROGER_BYTES];
+    match fill(&mut answer) {
+        0 => Ok(Run::from_bytes(&answer)),
+        number => Err(Refusal::from_number(number)),
+    }
+}
+
+/// The test of a call that was lent 24 bytes, or its refusal.
+fn test(fill: impl FnOnce(&mut [u8]) -> u32) -> Result<Test, Refusal> {
+    let mut answer = [0; ENTRY_BYTES];
+    match fill(&mut answer) {
+        0 => Ok(Test::from_bytes(&answer)),
+        number => Err(Refusal::from_number(number)),
+    }
+}
+
+/// The archive of a call that was lent room for the longest, or its refusal.
+fn archived(fill: impl FnOnce(&mut [u8]) -> u32) -> Result<Vec<u8>, Refusal> {
+    let mut archive = vec![0; ARCHIVE_BYTES];
+    match fill(&mut archive) as usize {
+        length @ SHORTEST_ARCHIVE..=ARCHIVE_BYTES => {
+            archive.truncate(length);
+            Ok(archive)
+        }
+        number => Err(Refusal::from_number(number as u32)),
     }
 }
 
@@ -117,11 +191,12 @@ mod c {
 /// assert_eq!(pull::kenward_roger(&series), Err(Refusal::ParameterCount));
 /// ```
 pub fn kenward_roger(records: &[u8]) -> Result<Run, Refusal> {
-    let mut answer = [0; KENWARD_ROGER_BYTES];
-    match kenward_roger_fill(records, &mut answer) {
-        0 => Ok(Run::from_bytes(&answer)),
-        number => Err(Refusal::from_number(number)),
-    }
+    run(|answer| kenward_roger_fill(records, answer))
+}
+
+/// The same with a lab's own cutoffs.
+pub fn kenward_roger_with(cutoffs: &Cutoffs, records: &[u8]) -> Result<Run, Refusal> {
+    run(|answer| kenward_roger_with_fill(&cutoffs.to_table(), records, answer))
 }
 
 /// The C function `pull_kenward_roger` on two slices: the number that it
@@ -136,14 +211,32 @@ pub fn kenward_roger_fill(records: &[u8], answer: &mut [u8]) -> u32 {
     }
 }
 
+/// The C function `pull_kenward_roger_with` on three slices, the first a table as
+/// [`Cutoffs::to_table`] writes it: as [`kenward_roger_fill`], and 14 for any other
+/// table, after 1 and before the records are looked at.
+pub fn kenward_roger_with_fill(table: &[u8], records: &[u8], answer: &mut [u8]) -> u32 {
+    // SAFETY: as for [`kenward_roger_fill`]; the table is only read.
+    unsafe {
+        c::pull_kenward_roger_with(
+            table.as_ptr(),
+            table.len(),
+            records.as_ptr(),
+            records.len(),
+            answer.as_mut_ptr(),
+            answer.len(),
+        )
+    }
+}
+
 /// Tests a contrast by Satterthwaite, with the covariance of β, its Jacobians
 /// and the covariance of the parameters from the file.
 pub fn satterthwaite(records: &[u8]) -> Result<Test, Refusal> {
-    let mut answer = [0; ENTRY_BYTES];
-    match satterthwaite_fill(records, &mut answer) {
-        0 => Ok(Test::from_bytes(&answer)),
-        number => Err(Refusal::from_number(number)),
-    }
+    test(|answer| satterthwaite_fill(records, answer))
+}
+
+/// The same with a lab's own cutoffs.
+pub fn satterthwaite_with(cutoffs: &Cutoffs, records: &[u8]) -> Result<Test, Refusal> {
+    test(|answer| satterthwaite_with_fill(&cutoffs.to_table(), records, answer))
 }
 
 /// The C function `pull_satterthwaite` on two slices: as
@@ -152,6 +245,22 @@ pub fn satterthwaite_fill(records: &[u8], answer: &mut [u8]) -> u32 {
     // SAFETY: as for [`kenward_roger_fill`].
     unsafe {
         c::pull_satterthwaite(records.as_ptr(), records.len(), answer.as_mut_ptr(), answer.len())
+    }
+}
+
+/// The C function `pull_satterthwaite_with` on three slices: as
+/// [`kenward_roger_with_fill`], with [`ENTRY_BYTES`].
+pub fn satterthwaite_with_fill(table: &[u8], records: &[u8], answer: &mut [u8]) -> u32 {
+    // SAFETY: as for [`kenward_roger_with_fill`].
+    unsafe {
+        c::pull_satterthwaite_with(
+            table.as_ptr(),
+            table.len(),
+            records.as_ptr(),
+            records.len(),
+            answer.as_mut_ptr(),
+            answer.len(),
+        )
     }
 }
 
@@ -172,14 +281,24 @@ pub fn satterthwaite_fill(records: &[u8], answer: &mut [u8]) -> u32 {
 /// # Ok::<(), pull::Refusal>(())
 /// ```
 pub fn archive(records: &[u8]) -> Result<Vec<u8>, Refusal> {
-    let mut archive = vec![0; ARCHIVE_BYTES];
-    match archive_fill(records, &mut archive) as usize {
-        length @ SHORTEST_ARCHIVE..=ARCHIVE_BYTES => {
-            archive.truncate(length);
-            Ok(archive)
-        }
-        number => Err(Refusal::from_number(number as u32)),
-    }
+    archived(|archive| archive_fill(records, archive))
+}
+
+/// The same with a lab's own cutoffs. The archive does not tell them: a test from it
+/// is the direct call's where both have the same ([`archive_test_with`]).
+///
+/// ```
+/// use pull::{example, Cutoffs};
+/// let series = example::records();
+/// let cutoffs = Cutoffs { eigenvalue: 1.0, ..Cutoffs::default() };
+/// let archive = pull::archive_with(&cutoffs, &series)?;
+/// let tests = pull::test_records(&series);
+/// let run = pull::archive_test_with(&cutoffs, &archive, &tests)?;
+/// assert_eq!(run, pull::kenward_roger_with(&cutoffs, &series)?);
+/// # Ok::<(), pull::Refusal>(())
+/// ```
+pub fn archive_with(cutoffs: &Cutoffs, records: &[u8]) -> Result<Vec<u8>, Refusal> {
+    archived(|archive| archive_with_fill(&cutoffs.to_table(), records, archive))
 }
 
 /// The C function `pull_archive` on two slices: what it returns. From
@@ -192,15 +311,32 @@ pub fn archive_fill(records: &[u8], archive: &mut [u8]) -> u32 {
     unsafe { c::pull_archive(records.as_ptr(), records.len(), archive.as_mut_ptr(), archive.len()) }
 }
 
+/// The C function `pull_archive_with` on three slices: as [`archive_fill`], and 14
+/// for a table that is none, after 1 and before the records are looked at.
+pub fn archive_with_fill(table: &[u8], records: &[u8], archive: &mut [u8]) -> u32 {
+    // SAFETY: as for [`kenward_roger_with_fill`].
+    unsafe {
+        c::pull_archive_with(
+            table.as_ptr(),
+            table.len(),
+            records.as_ptr(),
+            records.len(),
+            archive.as_mut_ptr(),
+            archive.len(),
+        )
+    }
+}
+
 /// Judges by Kenward–Roger from an archive: each coefficient alone, then the
 /// contrast if the second file has one. `tests` holds β (kind 8), the contrast
 /// (9) and the hypothesis values (10), as a series does.
 pub fn archive_test(archive: &[u8], tests: &[u8]) -> Result<Run, Refusal> {
-    let mut answer = [0; KENWARD_ROGER_BYTES];
-    match archive_test_fill(archive, tests, &mut answer) {
-        0 => Ok(Run::from_bytes(&answer)),
-        number => Err(Refusal::from_number(number)),
-    }
+    run(|answer| archive_test_fill(archive, tests, answer))
+}
+
+/// The same with a lab's own cutoffs, of which the test has the first five.
+pub fn archive_test_with(cutoffs: &Cutoffs, archive: &[u8], tests: &[u8]) -> Result<Run, Refusal> {
+    run(|answer| archive_test_with_fill(&cutoffs.to_table(), archive, tests, answer))
 }
 
 /// The C function `pull_archive_test` on three slices: as
@@ -209,6 +345,29 @@ pub fn archive_test_fill(archive: &[u8], tests: &[u8], answer: &mut [u8]) -> u32
     // SAFETY: as for [`kenward_roger_fill`]; the two files are only read.
     unsafe {
         c::pull_archive_test(
+            archive.as_ptr(),
+            archive.len(),
+            tests.as_ptr(),
+            tests.len(),
+            answer.as_mut_ptr(),
+            answer.len(),
+        )
+    }
+}
+
+/// The C function `pull_archive_test_with` on four slices: as
+/// [`kenward_roger_with_fill`], 14 before either file is looked at.
+pub fn archive_test_with_fill(
+    table: &[u8],
+    archive: &[u8],
+    tests: &[u8],
+    answer: &mut [u8],
+) -> u32 {
+    // SAFETY: as for [`kenward_roger_with_fill`]; the two files are only read.
+    unsafe {
+        c::pull_archive_test_with(
+            table.as_ptr(),
+            table.len(),
             archive.as_ptr(),
             archive.len(),
             tests.as_ptr(),

@@ -3,7 +3,8 @@
 use std::fmt;
 
 /// The reason for which a call gave no answer. Where several hold it is the
-/// one with the lowest number, but for these: [`Refusal::Order`] comes directly
+/// one with the lowest number, but for these: [`Refusal::Table`] comes directly after
+/// [`Refusal::Length`], before anything of a file is looked at; [`Refusal::Order`] comes directly
 /// after the file's length, so before every other reason of
 /// [`Refusal::Records`]; [`Refusal::ParameterCount`] comes after all of
 /// [`Refusal::Records`], and before [`Refusal::Size`]; the late reason of [`Refusal::NotFinite`] comes
@@ -53,6 +54,10 @@ pub enum Refusal {
     /// eight value bytes, is not that of its parameters, k(k+1)/2. No byte holds
     /// that of a k above 22.
     ParameterCount,
+    /// 14: a table of cutoffs that is not nine records of kind 20 with the rows 0 to 8,
+    /// in this order and with every other byte zero, each with a value that is finite
+    /// and above zero, the last above 2.
+    Table,
     /// A number that this library has no name for: the panel's library is of
     /// a later delivery.
     Unlisted(u32),
@@ -61,7 +66,7 @@ pub enum Refusal {
 use Refusal::*;
 
 /// In the order of their numbers, from 1.
-const LISTED: [Refusal; 13] = [
+const LISTED: [Refusal; 14] = [
     Length,
     Records,
     Size,
@@ -75,6 +80,7 @@ const LISTED: [Refusal; 13] = [
     Eigenvalue,
     Order,
     ParameterCount,
+    Table,
 ];
 
 impl Refusal {
@@ -109,6 +115,7 @@ impl fmt::Display for Refusal {
             Eigenvalue => "the contrast's covariance is not positive definite",
             Order => "the records are not in rising order",
             ParameterCount => "the number written in a block is not k(k+1)/2",
+            Table => "the table of cutoffs is damaged, or has a value that none may have",
             Unlisted(number) => return write!(out, "refused with number {number}"),
         };
         out.write_str(text)
@@ -129,6 +136,7 @@ mod tests {
         assert_eq!(Refusal::from_number(1), Length);
         assert_eq!(Refusal::from_number(12), Order);
         assert_eq!(Refusal::from_number(13), ParameterCount);
-        assert_eq!(Refusal::from_number(14), Unlisted(14));
+        assert_eq!(Refusal::from_number(14), Table);
+        assert_eq!(Refusal::from_number(15), Unlisted(15));
     }
 }

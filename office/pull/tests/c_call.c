@@ -1,4 +1,5 @@
-/* pull.h from C: document 01's examples, a torn pull, a block's number, refusals, other lengths. */
+/* pull.h from C: document 01's examples, a torn pull, a block's number, tables of cutoffs, refusals,
+ * other lengths. */
 
 #include "pull.h"
 
@@ -291,6 +292,106 @@ static int archive(void)
     return 0;
 }
 
+/* The built-in table. */
+static void built_in(uint8_t *table)
+{
+    const double values[9] = {1e-15, 1e-10, 1e-10, 1e-12, 1e-2, 1e-10, 1e-8, 0x1p-100, 3000.0};
+    uint8_t row;
+
+    for (row = 0; row < 9; row++)
+        record(table + 16 * row, 20, row, 0, values[row]);
+}
+
+/* The example with tables: the built-in one, one that is none, and IE, which is 1, at the cutoff. */
+static int table_direct(void)
+{
+    uint8_t table[PULL_TABLE_BYTES], records[96], answer[PULL_KENWARD_ROGER_BYTES];
+    uint8_t plain[PULL_KENWARD_ROGER_BYTES], kept[PULL_KENWARD_ROGER_BYTES];
+
+    built_in(table);
+    example(records);
+    memset(answer, 0xa5, sizeof answer);
+    memset(kept, 0xa5, sizeof kept);
+    if (pull_kenward_roger_with(table, 143, records, 96, answer, 100) != PULL_LENGTH)
+        return failed("100 answer bytes and a short table");
+    if (pull_kenward_roger_with(table, 143, records, 96, answer, sizeof answer) != PULL_TABLE)
+        return failed("143 bytes of a table");
+    record(table + 128, 20, 8, 0, 2.0);
+    if (pull_kenward_roger_with(table, sizeof table, records, 95, answer, sizeof answer) != PULL_TABLE)
+        return failed("a cap of 2, and 95 bytes of records");
+    built_in(table);
+    swap(table + 16);
+    if (pull_kenward_roger_with(table, sizeof table, records, 96, answer, sizeof answer) != PULL_TABLE)
+        return failed("a table out of order");
+    built_in(table);
+    if (pull_kenward_roger_with(table, sizeof table, records, 95, answer, sizeof answer) != PULL_RECORDS)
+        return failed("95 bytes of records and a table");
+    if (memcmp(answer, kept, sizeof answer) != 0)
+        return failed("a refusal has written answer bytes");
+
+    if (pull_kenward_roger_with(table, sizeof table, records, 96, answer, sizeof answer) != PULL_ACCEPTED)
+        return failed("the example with the built-in table");
+    if (pull_kenward_roger(records, 96, plain, sizeof plain) != PULL_ACCEPTED)
+        return failed("the example is refused");
+    if (memcmp(answer, plain, sizeof answer) != 0)
+        return failed("the built-in table has changed the answer");
+    record(table + 80, 20, 5, 0, 1.0);
+    record(table + 96, 20, 6, 0, 1.0);
+    if (pull_kenward_roger_with(table, sizeof table, records, 96, answer, sizeof answer) != PULL_ACCEPTED)
+        return failed("the example with the cutoff 1");
+    if (number(answer + 8) != 2.0)
+        return failed("df with IE raised from 1 to 2");
+    return 0;
+}
+
+/* The archive's two and the Satterthwaite call with a table. */
+static int table_others(void)
+{
+    uint8_t table[PULL_TABLE_BYTES], records[96], lent[PULL_ARCHIVE_BYTES], kept[PULL_ARCHIVE_BYTES];
+    uint8_t answer[PULL_KENWARD_ROGER_BYTES], direct[PULL_KENWARD_ROGER_BYTES];
+    uint8_t file[240], *end;
+
+    built_in(table);
+    example(records);
+    memset(lent, 0xa5, sizeof lent);
+    memset(kept, 0xa5, sizeof kept);
+    memset(answer, 0xa5, sizeof answer);
+    record(table + 80, 20, 5, 0, -0.0);
+    if (pull_archive_with(table, sizeof table, records, 95, lent, sizeof lent) != PULL_TABLE)
+        return failed("a cutoff of -0 for the archive");
+    if (pull_archive_test_with(table, sizeof table, lent, 7, lent, 7, answer, sizeof answer) != PULL_TABLE)
+        return failed("a cutoff of -0 for a test from an archive");
+    if (memcmp(lent, kept, sizeof lent) != 0 || memcmp(answer, kept, sizeof answer) != 0)
+        return failed("a refusal has written lent bytes");
+    record(table + 80, 20, 5, 0, 1.0);
+    record(table + 96, 20, 6, 0, 1.0);
+    if (pull_archive_with(table, sizeof table, records, 96, lent, sizeof lent) != 128)
+        return failed("the length of an archive with a table");
+    if (number(lent + 56) != 1.0)
+        return failed("W with IE raised from 1 to 2");
+    if (pull_archive_test_with(table, sizeof table, lent, 128, records + 64, 32, answer, sizeof answer) != PULL_ACCEPTED)
+        return failed("a test from an archive with a table");
+    if (pull_kenward_roger_with(table, sizeof table, records, 96, direct, sizeof direct) != PULL_ACCEPTED)
+        return failed("the direct call with a table");
+    if (memcmp(answer, direct, sizeof answer) != 0)
+        return failed("the test from the archive is not the direct call's, with a table");
+
+    record(file, 8, 0, 0, 4.0);
+    record(file + 16, 8, 1, 0, 1.0);
+    end = diagonal(file + 32, 9, 1.0, 1.0);
+    end = diagonal(end, 30, 4.0, 1.0);
+    end = diagonal(end, 31, 4.0, 1.0);
+    record(end, 32, 0, 0, 0.5);
+    record(table + 128, 20, 8, 0, 3.0);
+    if (pull_satterthwaite_with(table, 0, file, sizeof file, answer, PULL_ENTRY_BYTES) != PULL_TABLE)
+        return failed("no table for the other call");
+    if (pull_satterthwaite_with(table, sizeof table, file, sizeof file, answer, PULL_ENTRY_BYTES) != PULL_ACCEPTED)
+        return failed("example (i) with a table");
+    if (number(answer) != 2.5 || number(answer + 8) != 3.0)
+        return failed("example (i) with a cap of 3");
+    return 0;
+}
+
 int main(void)
 {
     if (kenward_roger() != 0)
@@ -302,6 +403,10 @@ int main(void)
     if (satterthwaite() != 0)
         return 1;
     if (archive() != 0)
+        return 1;
+    if (table_direct() != 0)
+        return 1;
+    if (table_others() != 0)
         return 1;
     printf("C calls: ok\n");
     return 0;

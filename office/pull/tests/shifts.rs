@@ -4,10 +4,12 @@
 //! outside whose verdict changes.
 //!
 //! The series are the stored vectors, those with some of their values replaced
-//! by random ones or with torn specimens, and random small files.
+//! by random ones or with torn specimens, and random small files. The same again with
+//! a table for each series, of every sort, which stays where the unit changes.
 
 use reader::random::Random;
 use reader::shift::Shift;
+use reader::table_tries::random_table;
 use reader::torn::{with_torn, Torn};
 use reader::tries::{Call, Tries};
 use reader::vectors::{self, hex};
@@ -17,14 +19,20 @@ use reader::{Record, BLOCK};
 const INSIDE: usize = 20_000;
 /// Of these with torn specimens, at least; the Satterthwaite call has none.
 const TORN: usize = 4_000;
+/// The same with tables.
+const INSIDE_WITH: usize = 10_000;
+const TORN_WITH: usize = 1_500;
 /// Shifts of each stored vector as it is.
 const EACH: usize = 4;
 
 struct Function {
     call: Call,
     vectors: &'static str,
-    fill: fn(&[u8], &mut [u8]) -> u32,
+    /// With a table first, which a call without one passes over.
+    fill: fn(&[u8], &[u8], &mut [u8]) -> u32,
     answer_length: usize,
+    /// Whether the tables are random ones.
+    tables: bool,
 }
 
 /// What has been seen.
@@ -45,9 +53,9 @@ struct Seen {
 
 impl Function {
     /// The answer bytes, or the number of the refusal.
-    fn answer(&self, file: &[u8]) -> Result<Vec<u8>, u32> {
+    fn answer(&self, table: &[u8], file: &[u8]) -> Result<Vec<u8>, u32> {
         let mut answer = vec![0; self.answer_length];
-        match (self.fill)(file, &mut answer) {
+        match (self.fill)(table, file, &mut answer) {
             0 => Ok(answer),
             number => Err(number),
         }
@@ -55,20 +63,23 @@ impl Function {
 
     /// One series in one other unit.
     fn shifted(&self, file: &[u8], random: &mut Random, seen: &mut Seen) {
-        let Ok(before) = self.answer(file) else {
+        let table = if self.tables { random_table(random).1.to_table() } else { Vec::new() };
+        let Ok(before) = self.answer(&table, file) else {
             return;
         };
         let shift =
             if random.once_in(2) { Shift::random(random) } else { Shift::borne(random, self.call) };
         let Some(other) = shift.apply(self.call, file) else {
             // A value that the other unit has no number for is out of range itself.
-            assert!(!inside(&before), "{shift:?} of {}: no such file", hex(file));
+            let files = format!("{} with {}", hex(file), hex(&table));
+            assert!(!inside(&before), "{shift:?} of {files}: no such file");
             return;
         };
-        let after = self.answer(&other);
+        let after = self.answer(&table, &other);
         let same = after.as_deref().map(verdict) == Ok(verdict(&before));
         if inside(&before) {
-            assert!(same, "{shift:?} of {}: {before:02x?}, then {after:02x?}", hex(file));
+            let files = format!("{} with {}", hex(file), hex(&table));
+            assert!(same, "{shift:?} of {files}: {before:02x?}, then {after:02x?}");
             seen.inside += 1;
             seen.torn += usize::from(Torn::of(file).is_some());
             seen.both += usize::from(after.is_ok_and(|a| inside(&a)));
@@ -93,7 +104,8 @@ impl Function {
             }
         }
         let tries = Tries::new(self.call);
-        while seen.inside < INSIDE {
+        let (least, torn) = if self.tables { (INSIDE_WITH, TORN_WITH) } else { (INSIDE, TORN) };
+        while seen.inside < least {
             let stored = &stored[random.below(stored.len())].file;
             let file = match random.below(8) {
                 0..=3 => varied(&mut random, stored),
@@ -103,16 +115,20 @@ impl Function {
             self.shifted(&file, &mut random, &mut seen);
         }
         println!(
-            "{:?}: {} shifts of inside series, no verdict changed, {} inside in both units;",
-            self.call, seen.inside, seen.both
+            "{:?}{}: {} shifts of inside series, no verdict changed, {} inside in both units;",
+            self.call,
+            if self.tables { " with tables" } else { "" },
+            seen.inside,
+            seen.both
         );
         println!("  {} of them with torn specimens;", seen.torn);
         println!("  by the length of the file, in steps of 40 records: {:?};", seen.lengths);
         println!("  {} of series outside, {} verdicts changed", seen.outside, seen.outside_changed);
         let (file, shift) = seen.example.expect("a verdict of a series outside changes");
         println!("  the shortest of these: {shift:?} of {}", hex(&file));
-        assert!(seen.outside_changed >= 20, "the mark means little");
-        assert!(self.call == Call::Satterthwaite || seen.torn >= TORN, "{} torn", seen.torn);
+        let changed = if self.tables { 10 } else { 20 };
+        assert!(seen.outside_changed >= changed, "the mark means little");
+        assert!(self.call == Call::Satterthwaite || seen.torn >= torn, "{} torn", seen.torn);
     }
 }
 
@@ -156,24 +172,35 @@ fn varied(random: &mut Random, file: &[u8]) -> Vec<u8> {
     out
 }
 
+/// The Kenward–Roger call, by this function.
+fn kenward_roger_by(fill: fn(&[u8], &[u8], &mut [u8]) -> u32, tables: bool) -> Function {
+    let answer_length = pull::KENWARD_ROGER_BYTES;
+    let (call, vectors) = (Call::KenwardRoger, "kenward-roger.txt");
+    Function { call, vectors, fill, answer_length, tables }
+}
+
+fn satterthwaite_by(fill: fn(&[u8], &[u8], &mut [u8]) -> u32, tables: bool) -> Function {
+    let answer_length = pull::ENTRY_BYTES;
+    let (call, vectors) = (Call::Satterthwaite, "satterthwaite.txt");
+    Function { call, vectors, fill, answer_length, tables }
+}
+
 #[test]
 fn kenward_roger() {
-    let function = Function {
-        call: Call::KenwardRoger,
-        vectors: "kenward-roger.txt",
-        fill: pull::kenward_roger_fill,
-        answer_length: pull::KENWARD_ROGER_BYTES,
-    };
-    function.run();
+    kenward_roger_by(|_, file, answer| pull::kenward_roger_fill(file, answer), false).run();
 }
 
 #[test]
 fn satterthwaite() {
-    let function = Function {
-        call: Call::Satterthwaite,
-        vectors: "satterthwaite.txt",
-        fill: pull::satterthwaite_fill,
-        answer_length: pull::ENTRY_BYTES,
-    };
-    function.run();
+    satterthwaite_by(|_, file, answer| pull::satterthwaite_fill(file, answer), false).run();
+}
+
+#[test]
+fn kenward_roger_with_tables() {
+    kenward_roger_by(pull::kenward_roger_with_fill, true).run();
+}
+
+#[test]
+fn satterthwaite_with_tables() {
+    satterthwaite_by(pull::satterthwaite_with_fill, true).run();
 }

@@ -1,5 +1,6 @@
-//! The reader of record files, with the refusals 2 to 8, 12 and 13, and of the
-//! archive that a series' adjusted matrices are kept in (`archive`).
+//! The reader of record files, with the refusals 2 to 8, 12 and 13, of the archive
+//! that a series' adjusted matrices are kept in (`archive`), and of the tables that
+//! hold a lab's own cutoffs (`cutoffs`), with 14.
 //!
 //! A length that is no multiple of 16 comes first (2), then records that do not
 //! rise (12), then every other reason of 2, among which the order does not
@@ -19,10 +20,13 @@ use std::collections::BTreeMap;
 
 pub mod archive;
 pub mod archive_tries;
+pub mod cutoffs;
 pub mod numbers;
 pub mod order;
 pub mod random;
 pub mod shift;
+pub mod table_tries;
+pub mod table_vectors;
 pub mod torn;
 pub mod tries;
 pub mod vectors;

@@ -27,6 +27,7 @@
 use oracle::calls::series_to_run;
 use oracle::random::{file, kr_file, kr_records, series_of_sizes};
 use oracle::{lme_run, marked};
+use reader::cutoffs::Cutoffs;
 use reader::random::Random;
 use reader::torn::shortened;
 use reader::{Block, Series};
@@ -141,7 +142,7 @@ fn lme_rs(files: &Files) {
 
 fn marked_run(files: &Files) {
     let series = series_to_run(black_box(&files.series)).expect("it is accepted");
-    black_box(marked::kenward_roger_run(&series).expect("it is accepted"));
+    black_box(marked::kenward_roger_run(&Cutoffs::BUILT_IN, &series).expect("it is accepted"));
 }
 
 fn archive(files: &Files) {
@@ -169,8 +170,8 @@ fn files(size: &Size) -> Vec<Files> {
     for _ in 0..1000 {
         let series = series_of_sizes(&mut random, size.n, size.p, size.blocks.clone(), size.rows);
         let file = kr_file(&mut random, &series);
-        let accepted =
-            pull::kenward_roger(&file).is_ok() && marked::kenward_roger_run(&series).is_ok();
+        let accepted = pull::kenward_roger(&file).is_ok()
+            && marked::kenward_roger_run(&Cutoffs::BUILT_IN, &series).is_ok();
         if accepted {
             let archive = pull::archive(&file).expect("it is accepted");
             out.push(Files { archive, tests: pull::test_records(&file), series: file });

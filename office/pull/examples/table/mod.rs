@@ -1,9 +1,10 @@
-//! What the examples share: a file by its name, and an answer as a table.
+//! What the examples share: a file by its name, the cutoffs of a table's file, and an
+//! answer as a table.
 
 // No example uses all of it.
 #![allow(dead_code)]
 
-use pull::{Refusal, Run, Test};
+use pull::{Cutoffs, Refusal, Run, Test};
 use std::io::Read;
 use std::process::ExitCode;
 
@@ -18,6 +19,15 @@ pub fn bytes(name: Option<&str>) -> std::io::Result<Vec<u8>> {
             Ok(file)
         }
         Some(path) => std::fs::read(path),
+    }
+}
+
+/// The cutoffs of a table's file, or why it is refused; without a name the built-in
+/// ones.
+pub fn cutoffs(name: Option<&str>) -> std::io::Result<Result<Cutoffs, Refusal>> {
+    match name {
+        None => Ok(Ok(Cutoffs::default())),
+        Some(path) => Ok(Cutoffs::from_table(&std::fs::read(path)?)),
     }
 }
 

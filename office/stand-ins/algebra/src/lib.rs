@@ -256,15 +256,17 @@ pub struct Eigen {
 
 const SWEEPS: usize = 30;
 
-/// Jacobi of a symmetric matrix whose upper half is read.
-pub fn jacobi(ar: &impl Arithmetic, a: &Matrix) -> Eigen {
+/// Document 01's factor of the rotation test: 2^-100, exactly.
+pub const ROTATION_FACTOR: f64 = f64::from_bits((1023 - 100) << 52);
+
+/// Jacobi of a symmetric matrix whose upper half is read. Where A_ab is not zero it
+/// rotates if A_ab² > factor × (A_aa × A_bb); the factor is an operand as any other.
+pub fn jacobi(ar: &impl Arithmetic, a: &Matrix, factor: f64) -> Eigen {
     let n = a.rows;
     assert_eq!(a.cols, n, "sizes of a Jacobi");
     let mut a = Matrix::from_fn(n, n, |i, j| if i <= j { a[(i, j)] } else { a[(j, i)] });
     let mut vectors = Matrix::identity(n);
     let mut rotations = 0;
-    // 2^-100, exactly.
-    let small = f64::from_bits((1023 - 100) << 52);
     for _ in 0..SWEEPS {
         for p in 0..n {
             for q in p + 1..n {
@@ -273,7 +275,7 @@ pub fn jacobi(ar: &impl Arithmetic, a: &Matrix) -> Eigen {
                     continue;
                 }
                 let square = ar.mul(apq, apq);
-                let bound = ar.mul(small, ar.mul(a[(p, p)], a[(q, q)]));
+                let bound = ar.mul(factor, ar.mul(a[(p, p)], a[(q, q)]));
                 // A NaN on either side makes no rotation.
                 if !(square > bound) {
                     continue;

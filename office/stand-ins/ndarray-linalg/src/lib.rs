@@ -1,7 +1,9 @@
 //! A stand-in for the part of `ndarray-linalg` that four files of lme-rs use:
 //! document 01's elimination, Cholesky, Jacobi and sweeps over row pairs.
 
-use listed_algebra::{cholesky, eliminate, inverse, jacobi, row_values, Matrix, Plain};
+use listed_algebra::{
+    cholesky, eliminate, inverse, jacobi, row_values, Matrix, Plain, ROTATION_FACTOR,
+};
 use ndarray::{Array1, Array2};
 use std::cell::{Cell, RefCell};
 use std::fmt;
@@ -71,8 +73,15 @@ impl Solve for Array2<f64> {
 }
 
 thread_local! {
+    static FACTOR: Cell<f64> = const { Cell::new(ROTATION_FACTOR) };
     static ROTATIONS: Cell<u32> = const { Cell::new(0) };
     static MATRIX: RefCell<Option<Matrix>> = const { RefCell::new(None) };
+}
+
+/// Sets the factor of the rotation test for each `eigh` of this thread from now on.
+/// LAPACK has no such number, so lme-rs has no place for it; it is 2^-100 until set.
+pub fn set_rotation_factor(factor: f64) {
+    FACTOR.with(|f| f.set(factor));
 }
 
 /// The rotations that the last `eigh` of this thread made.
@@ -93,7 +102,7 @@ pub trait Eigh {
 impl Eigh for Array2<f64> {
     fn eigh(&self, half: UPLO) -> Answer<(Array1<f64>, Array2<f64>)> {
         assert_eq!(half, UPLO::Upper);
-        let eigen = jacobi(&Plain, &self.to_matrix());
+        let eigen = jacobi(&Plain, &self.to_matrix(), FACTOR.with(|f| f.get()));
         ROTATIONS.with(|r| r.set(eigen.rotations));
         MATRIX.with(|m| *m.borrow_mut() = Some(self.to_matrix()));
         Ok((eigen.values.into(), Array2::from_matrix(eigen.vectors)))
