@@ -21,8 +21,9 @@
 //!
 //! `bench --calls RUN SIZE COUNT` only calls one of the three (0 to 2), of the
 //! archive's two (3: `pull_archive`, 4: `pull_archive_test`) or of the torn ones
-//! (5: torn, 6: whole, 7: left), on the series of one size of the first table (0 to
-//! 9), COUNT times each: for a program that counts instructions.
+//! (5: torn, 6: whole, 7: left), or `pull_kenward_roger_with` at the built-in table
+//! (8), on the series of one size of the first table (0 to 9), COUNT times each: for
+//! a program that counts instructions.
 
 use oracle::calls::series_to_run;
 use oracle::random::{file, kr_file, kr_records, series_of_sizes};
@@ -133,6 +134,15 @@ fn torn_files(size: &Size) -> Vec<TornFiles> {
 
 fn panel(files: &Files) {
     call(&files.series);
+}
+
+/// The same answer, with the table read: what a table costs.
+fn tabled(files: &Files) {
+    let table = pull::Cutoffs::default().to_table();
+    let mut answer = [0; pull::KENWARD_ROGER_BYTES];
+    let series = black_box(&files.series);
+    black_box(pull::kenward_roger_with_fill(black_box(&table), series, &mut answer));
+    black_box(answer);
 }
 
 fn lme_rs(files: &Files) {
@@ -253,12 +263,13 @@ fn calls(words: &[String]) {
         panic!("--calls RUN SIZE COUNT");
     };
     let size = &sizes()[size];
-    if run >= 5 {
+    if (5..8).contains(&run) {
         let (files, run) = (torn_files(size), TORN_RUNS[run - 5]);
         return (0..count).for_each(|_| files.iter().for_each(run));
     }
     let files = files(size);
-    let run = [RUNS[0], RUNS[1], RUNS[2], ARCHIVE_RUNS[1], ARCHIVE_RUNS[2]][run];
+    let runs = [RUNS[0], RUNS[1], RUNS[2], ARCHIVE_RUNS[1], ARCHIVE_RUNS[2]];
+    let run = runs.get(run).copied().unwrap_or(tabled);
     (0..count).for_each(|_| files.iter().for_each(run));
 }
 
