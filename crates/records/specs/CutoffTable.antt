@@ -1,5 +1,5 @@
 -- Document 02, "Req 06": a lab's own small numbers. "A file of 16-byte records, kind 20, row 0 to 8, holds them in this order: a2 and d; V0 and V2; div; qρ−1; df near 2; IE eigenvalue; IE diagonal; rotation
--- factor; component cap." lab is such a file, a list of bytes; its records are read as every file's are.
+-- factor; component cap." "2^-52 and the 1e-8 of `get_fstat_ddf` stay": they are no rows, and stand in tests/Basis and tests/PooledDf. lab is such a file, a list of bytes; its records are read as every file's are.
 use Prim.Native.Nat.{ℕ}
 use mathlib.Core.Bool.{Bool, not, _||_, cond}
 use mathlib.Core.List.{List, [], _∷_}
@@ -39,7 +39,7 @@ unfoldable pub tableReasons : List ℕ → List (ℕ × Bool)
 tableReasons lab = (14, badTable lab) ∷ []
 
 -- ---- what a table holds, and the table that holds given numbers
--- "in this order"
+-- "in this order: a2 and d; V0 and V2; div; qρ−1; df near 2; IE eigenvalue; IE diagonal; rotation factor; component cap"
 unfoldable pub cutoffsIn : List ℕ → Cutoffs
 cutoffsIn lab = record {
   moment = valueOf lab 0;
@@ -53,6 +53,7 @@ cutoffsIn lab = record {
   cap = valueOf lab 8;
 }
 
+-- number i in the same order; and the file of nine records that holds them
 unfoldable pub cutoffAt : Cutoffs → ℕ → Float
 cutoffAt c i = getD (c .moment ∷ c .leading ∷ c .divisor ∷ c .excess ∷ c .near ∷ c .eigenvalue ∷ c .ridge ∷ c .rotation ∷ c .cap ∷ []) i nan
 
