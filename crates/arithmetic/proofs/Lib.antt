@@ -7,6 +7,7 @@ pub mod Tied
 pub mod Ranges
 pub mod RangeTest
 pub mod PlainLaws
+pub mod OrderLaws
 pub mod RangeCode
 pub mod PowerOfTwo
 pub mod RootWhole

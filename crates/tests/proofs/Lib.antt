@@ -10,3 +10,4 @@ pub mod MarkedRotation
 pub mod TestsAlike
 pub mod SatterthwaiteAlike
 pub mod PlainTests
+pub mod GivenF
