@@ -36,6 +36,12 @@ pub mod TornKeeps
 pub mod CountLaws
 pub mod CountsKeep
 pub mod CutoffTableKeeps
+pub mod SeasonExamples
+pub mod SeasonLaws
+pub mod WorstLaws
+pub mod SeasonTexts
+pub mod SeasonParted
+pub mod SeasonPrints
 pub mod Examples
 pub mod CallExamples
 pub mod CutoffExamples

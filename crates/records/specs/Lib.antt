@@ -22,5 +22,7 @@ pub mod TornKeeps
 pub mod CountsKeep
 pub mod CutoffTableKeeps
 pub mod Text
+pub mod Season
+pub mod SeasonPrints
 pub mod AnyOrder
 pub mod Bench
