@@ -140,7 +140,7 @@ fn put_test(out: &mut [u8], at: usize, e: Entry) -> usize
 }
 
 // The refusal and its number, of which a u32 has ten digits at most.
-fn put_refusal(out: &mut [u8], at: usize, number: u32) -> usize
+pub fn put_refusal(out: &mut [u8], at: usize, number: u32) -> usize
     requires { ⌜ at + 19 ≤ length (now out) ⌝ }
     ensures { λ r. ⌜ Put 19 (now (out .entry)) at (refusalText number) (now (out .exit)) r ⌝ }
 {

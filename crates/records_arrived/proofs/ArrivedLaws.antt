@@ -12,7 +12,6 @@ use borrow.Author.Tests.{eqb-true, eqb-false, ne-eqb, not-false, lt-ltb, le-ltb}
 use Rattle.arithmetic_cutoffs.specs.declared.Cutoffs.{Cutoffs}
 use Rattle.tests.specs.declared.Entry.{Entry}
 use Rattle.tests.specs.Answer.{noEntry}
-use Rattle.records.specs.Text.{textOf}
 use Rattle.algebra.specs.Reasons.{first}
 use Rattle.algebra.proofs.ReasonLaws.{passed}
 use Rattle.records.specs.Bytes.{byte}
@@ -45,15 +44,23 @@ fallen-refusal s h f = rw (h, f)
 long-refusal : (s : List ℕ) → 16384 ≤ length s → falls s ≡ false → refusal 24 s ≡ 2
 long-refusal s h f = let e = panel-slots in too-long 24 (omega arith) s (omega arith) f
 
--- ---- what is printed, by whether something need be kept
+-- ---- its number and its entries, by whether something need be kept
 module _ (c : Cutoffs) (a : Arrival) (kept : List ℕ) (n : ℕ) (q : n ≡ unkeptNumber a) where
-  pub text-unkept : (e : Entry) → e ≡ noEntry → (n ≡ 0 → ⊥) → textOf n (replicate 7 e) ≡ textOf (arrivedNumber c a kept) (arrivedEntries c a kept)
-  unfolding arrivedNumber arrivedEntries
-  text-unkept e h f = rw (h, ← q, ne-eqb n 0 f)
+  pub number-unkept : (n ≡ 0 → ⊥) → n ≡ arrivedNumber c a kept
+  unfolding arrivedNumber
+  number-unkept f = rw (← q, ne-eqb n 0 f)
 
-  pub text-kept : n ≡ 0 → textOf (number 24 c (keptFile a kept)) (entries 24 c (keptFile a kept)) ≡ textOf (arrivedNumber c a kept) (arrivedEntries c a kept)
-  unfolding arrivedNumber arrivedEntries
-  text-kept z = rw (← q, z)
+  pub entries-unkept : (e : Entry) → e ≡ noEntry → (n ≡ 0 → ⊥) → replicate 7 e ≡ arrivedEntries c a kept
+  unfolding arrivedEntries
+  entries-unkept e h f = rw (h, ← q, ne-eqb n 0 f)
+
+  pub number-kept : n ≡ 0 → number 24 c (keptFile a kept) ≡ arrivedNumber c a kept
+  unfolding arrivedNumber
+  number-kept z = rw (← q, z)
+
+  pub entries-kept : n ≡ 0 → entries 24 c (keptFile a kept) ≡ arrivedEntries c a kept
+  unfolding arrivedEntries
+  entries-kept z = rw (← q, z)
 
 -- ---- a file of bytes that came
 module _ (c : Cutoffs) (s : List ℕ) (bytes : (i : ℕ) → byte s i < 256) (st : Arrived) (room : length (st .kept) ≡ 16384) (k : Came s st) where

@@ -8,8 +8,8 @@ use mathlib.Core.Bool.{Bool, _||_}
 use mathlib.Core.List.{List, [], _∷_, _++_, append-assoc, append-nil}
 use mathlib.Core.Logic.{inl}
 use lib.Dec.{ltb}
-use lib.ListN.{length, set, length-set, length-append, List·getD-append}
-use lib.Seq.{getD-set-same, getD-set-other, getD-append-add}
+use lib.ListN.{length, set, take, drop, length-set, length-append, take-append-drop, List·getD-append}
+use lib.Seq.{getD-set-same, getD-set-other, getD-append-add, getD-take, length-take-le}
 use borrow.Author.Tests.{le-leb, lt-leb, lt-ltb, le-ltb, eq-eqb, ne-eqb}
 use Rattle.algebra.proofs.FoldLaws.{length-span, span-at, span-other}
 use Rattle.records.specs.Bytes.{byte}
@@ -21,7 +21,7 @@ use Rattle.records.proofs.WrittenLaws.{word-same}
 use Rattle.records_order.specs.joints.Keys.{keyOf, leastKey, fallsAt}
 use Rattle.records_order.proofs.KeyLaws.{next-least}
 use Rattle.records_pieces.specs.declared.Arrival.{Arrival}
-use Rattle.records_pieces.specs.joints.Arrived.{Arrived, arrivedAs, nothingYet, oneMore, keptOne, passedOne, withRecord, takeRecord, takeByte, fed, Came, Arrives}
+use Rattle.records_pieces.specs.joints.Arrived.{Arrived, arrivedAs, nothingYet, oneMore, wholeOnes, keptOne, passedOne, withRecord, takeRecord, takeByte, fed, Came, Arrives}
 
 -- ---- a record's key is its bytes'
 pub key-same : (s t : List ℕ) (i j : ℕ) → ((o : ℕ) → o < 16 → byte s (16 * i + o) ≡ byte t (16 * j + o)) → keyOf s i ≡ keyOf t j
@@ -221,13 +221,33 @@ module _ (s : List ℕ) (b : ℕ) (st : Arrived) (c : Came s st) where
       go (yes e) = rw (eq-eqb (a .part) 15 e) (whole-came e)
       go (no e) = rw (ne-eqb (a .part) 15 e) (part-came e)
 
+-- ---- the file without the bytes of a record that is not whole
+pub wholes-came : (s : List ℕ) (st : Arrived) → Came s st → Came (take (16 * count s) s) (arrivedAs (wholeOnes (st .arrival)) (st .kept) (st .current))
+wholes-came s st c =
+    let t = take (16 * count s) s in
+    let r = drop (16 * count s) s in
+    let whole : t ++ r ≡ s = take-append-drop (16 * count s) s in
+    let long : length t ≡ 16 * count s = length-take-le (16 * count s) s (omega arith) in
+    let same : count t ≡ count s = omega arith in
+    let sixteen : length t % 16 ≡ 0 = omega arith in
+    record {
+      ready = record { part = omega arith; sixteen = c .ready .sixteen; room = c .ready .room };
+      part = sym sixteen;
+      records = rw same (c .records);
+      longer = rw same (c .longer);
+      least = c .least ∙ sym (ap₂ leastKey whole same) ∙ least-before t r (count t) (omega arith);
+      fell = c .fell ∙ sym (ap₂ (λ (n : ℕ) (f : List ℕ). any n (fallsAt f)) same whole) ∙ falls-before t r;
+      current = λ o h. absurd (omega arith);
+      kept = λ o h. c .kept o h ∙ sym (getD-take (16 * count s) s o 0 (omega (arith, c .records)));
+    }
+
 -- ---- WHAT A FILE LEAVES
 more-came : (rest s : List ℕ) (st : Arrived) → Came s st → Came (s ++ rest) (fed rest st)
 unfolding fed
 more-came [] s st c = rw (append-nil s) c
 more-came (b ∷ rest) s st c = rw (append-assoc s (b ∷ []) rest) at (more-came rest (s ++ (b ∷ [])) (takeByte b st) (byte-came s b st c))
 
-nothing-came : (kept current : List ℕ) → length current ≡ 16 → Came [] (arrivedAs nothingYet kept current)
+pub nothing-came : (kept current : List ℕ) → length current ≡ 16 → Came [] (arrivedAs nothingYet kept current)
 unfolding any leastKey
 nothing-came kept current h = record {
   ready = record { part = omega arith; sixteen = h; room = omega arith };
@@ -244,7 +264,7 @@ pub file-came : (s kept current : List ℕ) → length current ≡ 16 → Came s
 file-came s kept current h = more-came s [] (arrivedAs nothingYet kept current) (nothing-came kept current h)
 
 -- ---- a program that reads by pieces always has what some file of bytes leaves
-joined-bytes : (a b : List ℕ) → ((i : ℕ) → byte a i < 256) → ((i : ℕ) → byte b i < 256) → (i : ℕ) → byte (a ++ b) i < 256
+pub joined-bytes : (a b : List ℕ) → ((i : ℕ) → byte a i < 256) → ((i : ℕ) → byte b i < 256) → (i : ℕ) → byte (a ++ b) i < 256
 joined-bytes [] b ha hb i = hb i
 joined-bytes (x ∷ a) b ha hb zero = ha 0
 joined-bytes (x ∷ a) b ha hb (suc i) = joined-bytes a b (λ j. ha (suc j)) hb i

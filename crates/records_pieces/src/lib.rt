@@ -76,7 +76,7 @@ fn take_record(a: Arrival, kept: &mut [u8], current: &[u8]) -> Arrival
 }
 
 // One more byte.
-fn take_byte(a: Arrival, b: u8, kept: &mut [u8], current: &mut [u8]) -> Arrival
+pub fn take_byte(a: Arrival, b: u8, kept: &mut [u8], current: &mut [u8]) -> Arrival
     requires { ⌜ Open (arrivedAs a (now kept) (now current)) ⌝ }
     ensures { λ r. ⌜ arrivedAs r (now (kept .exit)) (now (current .exit)) ≡ takeByte b (arrivedAs a (now (kept .entry)) (now (current .entry))) ⌝ }
 {

@@ -37,6 +37,10 @@ keptOne a key = record { records = a .records + 1; part = 0; least = key + 1; fe
 abbrev pub passedOne : Arrival → ℕ → Arrival
 passedOne a key = record { records = a .records; part = 0; least = key + 1; fell = a .fell || ltb key (a .least); longer = true }
 
+-- its whole records alone, without the bytes of the current one
+abbrev pub wholeOnes : Arrival → Arrival
+wholeOnes a = record { records = a .records; part = 0; least = a .least; fell = a .fell; longer = a .longer }
+
 -- the bytes of one more record after the first n
 abbrev pub withRecord : ℕ → List ℕ → List ℕ → List ℕ
 withRecord n current kept = span (16 * n) (16 * n + 16) (λ k. byte current (k - 16 * n)) kept
