@@ -1,0 +1,4 @@
+-- The laws of a season that arrives in pieces.
+pub mod WindowLaws
+pub mod WindowCode
+pub mod FedLaws
