@@ -16,10 +16,10 @@ use Rattle.records.specs.File.{count, kindOf}
 use Rattle.converter.specs.Converted.{Change, newBits, newByte, converted}
 
 -- ---- the positions of record i
-at-quotient : (i o : ℕ) → o < 16 → (16 * i + o) / 16 ≡ i
+pub at-quotient : (i o : ℕ) → o < 16 → (16 * i + o) / 16 ≡ i
 at-quotient i o h = omega arith
 
-at-rest : (i o : ℕ) → o < 16 → (16 * i + o) % 16 ≡ o
+pub at-rest : (i o : ℕ) → o < 16 → (16 * i + o) % 16 ≡ o
 at-rest i o h = omega arith
 
 not-from : (o : ℕ) → o < 8 → leb 8 o ≡ false
@@ -62,20 +62,26 @@ module _ (g : Change) (s : List ℕ) where
   unfolding newByte
   newByte-new i o h e = rw (at-rest i o h, at-quotient i o h, e)
 
-  byte-old : (i o : ℕ) → o < 16 → Rewritten i o ≡ false → byte (converted g s) (16 * i + o) ≡ byte s (16 * i + o)
-  byte-old i o h e = go (decLt (16 * i + o) (length s))
-    where
-      go : Dec (16 * i + o < length s) → byte (converted g s) (16 * i + o) ≡ byte s (16 * i + o)
-      go (yes l) = byte-converted (16 * i + o) l ∙ newByte-old i o h e
-      go (no l) = byte-past (16 * i + o) (omega arith)
-
   -- the first eight bytes of every record stay
-  pub byte-kept : (i o : ℕ) → o < 8 → byte (converted g s) (16 * i + o) ≡ byte s (16 * i + o)
-  byte-kept i o h = byte-old i o (omega arith) (and-none (leb 8 o) (ltb i (count s) && g .rewrites (kindOf s i)) (not-from o h))
+  pub newByte-kept : (i o : ℕ) → o < 8 → newByte g s (16 * i + o) ≡ byte s (16 * i + o)
+  newByte-kept i o h = newByte-old i o (omega arith) (and-none (leb 8 o) (ltb i (count s) && g .rewrites (kindOf s i)) (not-from o h))
 
   -- and all bytes of a record whose kind is not rewritten
+  pub newByte-other : (i o : ℕ) → o < 16 → g .rewrites (kindOf s i) ≡ false → newByte g s (16 * i + o) ≡ byte s (16 * i + o)
+  newByte-other i o h e = newByte-old i o h (and-last (leb 8 o) (ltb i (count s)) (g .rewrites (kindOf s i)) e)
+
+  byte-old : (p : ℕ) → newByte g s p ≡ byte s p → byte (converted g s) p ≡ byte s p
+  byte-old p e = go (decLt p (length s))
+    where
+      go : Dec (p < length s) → byte (converted g s) p ≡ byte s p
+      go (yes l) = byte-converted p l ∙ e
+      go (no l) = byte-past p (omega arith)
+
+  pub byte-kept : (i o : ℕ) → o < 8 → byte (converted g s) (16 * i + o) ≡ byte s (16 * i + o)
+  byte-kept i o h = byte-old (16 * i + o) (newByte-kept i o h)
+
   pub byte-other : (i o : ℕ) → o < 16 → g .rewrites (kindOf s i) ≡ false → byte (converted g s) (16 * i + o) ≡ byte s (16 * i + o)
-  byte-other i o h e = byte-old i o h (and-last (leb 8 o) (ltb i (count s)) (g .rewrites (kindOf s i)) e)
+  byte-other i o h e = byte-old (16 * i + o) (newByte-other i o h e)
 
   -- a rewritten record holds the new value's bytes
   pub byte-new : (i o : ℕ) → i < count s → g .rewrites (kindOf s i) ≡ true → o < 8 → byte (converted g s) (16 * i + 8 + o) ≡ byte (bytesOf 8 (newBits g s i)) o

@@ -11,3 +11,4 @@ pub mod Input
 pub mod Satterthwaite
 pub mod Examples
 pub mod AnswerBytes
+pub mod Season

@@ -4,3 +4,4 @@ pub mod ReadAlike
 pub mod AnswerBytes
 pub mod SeriesDemand
 pub mod ParametersDemand
+pub mod SeasonDemand

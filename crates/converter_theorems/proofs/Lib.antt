@@ -4,6 +4,8 @@ pub mod Operands
 pub mod Parameters
 pub mod ParametersCall
 pub mod Theorems
+pub mod SeasonTheorem
+pub mod SeasonExample
 pub mod ReadCall
 pub mod PullExample
 pub mod BatchExample
