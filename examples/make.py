@@ -1,5 +1,5 @@
 #!/usr/bin/env python3
-"""Writes the example series of this folder as record files (16 bytes a record, rising; see ../README.md), and two tables of cutoffs.
+"""Writes the example series of this folder as record files (16 bytes a record, rising; see ../README.md), two tables of cutoffs and a season.
 
     python3 make.py
 
@@ -156,6 +156,65 @@ def rises(data):
     return all(a < b for a, b in zip(keys, keys[1:]))
 
 
+# What closes a series of a season: kind 21, and fifteen zeros.
+CLOSING = record(21)
+
+
+def draws(start):
+    """Numbers from -1 to 1 in hundredths, the same on every machine."""
+    while True:
+        start = (1664525 * start + 1013904223) % 2 ** 32
+        yield (start // 2 ** 16 % 201 - 100) / 100
+
+
+def drift(lot):
+    """What a lot of glue is off by in the mean, in newtons: nothing up to lot 12, then more from lot to lot, until the mixer is mended after lot 25."""
+    return 0.0 if lot <= 12 else 0.4 * (lot - 12) if lot <= 25 else 0.25
+
+
+def lot_series(lot, draw):
+    """A lot of glue beside the reference lot, twelve pulls on films of three batches: is it as strong? One in nine has a film that tore."""
+    weights = [float(i != lot % 12) for i in range(12)] if lot % 9 == 0 else ()
+    sigma2 = 4.0 + next(draw)
+    off = drift(lot) + 1.5 * next(draw)
+    return series(
+        x=[[1.0, float(i % 2)] for i in range(12)],
+        z=[[float(i // 4 == g) for g in range(3)] for i in range(12)],
+        blocks=[(1, 3)],
+        theta=[0.75],
+        sigma2=sigma2,
+        beta=[41.5 + next(draw), off],
+        contrast=() if lot == 10 else [[0.0, 1.0]],
+        weights=weights,
+    )
+
+
+def records(data):
+    return [data[i:i + 16] for i in range(0, len(data), 16)]
+
+
+def spoiled(lot, data):
+    """Four lots that are refused: records out of order (12), every film torn (3), no sigma2 (2), a number that is none (4)."""
+    each = records(data)
+    if lot == 7:
+        each[4], each[5] = each[5], each[4]
+    if lot == 21:
+        before = [r for r in each if r[0] < 5]
+        each = before + [record(5, i, 0, 0.0) for i in range(12)] + [r for r in each if r[0] > 5]
+    if lot == 34:
+        each = [r for r in each if r[0] != 7]
+    if lot == 35:
+        each = [record(8, 1, 0, float("nan")) if r[:2] == b"\x08\x01" else r for r in each]
+    return b"".join(each)
+
+
+def season():
+    """Forty-eight lots, and the first records of the next, which is being pulled."""
+    draw = draws(7)
+    lots = [spoiled(lot, lot_series(lot, draw)) for lot in range(1, 49)]
+    return b"".join(lot + CLOSING for lot in lots) + lot_series(49, draw)[:10 * 16]
+
+
 for name, data in (
     ("pull", PULL),
     ("batches", BATCHES),
@@ -173,3 +232,6 @@ for name, data in (
 for name, values in TABLES:
     with open(f"{name}.table", "wb") as f:
         f.write(table(values))
+
+with open("season.rec", "wb") as f:
+    f.write(season())

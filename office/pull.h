@@ -87,6 +87,12 @@ enum pull_number {
  * Both pointers point to at least as many bytes as their length says, and are
  * not NULL even where the length is 0. No alignment is asked.
  *
+ * The kinds of a series are 1 to 10. Kind 21, which closes a series in a season's
+ * file, is a bad kind here and in every call below, also where its other bytes are
+ * zero: 2, or 12 where it does not rise. A season's file is for the program
+ * pullseason; a caller that has one lends its series one by one, without the
+ * closing records.
+ *
  * A block (kind 3) has its index in byte 1, its effects k (1 or 2) in byte 2 and
  * its groups m in the count. Byte 8, the first of its eight value bytes, holds the
  * number of its parameters, k(k+1)/2: 1 or 3. Bytes 9 to 15 are zero (else 2). A

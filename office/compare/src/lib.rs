@@ -7,6 +7,8 @@
 //! - `live`: the comparison of many files, and its summary.
 //! - `archive`: the same for the archive's two functions.
 //! - `tables`: the same for the four functions that take a table of cutoffs.
+//! - `season`: the program `pullseason` on random seasons, line by line.
+//! - `season_bench`: the time and the memory of that program.
 //! - `torn`: how many of the files had torn specimens.
 //! - `numbers`: how many of the files had blocks, and wrong numbers in them.
 
@@ -15,6 +17,8 @@ pub mod cases;
 pub mod judge;
 pub mod live;
 pub mod numbers;
+pub mod season;
+pub mod season_bench;
 pub mod shrink;
 pub mod tables;
 pub mod torn;

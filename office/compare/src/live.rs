@@ -22,6 +22,8 @@ pub struct Plan {
     pub archives: usize,
     /// Cases with a table for each of the four calls.
     pub tables: usize,
+    /// Seasons, through the program.
+    pub seasons: usize,
     pub seed: u64,
     /// One family alone.
     pub family: Option<String>,

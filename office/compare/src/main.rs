@@ -4,7 +4,8 @@ use compare::archive;
 use compare::cases::{families, file, name, CALLS};
 use compare::judge::{describe, manner};
 use compare::live::{report, run, Plan};
-use compare::tables;
+use compare::{season, tables};
+use reader::season_tries::Stock;
 use reader::table_vectors::{TableCall, TABLE_CALLS};
 use reader::tries::Call;
 use std::path::{Path, PathBuf};
@@ -17,6 +18,7 @@ const USAGE: &str = "usage: compare [FLAGS]
                      pairs of damaged files beside each (usually 20000)
   --tables N         cases with a table of cutoffs for each of the four calls that take
                      one (usually 10000)
+  --seasons N        seasons for the program pullseason (usually 400)
   --seed S           another seed (usually 1)
   --family NAME      one family alone
   --untorn           pass over files with torn specimens (a weight of zero)
@@ -25,6 +27,7 @@ const USAGE: &str = "usage: compare [FLAGS]
   --case FAMILY SEED one case again, as a difference prints it
   --archive FAMILY SEED  the same for a case of the archive
   --table-case CALL FAMILY SEED  the same for a case with a table; CALL is k, s, a or t
+  --season-case SEED one season again
   --file PATH        a record file
   --satterthwaite    --case and --file: for that call
 ";
@@ -35,6 +38,7 @@ struct Flags {
     case: Option<(String, u64)>,
     archive: Option<(String, u64)>,
     table_case: Option<(TableCall, String, u64)>,
+    season_case: Option<u64>,
     file: Option<PathBuf>,
     call: Call,
 }
@@ -49,6 +53,7 @@ fn main() -> ExitCode {
     let same = match (&flags.case, &flags.file) {
         _ if flags.archive.is_some() => one_archive(&flags),
         _ if flags.table_case.is_some() => one_table(&flags),
+        _ if flags.season_case.is_some() => one_season(&flags),
         (Some((family, seed)), _) => {
             single(&flags, &format!("{family}-{seed}"), &file(flags.call, family, *seed))
         }
@@ -74,6 +79,8 @@ fn all(flags: &Flags) -> bool {
     let summary = run(&flags.plan);
     let archives = archive::run(&flags.plan);
     let tables = tables::run(&flags.plan);
+    let seasons = season::run(&flags.plan);
+    let failures = summary.failures + archives.failures + tables.failures + seasons.failures;
     if flags.branches {
         println!("branches, by the number of files:");
         summary.branches.iter().for_each(|(branch, files)| println!("  {branch}: {files}"));
@@ -81,7 +88,7 @@ fn all(flags: &Flags) -> bool {
     println!(
         "{} files ({} with torn specimens, {} refused 13), {} archives ({} of series with torn \
          specimens; {} series refused 13) and {} other pairs, {} cases with a table ({} refused \
-         14), {} differ; seed {}, {} s",
+         14), {} seasons of {} series, {} differ; seed {}, {} s",
         summary.files,
         summary.torn.files,
         summary.numbers.refused_13(),
@@ -91,11 +98,13 @@ fn all(flags: &Flags) -> bool {
         archives.pairs,
         tables.cases.values().sum::<usize>(),
         tables.tables()[1],
-        summary.failures + archives.failures + tables.failures,
+        seasons.tally.seasons,
+        seasons.tally.series,
+        failures,
         flags.plan.seed,
         began.elapsed().as_secs()
     );
-    summary.failures + archives.failures + tables.failures == 0
+    failures == 0
 }
 
 /// One case of the archive.
@@ -110,6 +119,14 @@ fn one_archive(flags: &Flags) -> bool {
 fn one_table(flags: &Flags) -> bool {
     let (call, family, seed) = flags.table_case.as_ref().expect("asked for");
     let same = tables::one(*call, family, *seed, &flags.plan, &mut tables::Summary::default());
+    println!("{}", if same { "the same" } else { "DIFFERENT" });
+    same
+}
+
+/// One season.
+fn one_season(flags: &Flags) -> bool {
+    let seed = flags.season_case.expect("asked for");
+    let same = season::one(&Stock::new(), seed, &flags.plan, &mut season::Summary::default());
     println!("{}", if same { "the same" } else { "DIFFERENT" });
     same
 }
@@ -133,6 +150,7 @@ fn flags(mut words: impl Iterator<Item = String>) -> Option<Flags> {
         files: 27_000,
         archives: 20_000,
         tables: 10_000,
+        seasons: 400,
         seed: 1,
         family: None,
         untorn: false,
@@ -145,6 +163,7 @@ fn flags(mut words: impl Iterator<Item = String>) -> Option<Flags> {
         case: None,
         archive: None,
         table_case: None,
+        season_case: None,
         file: None,
         call: Call::KenwardRoger,
     };
@@ -153,6 +172,7 @@ fn flags(mut words: impl Iterator<Item = String>) -> Option<Flags> {
             "--files" => flags.plan.files = words.next()?.parse().ok()?,
             "--archives" => flags.plan.archives = words.next()?.parse().ok()?,
             "--tables" => flags.plan.tables = words.next()?.parse().ok()?,
+            "--seasons" => flags.plan.seasons = words.next()?.parse().ok()?,
             "--seed" => flags.plan.seed = words.next()?.parse().ok()?,
             "--family" => flags.plan.family = Some(known_family(words.next()?)?),
             "--branches" => flags.branches = true,
@@ -169,6 +189,7 @@ fn flags(mut words: impl Iterator<Item = String>) -> Option<Flags> {
                 let family = known_family(words.next()?)?;
                 flags.table_case = Some((call, family, words.next()?.parse().ok()?))
             }
+            "--season-case" => flags.season_case = Some(words.next()?.parse().ok()?),
             "--file" => flags.file = Some(words.next()?.into()),
             "--satterthwaite" => flags.call = Call::Satterthwaite,
             _ => return None,

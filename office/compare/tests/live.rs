@@ -3,7 +3,7 @@
 
 use compare::archive;
 use compare::live::{run, Plan};
-use compare::{numbers, tables, torn};
+use compare::{numbers, season, tables, torn};
 use std::path::Path;
 
 fn plan() -> Plan {
@@ -12,6 +12,7 @@ fn plan() -> Plan {
         files: 27_000,
         archives: 20_000,
         tables: 10_000,
+        seasons: 400,
         seed: 2,
         family: None,
         untorn: false,
@@ -55,6 +56,16 @@ fn tables_agree_in_every_bit() {
     assert!(summary.classes.len() == 7 && summary.classes.values().all(|&n| n >= 500));
     assert!(summary.changed.len() == 4 && summary.changed.values().all(|&n| n >= 500));
     assert_eq!(summary.failures, 0, "cases differ; see above");
+}
+
+/// Every branch of a season is met.
+#[test]
+fn seasons_agree_in_every_line() {
+    let summary = season::run(&plan());
+    assert_eq!(summary.failures, 0, "seasons differ; see above");
+    assert_eq!(summary.tally.seasons, 400);
+    assert!(summary.tally.series >= 8_000, "{} series", summary.tally.series);
+    assert_eq!(summary.tally.rare(1), [""; 0], "not met");
 }
 
 #[test]

@@ -28,6 +28,7 @@ pub mod known_torn;
 pub mod lme_run;
 pub mod make;
 pub mod make_archive;
+pub mod make_season;
 pub mod make_tables;
 pub mod marked;
 pub mod numbers;

@@ -8,6 +8,7 @@ use std::process::ExitCode;
 const USAGE: &str = "usage:
   oracle pulltest < FILE            document 01's lines
   oracle bits < FILE                the same, and the numbers behind them
+  oracle pullseason < FILE          document 02's lines of a season
   oracle satterthwaite < FILE       the Satterthwaite call, as one `test` line
   oracle archive < FILE             the archive in hexadecimal, and the test from it
                                     each of these with a lab's cutoffs: --table TABLE < FILE
@@ -15,6 +16,7 @@ const USAGE: &str = "usage:
   oracle make-vectors DIR SEED COUNT
   oracle make-archive-vectors DIR SEED COUNT
   oracle make-table-vectors DIR SEED COUNT
+  oracle make-season DIR SEED COUNT
   oracle replay FILE..              checks files of vectors against the oracle
 ";
 
@@ -24,12 +26,14 @@ fn main() -> ExitCode {
     let done = match words.as_slice() {
         ["pulltest", table @ ..] => filter(oracle::print::pulltest_with, table),
         ["bits", table @ ..] => filter(oracle::print::bits_report_with, table),
+        ["pullseason", table @ ..] => filter(oracle::print::pullseason_with, table),
         ["satterthwaite", table @ ..] => filter(oracle::print::satterthwaite_line_with, table),
         ["archive", table @ ..] => filter(oracle::print::archive_lines_with, table),
         ["places"] => write(&oracle::print::places()),
         ["make-vectors", folder, seed, count] => make(folder, seed, count),
         ["make-archive-vectors", folder, seed, count] => make_archive(folder, seed, count),
         ["make-table-vectors", folder, seed, count] => make_tables(folder, seed, count),
+        ["make-season", folder, seed, count] => make_season(folder, seed, count),
         ["replay", files @ ..] if !files.is_empty() => replay(files),
         _ => Err(USAGE.to_string()),
     };
@@ -82,6 +86,14 @@ fn make_tables(folder: &str, seed: &str, count: &str) -> Result<(), String> {
     let tally = oracle::make_tables::make_table_vectors(Path::new(folder), seed, count)
         .map_err(|e| format!("{e}\n"))?;
     print_tally(oracle::make_tables::TABLES, &tally);
+    Ok(())
+}
+
+fn make_season(folder: &str, seed: &str, count: &str) -> Result<(), String> {
+    let (seed, count) = numbers(seed, count)?;
+    let tally = oracle::make_season::make_season(Path::new(folder), seed, count)
+        .map_err(|e| format!("{e}\n"))?;
+    println!("{}: {}", oracle::make_season::SEASON, tally.lines());
     Ok(())
 }
 

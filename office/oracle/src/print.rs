@@ -1,5 +1,5 @@
-//! What the program `pulltest` prints, and more for the `bits` command; and
-//! what the program `table_packing` prints.
+//! What the programs `pulltest` and `pullseason` print, and more for the `bits`
+//! command; and what the program `table_packing` prints.
 
 use crate::archive::{archive_test_with, archive_with};
 use crate::calls::{
@@ -9,7 +9,7 @@ use crate::kr_vcov_adj::reach::packed;
 use crate::marked::{Entry, Moments};
 use crate::reader::archive::test_records;
 use crate::reader::cutoffs::Cutoffs;
-use crate::reader::Refusal;
+use crate::reader::{season, Refusal};
 use ::reader::vectors::hex;
 use listed_algebra::Matrix;
 
@@ -47,6 +47,15 @@ pub fn pulltest(bytes: &[u8]) -> String {
 /// The same with a lab's own cutoffs, and so each of these.
 pub fn pulltest_with(cutoffs: &Cutoffs, bytes: &[u8]) -> String {
     kenward_roger_with(cutoffs, bytes).map_or_else(refused, |entries| lines(&entries))
+}
+
+/// The output of `pullseason` for a season's file.
+pub fn pullseason(bytes: &[u8]) -> String {
+    pullseason_with(&Cutoffs::BUILT_IN, bytes)
+}
+
+pub fn pullseason_with(cutoffs: &Cutoffs, bytes: &[u8]) -> String {
+    season::printed(bytes, |series| pulltest_with(cutoffs, series))
 }
 
 /// The same form for the Satterthwaite call: one `test` line.

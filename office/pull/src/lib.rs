@@ -21,6 +21,11 @@
 //! them ([`kenward_roger_with`] and so on), or their file (the functions that end in
 //! `_with_fill`). The form without them has the built-in ones.
 //!
+//! A season's file holds many series, each closed by a record of kind 21 whose other
+//! bytes are zero; the program `pullseason` judges it. To every function here kind 21 is
+//! a bad kind ([`Refusal::Records`]): a caller lends the series one by one, without the
+//! closing records, as the example `season` does.
+//!
 //! ```
 //! # let file: Vec<u8> = pull::example::records();
 //! match pull::kenward_roger(&file) {

@@ -1,6 +1,6 @@
 //! The reader of record files, with the refusals 2 to 8, 12 and 13, of the archive
-//! that a series' adjusted matrices are kept in (`archive`), and of the tables that
-//! hold a lab's own cutoffs (`cutoffs`), with 14.
+//! that a series' adjusted matrices are kept in (`archive`), of the tables that
+//! hold a lab's own cutoffs (`cutoffs`), with 14, and of a season's file (`season`).
 //!
 //! A length that is no multiple of 16 comes first (2), then records that do not
 //! rise (12), then every other reason of 2, among which the order does not
@@ -23,7 +23,10 @@ pub mod archive_tries;
 pub mod cutoffs;
 pub mod numbers;
 pub mod order;
+pub mod programs;
 pub mod random;
+pub mod season;
+pub mod season_tries;
 pub mod shift;
 pub mod table_tries;
 pub mod table_vectors;

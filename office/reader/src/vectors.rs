@@ -117,6 +117,34 @@ fn kenward_roger_answer(output: &str) -> Result<[u8; KR_ANSWER], String> {
     Ok(out)
 }
 
+/// What `pulltest` prints of a call's number and its 168 answer bytes.
+pub fn kenward_roger_text(number: Refusal, answer: &[u8; KR_ANSWER]) -> String {
+    if number != 0 {
+        return format!("refused {number}\n");
+    }
+    let mut out = String::new();
+    // An unused entry has no rank.
+    for (i, entry) in answer.chunks(ENTRY).enumerate().filter(|(_, entry)| entry[16] > 0) {
+        let name = if i < 6 { format!("coef {i}") } else { "test".to_string() };
+        out += &format!("{name} {}\n", fields(entry));
+    }
+    out
+}
+
+/// An entry's bytes as `rank R F BITS df BITS inside`.
+fn fields(entry: &[u8]) -> String {
+    let number = |at: usize, given: u8| {
+        let bits = u64::from_le_bytes(entry[at..at + 8].try_into().expect("eight bytes"));
+        if given == 0 {
+            "none".to_string()
+        } else {
+            format!("{bits:016x}")
+        }
+    };
+    let mark = if entry[19] == 0 { "outside" } else { "inside" };
+    format!("rank {} F {} df {} {mark}", entry[16], number(0, entry[17]), number(8, entry[18]))
+}
+
 impl Vector {
     /// The refusal, where the output is one.
     pub fn refusal(&self) -> Option<Refusal> {
@@ -174,4 +202,19 @@ fn number(word: &str) -> Option<Option<u64>> {
     }
     let digits = word.len() == 16;
     u64::from_str_radix(word, 16).ok().filter(|_| digits).map(Some)
+}
+
+#[cfg(test)]
+mod tests {
+    use super::*;
+
+    /// The stored outputs, as answer bytes and back.
+    #[test]
+    fn there_and_back() {
+        for case in load("kenward-roger.txt") {
+            let (number, answer) = kenward_roger_outcome(&case.output, 0).expect("an output");
+            let text = kenward_roger_text(number, &answer).replace('\n', "|");
+            assert_eq!(text, case.output, "line {}", case.line);
+        }
+    }
 }

@@ -19,6 +19,11 @@
 //! with every other specimen torn, beside the same specimens without a zero weight,
 //! and beside the file of those that are left.
 //!
+//! `bench --season COUNT DIR` has the program `pullseason` on a season of COUNT series of
+//! all sizes of the first table and on one of a tenth, its time beside that of as many
+//! calls and the most memory that it had, and on one series of 100 MB. The seasons are
+//! written to DIR, which should lie outside the repository.
+//!
 //! `bench --calls RUN SIZE COUNT` only calls one of the three (0 to 2), of the
 //! archive's two (3: `pull_archive`, 4: `pull_archive_test`) or of the torn ones
 //! (5: torn, 6: whole, 7: left), or `pull_kenward_roger_with` at the built-in table
@@ -315,8 +320,22 @@ fn torn_series(rounds: usize) {
     }
 }
 
+/// A season of the series of all sizes, mixed.
+fn season(words: &[String]) {
+    let [count, folder] = words else {
+        panic!("--season COUNT DIR");
+    };
+    let count = count.parse().expect("COUNT is a number");
+    let all = sizes();
+    let series: Vec<Vec<u8>> = all.iter().flat_map(files).map(|files| files.series).collect();
+    compare::season_bench::run(&series, count, folder.as_ref()).expect("files in DIR");
+}
+
 fn main() {
     let words: Vec<String> = std::env::args().skip(1).collect();
+    if words.first().is_some_and(|w| w == "--season") {
+        return season(&words[1..]);
+    }
     if words.first().is_some_and(|w| w == "--calls") {
         return calls(&words[1..]);
     }
