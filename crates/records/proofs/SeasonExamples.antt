@@ -5,7 +5,7 @@ use mathlib.Core.Bool.{true, false}
 use mathlib.Core.List.{List, [], _∷_, _++_}
 use lib.IntN.{pos}
 use lib.ListN.{replicate}
-use lib.Ieee.{Float, inf, fin, lt}
+use lib.Ieee.{inf, fin, lt}
 use Rattle.arithmetic_cutoffs.specs.declared.Cutoffs.{Cutoffs}
 use Rattle.algebra.specs.Reasons.{first}
 use Rattle.tests.specs.declared.Number.{Number}

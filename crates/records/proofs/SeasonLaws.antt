@@ -4,13 +4,13 @@ use native.Mathlib.Omega.{arith}
 use native.Mathlib.Decide.{decLt}
 use mathlib.Core.Path.{_≡_, refl, sym, ap, ap₂, _∙_, subst}
 use mathlib.Core.Bool.{Bool, true, false, not, _&&_, cond}
-use mathlib.Core.List.{List, [], _∷_, _++_, append-nil, append-assoc}
+use mathlib.Core.List.{List, [], _∷_, _++_, append-nil}
 use lib.Dec.{eqb}
-use lib.ListN.{length, getD, take, drop, length-append, length-take, length-drop, List·getD-append, List·getD-eq-default}
-use lib.Seq.{slice, take-append-le, drop-append-le, take-add, drop-at, length-take-le, getD-take, getD-drop, drop-length}
+use lib.ListN.{length, take, drop, length-append, length-take, length-drop, List·getD-append, List·getD-eq-default}
+use lib.Seq.{take-append-le, drop-append-le, take-add, drop-at, length-take-le, getD-take, getD-drop, drop-length}
 use Rattle.records.specs.Bytes.{byte}
-use Rattle.records.specs.Scan.{any, last}
-use Rattle.records.specs.File.{count, kindOf}
+use Rattle.records.specs.Scan.{last}
+use Rattle.records.specs.File.{count}
 use Rattle.records.specs.Season.{closes, begins, seriesBefore, seriesTo, seriesIn, leftOver}
 use Rattle.records.proofs.ScanLaws.{any-same, last-same, last-more, last-holds}
 

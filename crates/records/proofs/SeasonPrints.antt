@@ -1,7 +1,7 @@
 -- What is promised of a season's text.
-use Prim.Native.Nat.{ℕ, zero, suc, _+_, _-_, _≤_, _<_}
+use Prim.Native.Nat.{ℕ, suc, _+_, _-_, _<_}
 use native.Mathlib.Omega.{arith}
-use mathlib.Core.Path.{_≡_, refl, sym, ap, ap₂, _∙_, subst}
+use mathlib.Core.Path.{_≡_, refl, sym, ap, _∙_}
 use mathlib.Core.Bool.{Bool, true, false, cond}
 use mathlib.Core.List.{List, [], _∷_, _++_, map, append-assoc}
 use lib.Dec.{eqb}
@@ -19,6 +19,7 @@ use Rattle.records.specs.KenwardRogerCall.{scaled, run, number, entries}
 use Rattle.records.specs.Text.{numberText, codes}
 use Rattle.records.specs.Season.{begins, seriesTo, seriesIn, leftOver, worst, latest, seriesLines, contrastF, fsOf, worstLine, closedText, textsTo, closedTexts, leftText, seasonText}
 use Rattle.records.specs.SeasonPrints.{seasonBytes, Unclosed, AllSeries, seriesAt, latestAt, worstAt, PrintsFor, SeasonPrints}
+use Rattle.records.proofs.WorstLaws.{worst-of}
 use Rattle.records.proofs.SeasonTexts.{texts-front, worst-latest, printed-grows}
 use Rattle.records.proofs.SeasonParted.{season-parted}
 
@@ -106,6 +107,7 @@ season-prints c = record {
   each = prints c;
   alikeSeries = alike-series c;
   alikeTwenty = alike-twenty c;
+  worstIs = λ ts. worst-of (latest (fsOf c ts));
   empty = nothing c;
   places = all-places c;
   refused = refused-none c;

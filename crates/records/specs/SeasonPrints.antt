@@ -42,6 +42,19 @@ pub record SeasonParted : Type 0 where
   pub sameSeries : (ts : List (List ℕ)) (left : List ℕ) → AllSeries ts → Unclosed left → seriesIn (seasonBytes ts left) ≡ ts
   pub sameLeft : (ts : List (List ℕ)) (left : List ℕ) → AllSeries ts → Unclosed left → leftOver (seasonBytes ts left) ≡ left
 
+-- ---- the worst of F's
+-- it is one of the F's; "the largest": none is larger; "earliest on ties": none before it is equal
+pub record LargestIn (fs : List Number) (x : Float) : Type 0 where
+  pub place : ℕ
+  pub there : getD fs place None ≡ Is x
+  pub largest : (j : ℕ) (y : Float) → getD fs j None ≡ Is y → lt x y ≡ false
+  pub earliest : (j : ℕ) (y : Float) → j < place → getD fs j None ≡ Is y → eq y x ≡ false
+
+pub record WorstOf (fs : List Number) : Type 0 where
+  pub given : (x : Float) → worst fs ≡ Is x → LargestIn fs x
+  -- "or `none`": where no F is given
+  pub none : worst fs ≡ None → (i : ℕ) → getD fs i None ≡ None
+
 -- ---- what is printed
 -- series i of a season, and the latest twenty with it
 abbrev pub seriesAt : List ℕ → ℕ → List ℕ
@@ -69,6 +82,8 @@ pub record SeasonPrints (c : Cutoffs) : Type 0 where
   -- "and two alike in the twenty print the same `worst`"
   pub alikeTwenty : (s s' : List ℕ) (i j : ℕ) → i < length (seriesIn s) → j < length (seriesIn s') → latestAt s i ≡ latestAt s' j
       → PrintsFor c s' j (seriesLines c (seriesAt s i)) (worstAt c s i)
+  -- the worst that is printed is one of the F's of the latest twenty, none of them is larger, and none before it is equal
+  pub worstIs : (ts : List (List ℕ)) → WorstOf (latest (fsOf c ts))
   -- "an empty file prints nothing"
   pub empty : seasonText c [] ≡ []
   -- "A refused series .. counts among the twenty, and gives no F"
@@ -78,16 +93,3 @@ pub record SeasonPrints (c : Cutoffs) : Type 0 where
   pub numbers : (t : List ℕ) (x : Float) → contrastF c t ≡ Is x → isNan x ≡ false
   -- what is printed of a series stands there as soon as it is closed: bytes that come later add to the text, and take nothing back
   pub grows : (s t : List ℕ) → printed c (s ++ t) ≡ printed c s ++ added c s t
-
--- ---- the worst of F's
--- it is one of the F's; "the largest": none is larger; "earliest on ties": none before it is equal
-pub record LargestIn (fs : List Number) (x : Float) : Type 0 where
-  pub place : ℕ
-  pub there : getD fs place None ≡ Is x
-  pub largest : (j : ℕ) (y : Float) → getD fs j None ≡ Is y → lt x y ≡ false
-  pub earliest : (j : ℕ) (y : Float) → j < place → getD fs j None ≡ Is y → eq y x ≡ false
-
-pub record WorstOf (fs : List Number) : Type 0 where
-  pub given : (x : Float) → worst fs ≡ Is x → LargestIn fs x
-  -- "or `none`": where no F is given
-  pub none : worst fs ≡ None → (i : ℕ) → getD fs i None ≡ None

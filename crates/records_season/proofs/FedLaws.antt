@@ -1,19 +1,18 @@
 -- One byte more of a season, as the code takes it: within a record, with a record that does not close, and with one that does; and bytes after bytes.
 use Prim.Native.Nat.{ℕ, zero, suc, _+_, _-_, _*_, _/_, _%_, _≤_, _<_}
 use native.Mathlib.Omega.{arith}
-use native.Mathlib.Decide.{decLt, ℕ-discrete}
-use mathlib.Core.Path.{_≡_, refl, sym, ap, ap₂, _∙_, subst}
-use mathlib.Core.Bool.{Bool, true, false, not, _||_, cond, true≢false}
+use native.Mathlib.Decide.{ℕ-discrete}
+use mathlib.Core.Path.{_≡_, refl, sym, ap, _∙_, subst}
+use mathlib.Core.Bool.{Bool, true, false, not, _||_, true≢false}
 use mathlib.Core.List.{List, [], _∷_, _++_, map, append-nil, append-assoc}
 use lib.Dec.{eqb}
 use lib.Ieee.{Float}
-use lib.ListN.{length, getD, take, drop, set, replicate, length-append, length-set, length-take, List·getD-append}
+use lib.ListN.{length, getD, take, set, replicate, length-append, length-set, List·getD-append}
 use borrow.Author.Tests.{eqb-true, eq-eqb, ne-eqb, not-false}
 use lib.Seq.{set-set, getD-set-same, getD-set-other, getD-append-add, take-suc, take-length}
 use native.Mathlib.Numerals.{add-one}
 use Rattle.arithmetic_cutoffs.specs.Cutoffs.{documentCutoffs}
 use Rattle.tests.specs.declared.Number.{Number}
-use Rattle.tests.specs.declared.Number.the-variants.{None}
 use Rattle.tests.specs.declared.Entry.{Entry}
 use Rattle.tests.specs.Answer.{noEntry}
 use Rattle.records.specs.Bytes.{byte}
@@ -23,7 +22,7 @@ use Rattle.records.specs.KenwardRogerCall.{number, entries}
 use Rattle.records.specs.Text.{refusalText, textOf}
 use Rattle.records.specs.Season.{closes, begins, seriesBefore, seriesTo, seriesIn, leftOver, worst, latest, seriesLines, contrastF, fsOf, worstLine, closedText, textsTo, closedTexts, leftText, seasonText, printed, added}
 use Rattle.records.proofs.ScanLaws.{or-false}
-use Rattle.records.proofs.SeasonLaws.{closes-same, begins-below, part-series, part-left, whole-series, whole-left, closed-series, closed-left, left-whole, left-length, left-byte, series-byte}
+use Rattle.records.proofs.SeasonLaws.{closes-same, part-series, part-left, whole-series, whole-left, closed-series, closed-left, left-whole, left-length, left-byte, series-byte}
 use Rattle.records.proofs.SeasonTexts.{fs-are, texts-more, printed-grows, added-is, added-both, added-nothing}
 use Rattle.records_answer_text.specs.joints.Cursor.{Put}
 use Rattle.records_answer_text.proofs.CursorLaws.{then, stay, named}

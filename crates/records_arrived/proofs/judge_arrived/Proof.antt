@@ -1,6 +1,6 @@
 -- `records_arrived::judge_arrived` meets its contract.
 use Prim.Native.Nat.{_*_}
-use mathlib.Core.Path.{_≡_, sym, ap, _∙_}
+use mathlib.Core.Path.{sym, ap, _∙_}
 use denote.Ref.{now}
 use lib.Seq.{length-take-le}
 use Rattle.arithmetic_cutoffs.specs.declared.Cutoffs.{Cutoffs}

@@ -1,5 +1,4 @@
 -- `records_season::given_number` meets its contract.
-use mathlib.Core.Path.{_≡_, sym}
 use borrow.Author.Needs.{needs}
 use Rattle.records_season.proofs.given_number.Statement.{statement}
 use Rattle.records_season.proofs.given_number.Tie as tie
