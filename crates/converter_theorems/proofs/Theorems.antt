@@ -12,10 +12,11 @@ use Rattle.arithmetic.specs.Marks.{mostBorne}
 use Rattle.arithmetic.proofs.MarkLaws.{inside-bears}
 use Rattle.records.specs.Layout.{entryBytes, answerBytes}
 use Rattle.records.specs.CutoffTable.{badTable, cutoffsIn, builtInTable}
+use Rattle.records.specs.Call.{callWritten}
 use Rattle.records.specs.KenwardRogerCall as kenwardRoger
 use Rattle.records.specs.SatterthwaiteCall as satterthwaite
 use Rattle.records.specs.ArchiveCall.{seriesRefusal}
-use Rattle.records.proofs.CallLaws.{returned-is, satterthwaite-returned-is}
+use Rattle.records.proofs.CallLaws.{files-decide}
 use Rattle.records.proofs.CutoffLaws.{rotation-fits, built-in-accepted, built-in-numbers}
 use Rattle.records.proofs.ArchiveKeeps.{answered-archived, archive-keeps}
 use Rattle.converter.specs.Converted.{kenwardRogerChange, satterthwaiteChange, converted}
@@ -65,19 +66,21 @@ module _ (lab : List ℕ) (ok : badTable lab ≡ false) where
 
   -- an accepted table, an accepted file and bytes of the stated length: the call returns 0
   series-returns : (w : ℕ) (s : List ℕ) → kenwardRoger.number w own s ≡ 0 → (answer : List ℕ) → length answer ≡ 168 → kenwardRoger.returned w lab s answer ≡ 0
-  series-returns w s e answer h = returned-is lab s w answer ∙ rw (h, ok) e
+  unfolding kenwardRoger.number
+  series-returns w s e answer h = files-decide (kenwardRoger.seriesCall w s) lab answer h ok ∙ e
 
   parameters-returns : (s : List ℕ) → satterthwaite.number own s ≡ 0 → (answer : List ℕ) → length answer ≡ 24 → satterthwaite.returned lab s answer ≡ 0
-  parameters-returns s e answer h = satterthwaite-returned-is lab s answer ∙ rw (h, ok) e
+  unfolding satterthwaite.number
+  parameters-returns s e answer h = files-decide (satterthwaite.testCall s) lab answer h ok ∙ e
 
   series-answer : (w : ℕ) (s s' : List ℕ) → kenwardRoger.number w own s ≡ 0 → SameVerdicts w own s s' → SameAnswers w lab s s'
-  unfolding kenwardRoger.written
+  unfolding callWritten
   series-answer w s s' e v =
       same-answer 168 (kenwardRoger.returned w lab s) (kenwardRoger.returned w lab s') (answerBytes (kenwardRoger.entries w own s)) (answerBytes (kenwardRoger.entries w own s')) (series-returns w s e)
       (series-returns w s' (v .accepted)) (answer-same (kenwardRoger.entries w own s) (kenwardRoger.entries w own s') (v .verdicts))
 
   parameters-answer : (s s' : List ℕ) → satterthwaite.number own s ≡ 0 → SameVerdict own s s' → SameEntryBytes lab s s'
-  unfolding satterthwaite.written
+  unfolding callWritten
   parameters-answer s s' e v =
       same-answer 24 (satterthwaite.returned lab s) (satterthwaite.returned lab s') (entryBytes (satterthwaite.entry own s)) (entryBytes (satterthwaite.entry own s')) (parameters-returns s e)
       (parameters-returns s' (v .accepted)) (entry-same (satterthwaite.entry own s) (satterthwaite.entry own s') (v .same))

@@ -8,12 +8,11 @@ use native.Mathlib.Omega.{arith}
 use lib.Dec.{eqb}
 use lib.ListN.{length, drop, List·getD-append}
 use lib.Seq.{sets, sets-eq, getD-append-add, getD-drop}
-use borrow.Author.Tests.{eqb-true, not-false}
-use Rattle.algebra.proofs.ReasonLaws.{passed}
 use Rattle.records.specs.Bytes.{byte}
 use Rattle.records.specs.Archive.{archiveBytes}
-use Rattle.records.specs.CutoffTable.{tableReasons, cutoffsIn}
-use Rattle.records.specs.ArchiveCall.{seriesArchive, seriesReasons, archivingReasons, archivingRefusal, archivingReturned, archivingWritten}
+use Rattle.records.specs.CutoffTable.{cutoffsIn}
+use Rattle.records.specs.ArchiveCall.{seriesArchive, archivingCall, told, archivingRefusal, archivingReturned, archivingWritten}
+use Rattle.records.proofs.CallLaws.{call-accepted, accepted-fills}
 use Rattle.records.proofs.ArchiveLengths.{archiving-length}
 
 -- ---- a list with another put at its front, which it has room for
@@ -38,17 +37,15 @@ module _ (w : ℕ) (lab s lent : List ℕ) (e : archivingRefusal w lab s lent �
   file = archiveBytes (seriesArchive (cutoffsIn lab) s)
 
   returned-length : archivingReturned w lab s lent ≡ length file
-  unfolding archivingReturned
+  unfolding told
   returned-length = rw e
 
   written-is : archivingWritten w lab s lent ≡ sets lent 0 file
-  unfolding archivingWritten
-  written-is = rw e
+  written-is = accepted-fills (archivingCall w s) lab lent e
 
   -- the lent bytes are as many as are asked for, and so have room for the archive
   lent-length : length lent ≡ 7184
-  unfolding archivingRefusal archivingReasons
-  lent-length = eqb-true (length lent) 7184 (not-false (eqb (length lent) 7184) (passed 1 (not (eqb (length lent) 7184)) (tableReasons lab ++ seriesReasons w (cutoffsIn lab) s) refl e .0))
+  lent-length = call-accepted (archivingCall w s) lab lent e .0
 
   lent-room : length file ≤ length lent
   lent-room =

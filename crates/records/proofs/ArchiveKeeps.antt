@@ -18,11 +18,11 @@ use Rattle.records.specs.Archive as archive
 use Rattle.records.specs.Archive.{archiveBytes}
 use Rattle.records.specs.SecondFile as second
 use Rattle.records.specs.SecondFile.{ownTests}
-use Rattle.records.specs.CutoffTable.{tableReasons, cutoffsIn}
-use Rattle.records.specs.KenwardRogerCall.{scaled, run, testReasons, allReasons, number, entries, returned, written}
-use Rattle.records.specs.ArchiveCall.{seriesArchive, seriesReasons, seriesRefusal, inResponseUnits, archiveRun, archiveTestReasons, fromArchiveReasons, fromArchiveNumber, fromArchiveEntries, testingReasons, testingReturned, testingWritten}
+use Rattle.records.specs.CutoffTable.{cutoffsIn}
+use Rattle.records.specs.KenwardRogerCall.{scaled, run, testReasons, allReasons, number, entries, seriesCall}
+use Rattle.records.specs.ArchiveCall.{seriesArchive, seriesReasons, seriesRefusal, inResponseUnits, archiveRun, archiveTestReasons, fromArchiveReasons, fromArchiveNumber, fromArchiveEntries, testingCall}
 use Rattle.records.specs.ArchiveKeeps.{ArchiveKeeps}
-use Rattle.records.proofs.CallLaws.{pastTable, other-way, first-next, number-is, returned-is}
+use Rattle.records.proofs.CallLaws.{first-next, number-is, AnswersAlike, alike-returned, alike-written}
 use Rattle.records.proofs.OwnTests.{tests-accepted, tests-same}
 use Rattle.records.proofs.ArchiveBack.{archive-coefficients, series-accepted, series-adjusted, series-archivable, series-reads-back}
 use Rattle.records.proofs.ArchiveFront.{archiving-front, archiving-rest}
@@ -68,18 +68,10 @@ module _ (w : ℕ) (lab s : List ℕ) (e : seriesRefusal w (cutoffsIn lab) s ≡
   abbrev archivedFile : List ℕ
   archivedFile = archiveBytes (seriesArchive (cutoffsIn lab) s)
 
-  -- "gives the direct run's answer, mark included": the number that is returned
-  returned-same : (answer : List ℕ) → testingReturned lab archivedFile (ownTests s) answer ≡ returned w lab s answer
-  unfolding testingReturned testingReasons tableReasons fromArchiveNumber first
-  returned-same answer =
-      other-way (eqb (length answer) 168) 1 (first (tableReasons lab ++ fromArchiveReasons (cutoffsIn lab) archivedFile (ownTests s)))
-      ∙ ap (λ (n : ℕ). cond (eqb (length answer) 168) (pastTable lab n) 1) (number-same w (cutoffsIn lab) s e)
-      ∙ sym (returned-is lab s w answer)
-
-  -- and the lent bytes
-  written-same : (answer : List ℕ) → testingWritten lab archivedFile (ownTests s) answer ≡ written w lab s answer
-  unfolding testingWritten fromArchiveEntries written entries
-  written-same answer = rw (returned-same answer, number-same w (cutoffsIn lab) s e, run-same w (cutoffsIn lab) s e)
+  -- "gives the direct run's answer, mark included": the number that is returned, and the lent bytes
+  answers-alike : (answer : List ℕ) → AnswersAlike (testingCall archivedFile (ownTests s)) (seriesCall w s) (cutoffsIn lab) answer
+  unfolding fromArchiveNumber number fromArchiveEntries entries
+  answers-alike answer = record { stated = refl; number = number-same w (cutoffsIn lab) s e; full = λ z. rw (number-same w (cutoffsIn lab) s e, run-same w (cutoffsIn lab) s e) }
 
 -- a series that the direct call accepts is archived
 pub answered-archived : (w : ℕ) (c : Cutoffs) (s : List ℕ) → number w c s ≡ 0 → seriesRefusal w c s ≡ 0
@@ -92,8 +84,8 @@ archive-keeps =
     record {
       readBack = series-reads-back;
       writtenBack = archive-again;
-      sameNumber = λ w lab s answer e. returned-same w lab s e answer;
-      sameBytes = λ w lab s answer e. written-same w lab s e answer;
+      sameNumber = λ w lab s answer e. alike-returned (testingCall (archivedFile w lab s e) (ownTests s)) (seriesCall w s) lab answer (answers-alike w lab s e answer);
+      sameBytes = λ w lab s answer e. alike-written (testingCall (archivedFile w lab s e) (ownTests s)) (seriesCall w s) lab answer (answers-alike w lab s e answer);
       front = archiving-front;
       rest = archiving-rest;
       lengths = archiving-length;

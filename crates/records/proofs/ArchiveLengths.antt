@@ -9,7 +9,7 @@ use lib.Dec.{eqb, ltb}
 use lib.ListN.{length}
 use borrow.Author.Tests.{ne-eqb, ltb-true}
 use Rattle.algebra.specs.Reasons.{first}
-use Rattle.algebra.proofs.ReasonLaws.{Line, passed}
+use Rattle.algebra.proofs.ReasonLaws.{Line}
 use Rattle.adjustment.specs.Adjusted.{adjustmentReasons}
 use Rattle.records.specs.Scan.{total}
 use Rattle.records.specs.Kinds.{kindAt, width, archiveKinds}
@@ -19,10 +19,11 @@ use Rattle.records.specs.Order.{orderReasons}
 use Rattle.records.specs.Series as series
 use Rattle.records.specs.Archive.{Archive, sizesAt, archiveContent, archiveBytes}
 use Rattle.records.specs.CutoffTable.{tableReasons, cutoffsIn}
-use Rattle.records.specs.ArchiveCall.{seriesArchive, seriesReasons, seriesRefusal, archivingReasons, archivingRefusal, archivingReturned}
+use Rattle.records.specs.Call.{callReasons, callReturned}
+use Rattle.records.specs.ArchiveCall.{seriesArchive, seriesReasons, seriesRefusal, archivingCall, told, archivingRefusal, archivingReturned}
 use Rattle.records.proofs.ScanLaws.{and-true}
 use Rattle.records.proofs.WrittenLaws.{length-file}
-use Rattle.records.proofs.CallLaws.{past-table}
+use Rattle.records.proofs.CallLaws.{call-accepted}
 use Rattle.records.proofs.ArchiveBack.{archiveKindsOf, series-archivable}
 
 -- ---- the records: Φ and Φ_A, scaled and not, the Ps, scaled and not, W, sigma2
@@ -81,15 +82,13 @@ first-below b (x ∷ l) h e = let p = and-true (ltb (x .0) b) (allNumbersBelow b
 module _ (w : ℕ) (lab s lent : List ℕ) where
   -- what refuses no call refuses no series
   archiving-series : archivingRefusal w lab s lent ≡ 0 → seriesRefusal w (cutoffsIn lab) s ≡ 0
-  unfolding archivingRefusal archivingReasons seriesRefusal
-  archiving-series e =
-      let l = seriesReasons w (cutoffsIn lab) s in
-      past-table lab l (passed 1 (not (eqb (length lent) 7184)) (tableReasons lab ++ l) refl e .1) .1
+  unfolding seriesRefusal
+  archiving-series e = call-accepted (archivingCall w s) lab lent e .2
 
   -- a length
   pub archiving-length : archivingRefusal w lab s lent ≡ 0
       → (128 ≤ archivingReturned w lab s lent) × (archivingReturned w lab s lent % 16 ≡ 0) × (archivingReturned w lab s lent ≤ 7184)
-  unfolding archivingReturned
+  unfolding told
   archiving-length e =
       let h = archiving-series e in
       let a = series-archivable w (cutoffsIn lab) s h in
@@ -98,9 +97,9 @@ module _ (w : ℕ) (lab s lent : List ℕ) where
 
   -- or a number
   refusal-below : archivingRefusal w lab s lent < 128
-  unfolding archivingRefusal archivingReasons tableReasons seriesReasons series.reasons lengthReasons orderReasons formReasons series.blockReasons series.sizeReasons series.valueReasons adjustmentReasons
-  refusal-below = first-below 128 (archivingReasons w lab s lent) (omega arith) refl
+  unfolding callReturned callReasons tableReasons seriesReasons series.reasons lengthReasons orderReasons formReasons series.blockReasons series.sizeReasons series.valueReasons adjustmentReasons
+  refusal-below = first-below 128 (callReasons (archivingCall w s) lab lent) (omega arith) refl
 
   pub archiving-number : (archivingRefusal w lab s lent ≡ 0 → ⊥) → archivingReturned w lab s lent < 128
-  unfolding archivingReturned
+  unfolding told
   archiving-number h = rw (ne-eqb (archivingRefusal w lab s lent) 0 h) refusal-below

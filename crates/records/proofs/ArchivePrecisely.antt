@@ -6,41 +6,43 @@ use mathlib.Core.Bool.{true, false}
 use mathlib.Core.List.{List, _++_}
 use native.Mathlib.Omega.{arith}
 use lib.ListN.{length}
-use Rattle.algebra.proofs.ReasonLaws.{Iff, Precisely, precisely}
+use Rattle.algebra.proofs.ReasonLaws.{Iff, Precisely}
 use Rattle.adjustment.specs.Adjusted.{adjustmentReasons}
 use Rattle.records.specs.Scan.{any}
 use Rattle.records.specs.File.{count, lengthReasons, formReasons}
 use Rattle.records.specs.Order.{orderReasons}
-use Rattle.records.specs.CutoffTable.{badTable, tableReasons, cutoffsIn}
+use Rattle.records.specs.CutoffTable.{badTable, cutoffsIn}
+use Rattle.records.specs.Call.{callReasons}
 use Rattle.records.specs.Series as series
 use Rattle.records.specs.Archive as archive
 use Rattle.records.specs.SecondFile as second
-use Rattle.records.specs.ArchiveCall.{seriesReasons, archivingReasons, archivingRefusal, archiveTestReasons, fromArchiveReasons, testingReasons, testingReturned}
-use Rattle.records.proofs.Precisely.{fileRefusal, call-gives, call-fourteen, past-both, file-thirteen}
+use Rattle.records.specs.ArchiveCall.{seriesReasons, archivingCall, archivingRefusal, archiveTestReasons, fromArchiveReasons, testingCall, testingReturned}
+use Rattle.records.proofs.Precisely.{fileRefusal, past-both, file-thirteen}
+use Rattle.records.proofs.CallLaws.{call-precisely, call-fourteen, call-gives}
 
 -- 1; 14; 2, 12, 2, 13, 3 to 8 of the series; 9, 10, 10, 4 of the adjustment
-pub archiving-precisely : (w : ℕ) (lab s lent : List ℕ) → Precisely (archivingRefusal w lab s lent) (archivingReasons w lab s lent)
-unfolding archivingRefusal archivingReasons tableReasons seriesReasons series.reasons lengthReasons orderReasons formReasons series.blockReasons series.sizeReasons series.valueReasons adjustmentReasons
-archiving-precisely w lab s lent = precisely (archivingReasons w lab s lent) refl
+pub archiving-precisely : (w : ℕ) (lab s lent : List ℕ) → Precisely (archivingRefusal w lab s lent) (callReasons (archivingCall w s) lab lent)
+unfolding seriesReasons series.reasons lengthReasons orderReasons formReasons series.blockReasons series.sizeReasons series.valueReasons adjustmentReasons
+archiving-precisely w lab s lent = call-precisely (archivingCall w s) lab lent refl
 
 -- 14, precisely where the table is not accepted
 pub archiving-fourteen : (w : ℕ) (lab s lent : List ℕ) → Iff (archivingRefusal w lab s lent ≡ 14) ((length lent ≡ 7184) × (badTable lab ≡ true))
-unfolding archivingRefusal archivingReasons tableReasons seriesReasons series.reasons lengthReasons orderReasons formReasons series.blockReasons series.sizeReasons series.valueReasons adjustmentReasons
-archiving-fourteen w lab s lent = call-fourteen 7184 (length lent) (badTable lab) (seriesReasons w (cutoffsIn lab) s) refl
+unfolding seriesReasons series.reasons lengthReasons orderReasons formReasons series.blockReasons series.sizeReasons series.valueReasons adjustmentReasons
+archiving-fourteen w lab s lent = call-fourteen (archivingCall w s) lab lent refl
 
 -- 13 of the series, precisely under its condition
 pub archiving-thirteen : (w : ℕ) (lab s lent : List ℕ)
     → Iff (archivingRefusal w lab s lent ≡ 13) ((length lent ≡ 7184) × (badTable lab ≡ false) × (fileRefusal w s ≡ 0) × (any (count s) (series.miscounted s) ≡ true))
-unfolding archivingRefusal archivingReasons tableReasons seriesReasons series.reasons lengthReasons orderReasons formReasons series.blockReasons series.sizeReasons series.valueReasons adjustmentReasons
+unfolding seriesReasons series.reasons lengthReasons orderReasons formReasons series.blockReasons series.sizeReasons series.valueReasons adjustmentReasons
 archiving-thirteen w lab s lent =
-    past-both (call-gives 13 7184 (length lent) (badTable lab) (seriesReasons w (cutoffsIn lab) s) (λ z. omega arith) (λ z. omega arith))
+    past-both (call-gives (archivingCall w s) lab lent 13 (λ z. omega arith) (λ z. omega arith))
     (file-thirteen w s ((series.sizeReasons s ++ series.valueReasons s) ++ adjustmentReasons (cutoffsIn lab) (series.design s) (series.phi s) (series.sigma2 s)) refl)
 
 -- 1; 14; 2, 12, 2, 4, 5, 2 of the archive; 2, 12, 2, 4, 8 of the second file; a test's 10
-pub testing-precisely : (lab s t answer : List ℕ) → Precisely (testingReturned lab s t answer) (testingReasons lab s t answer)
-unfolding testingReturned testingReasons tableReasons fromArchiveReasons archiveTestReasons archive.reasons archive.valueReasons archive.scaledReasons second.reasons second.formedFor second.valueReasons lengthReasons orderReasons formReasons
-testing-precisely lab s t answer = precisely (testingReasons lab s t answer) refl
+pub testing-precisely : (lab s t answer : List ℕ) → Precisely (testingReturned lab s t answer) (callReasons (testingCall s t) lab answer)
+unfolding fromArchiveReasons archiveTestReasons archive.reasons archive.valueReasons archive.scaledReasons second.reasons second.formedFor second.valueReasons lengthReasons orderReasons formReasons
+testing-precisely lab s t answer = call-precisely (testingCall s t) lab answer refl
 
 pub testing-fourteen : (lab s t answer : List ℕ) → Iff (testingReturned lab s t answer ≡ 14) ((length answer ≡ 168) × (badTable lab ≡ true))
-unfolding testingReturned testingReasons tableReasons fromArchiveReasons archiveTestReasons archive.reasons archive.valueReasons archive.scaledReasons second.reasons second.formedFor second.valueReasons lengthReasons orderReasons formReasons
-testing-fourteen lab s t answer = call-fourteen 168 (length answer) (badTable lab) (fromArchiveReasons (cutoffsIn lab) s t) refl
+unfolding fromArchiveReasons archiveTestReasons archive.reasons archive.valueReasons archive.scaledReasons second.reasons second.formedFor second.valueReasons lengthReasons orderReasons formReasons
+testing-fourteen lab s t answer = call-fourteen (testingCall s t) lab answer refl

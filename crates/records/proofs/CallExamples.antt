@@ -38,7 +38,7 @@ use Rattle.records.specs.Order.{numbersMatrix, matrixOf, standsBefore, f
 use Rattle.records.specs.Shortened.{torn, allTorn, keptBelow, shortened}
 use Rattle.records.specs.Series.{contrastRows, sizes, asSent, blockOf as blockRead, miscounted, badSize, badWeight, misfit, zeroContrast, blockReasons, sizeReasons, valueReasons, reasons, refusal, design, phi, beta, betaH, contrast, sigma2}
 use Rattle.records.specs.CutoffTable.{builtInTable}
-use Rattle.records.specs.KenwardRogerCall.{adjusted, scaled, run, returned}
+use Rattle.records.specs.KenwardRogerCall.{adjusted, scaled, run, number, seriesCall, returned}
 use Rattle.records.proofs.CallLaws.{fileAdjustmentRefusal, number-is}
 use Rattle.records.proofs.CutoffLaws.{built-in-returned}
 use Rattle.records.proofs.Examples.{one as oneBits, pulled}
@@ -157,7 +157,8 @@ ten-run =
 late : (s : List ℕ) (n : ℕ) → refusal 24 s ≡ 0
     → cond (eqb (fileAdjustmentRefusal documentCutoffs s) 0) (cond (run documentCutoffs s .refused) 10 0) (fileAdjustmentRefusal documentCutoffs s) ≡ n
     → returned 24 builtInTable s (replicate 168 0) ≡ n
-late s n h e = built-in-returned 24 s (replicate 168 0) ∙ number-is documentCutoffs s 24 ∙ rw h e
+unfolding number
+late s n h e = built-in-returned (seriesCall 24 s) (replicate 168 0) ∙ number-is documentCutoffs s 24 ∙ rw h e
 
 pub record Refused : Type 0 where
   -- 1, "100 answer bytes": whatever the file is
@@ -169,7 +170,7 @@ pub record Refused : Type 0 where
 
 pub refused-calls : Refused
 refused-calls = record {
-  short = λ s. built-in-returned 24 s (replicate 100 0);
+  short = λ s. built-in-returned (seriesCall 24 s) (replicate 100 0);
   notDefinite = late nineFile 9 (says .nineTaken) (rw nine-adjustment);
   zeroPivot = late tenFile 10 (says .tenTaken) (rw (ten-adjustment, ten-run));
 }

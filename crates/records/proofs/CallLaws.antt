@@ -2,21 +2,23 @@
 use Prim.Native.Nat.{ℕ}
 use mathlib.Core.Path.{_≡_, refl, ap, sym, _∙_}
 use mathlib.Core.Bool.{Bool, true, false, not, cond}
-use mathlib.Core.List.{List, _∷_, _++_}
+use mathlib.Core.List.{List, [], _∷_, _++_}
 use lib.Dec.{eqb}
 use lib.ListN.{length}
-use borrow.Author.Tests.{eq-eqb, ne-eqb}
+use native.Mathlib.Omega.{arith}
+use borrow.Author.Tests.{eq-eqb, ne-eqb, eqb-true, not-false, not-true}
 use Rattle.arithmetic_cutoffs.specs.declared.Cutoffs.{Cutoffs}
 use Rattle.algebra.specs.Reasons.{first}
-use Rattle.algebra.proofs.ReasonLaws.{Line, named, first-append, passed}
+use Rattle.algebra.proofs.ReasonLaws.{Line, named, lacks, Iff, Precisely, precisely, first-append, first-alone, passed}
 use Rattle.adjustment.specs.Adjusted.{adjustmentReasons, adjustmentRefusal}
 use Rattle.records.specs.File.{lengthReasons, formReasons}
 use Rattle.records.specs.Order.{orderReasons}
 use Rattle.records.specs.Series.{blockReasons, sizeReasons, valueReasons, reasons, refusal, design, phi, sigma2}
 use Rattle.records.specs.Parameters.{valueReasons as parameterValueReasons, reasons as parameterReasons, refusal as parameterRefusal}
 use Rattle.records.specs.CutoffTable.{badTable, tableReasons, cutoffsIn}
-use Rattle.records.specs.KenwardRogerCall.{run, testReasons, allReasons, number, returnedReasons, returned}
-use Rattle.records.specs.SatterthwaiteCall.{outcome, testReasons as satterthwaiteTestReasons, allReasons as satterthwaiteReasons, number as satterthwaiteNumber, returnedReasons as satterthwaiteReturnedReasons, returned as satterthwaiteReturned}
+use Rattle.records.specs.Call.{Call, filledBy, callReasons, callReturned, callWritten, untabledReturned, untabledWritten}
+use Rattle.records.specs.KenwardRogerCall.{run, testReasons, allReasons, number}
+use Rattle.records.specs.SatterthwaiteCall.{outcome, testReasons as satterthwaiteTestReasons, allReasons as satterthwaiteReasons, number as satterthwaiteNumber}
 
 -- a test the other way round
 pub other-way : (b : Bool) (x y : ℕ) → cond (not b) x y ≡ cond b y x
@@ -48,54 +50,117 @@ module _ (c : Cutoffs) (s : List ℕ) where
   unfolding satterthwaiteNumber satterthwaiteReasons satterthwaiteTestReasons parameterRefusal parameterReasons lengthReasons orderReasons formReasons parameterValueReasons first
   satterthwaite-number-is = first-append (parameterReasons s) (satterthwaiteTestReasons c s) refl
 
--- ---- what a call returns: 1 for the lent length, 14 for the table, and then the file's number
+-- ---- EVERY CALL, by who refuses: the lent length, the table, the files
 -- the number n where the table is accepted
 abbrev pub pastTable : List ℕ → ℕ → ℕ
 pastTable lab n = cond (badTable lab) 14 n
 
-module _ (lab s : List ℕ) where
-  pub returned-is : (w : ℕ) (answer : List ℕ) → returned w lab s answer ≡ cond (eqb (length answer) 168) (pastTable lab (number w (cutoffsIn lab) s)) 1
-  unfolding returned returnedReasons tableReasons number first
-  returned-is w answer = other-way (eqb (length answer) 168) 1 (first (tableReasons lab ++ allReasons w (cutoffsIn lab) s))
+module _ (k : Call) (lab lent : List ℕ) where
+  abbrev rest : List Line
+  rest = k .reasons (cutoffsIn lab)
 
-  pub satterthwaite-returned-is : (answer : List ℕ) → satterthwaiteReturned lab s answer ≡ cond (eqb (length answer) 24) (pastTable lab (satterthwaiteNumber (cutoffsIn lab) s)) 1
-  unfolding satterthwaiteReturned satterthwaiteReturnedReasons tableReasons satterthwaiteNumber first
-  satterthwaite-returned-is answer = other-way (eqb (length answer) 24) 1 (first (tableReasons lab ++ satterthwaiteReasons (cutoffsIn lab) s))
+  pub call-is : callReturned k lab lent ≡ cond (eqb (length lent) (k .stated)) (pastTable lab (first rest)) 1
+  unfolding callReturned callReasons tableReasons first
+  call-is = other-way (eqb (length lent) (k .stated)) 1 (first (tableReasons lab ++ rest))
 
--- a call that returns 0 has an accepted table, and the list after it gives 0
-pub past-table : (lab : List ℕ) (l : List Line) → first (tableReasons lab ++ l) ≡ 0 → (badTable lab ≡ false) × (first l ≡ 0)
-unfolding tableReasons
-past-table lab l e = passed 14 (badTable lab) l refl e
+  pub length-refuses : (length lent ≡ k .stated → ⊥) → callReturned k lab lent ≡ 1
+  length-refuses h = call-is ∙ rw (ne-eqb (length lent) (k .stated) h)
 
--- ---- a call whole, by who refuses it: `stated` is the length of the bytes that it asks for, `lent` the bytes, `rest` what refuses the files, `full` what the bytes hold where nothing does
-module _ (stated : ℕ) (lent lab : List ℕ) (rest : List Line) where
-  abbrev pub callNumber : ℕ
-  callNumber = first ((1, not (eqb (length lent) stated)) ∷ (tableReasons lab ++ rest))
+  pub table-refuses : length lent ≡ k .stated → badTable lab ≡ true → callReturned k lab lent ≡ 14
+  table-refuses l bad = call-is ∙ rw (eq-eqb (length lent) (k .stated) l, bad)
 
-  pub length-refuses : (length lent ≡ stated → ⊥) → callNumber ≡ 1
-  unfolding tableReasons first
-  length-refuses h = rw (ne-eqb (length lent) stated h)
+  pub files-decide : length lent ≡ k .stated → badTable lab ≡ false → callReturned k lab lent ≡ first rest
+  files-decide l ok = call-is ∙ rw (eq-eqb (length lent) (k .stated) l, ok)
 
-  pub table-refuses : length lent ≡ stated → badTable lab ≡ true → callNumber ≡ 14
-  unfolding tableReasons first
-  table-refuses l bad = rw (eq-eqb (length lent) stated l, bad)
+  -- A REFUSAL KEEPS THE LENT BYTES
+  pub refusal-keeps : (callReturned k lab lent ≡ 0 → ⊥) → callWritten k lab lent ≡ lent
+  unfolding callWritten
+  refusal-keeps h = rw (ne-eqb (callReturned k lab lent) 0 h)
 
-  pub files-decide : length lent ≡ stated → badTable lab ≡ false → callNumber ≡ first rest
-  unfolding tableReasons first
-  files-decide l ok = rw (eq-eqb (length lent) stated l, ok)
+  -- EACH NUMBER PRECISELY UNDER ITS CONDITION
+  pub call-precisely : named rest ≡ true → Precisely (callReturned k lab lent) (callReasons k lab lent)
+  unfolding callReturned callReasons tableReasons
+  call-precisely h = precisely (callReasons k lab lent) h
 
-  module _ (full : List ℕ) where
-    abbrev pub callBytes : List ℕ
-    callBytes = cond (eqb callNumber 0) full lent
+  -- 1 COMES FIRST: whatever the table and the files are
+  pub call-one : lacks 1 rest ≡ true → Iff (callReturned k lab lent ≡ 1) (eqb (length lent) (k .stated) ≡ false)
+  unfolding callReturned callReasons tableReasons first
+  call-one h =
+      let i = first-alone [] (tableReasons lab ++ rest) 1 (not (eqb (length lent) (k .stated))) (λ z. omega arith) refl refl h in
+      record { to = λ e. not-true (eqb (length lent) (k .stated)) (i .to e .1); from = λ p. rw p }
 
-    pub other-length : (length lent ≡ stated → ⊥) → (1 ≡ callNumber) × (lent ≡ callBytes)
-    other-length h = let e = length-refuses h in (sym e, rw e)
+  -- 14: "any other table, after 1 and before the series is read", whatever the files are
+  pub call-fourteen : lacks 14 rest ≡ true → Iff (callReturned k lab lent ≡ 14) ((length lent ≡ k .stated) × (badTable lab ≡ true))
+  unfolding callReturned callReasons tableReasons first
+  call-fourteen h =
+      let b = eqb (length lent) (k .stated) in
+      let i = first-alone ((1, not b) ∷ []) rest 14 (badTable lab) (λ z. omega arith) refl refl h in
+      record { to = λ e. let p = i .to e in (eqb-true (length lent) (k .stated) (not-false b (passed 1 (not b) [] refl (p .0) .0)), p .1); from = λ p. rw (eq-eqb (length lent) (k .stated) (p .0), p .1) }
 
-    pub other-table : length lent ≡ stated → badTable lab ≡ true → (14 ≡ callNumber) × (lent ≡ callBytes)
-    other-table l bad = let e = table-refuses l bad in (sym e, rw e)
+  -- any other number precisely where the files give it, under an accepted table
+  pub call-gives : (x : ℕ) → (x ≡ 1 → ⊥) → (x ≡ 14 → ⊥) → Iff (callReturned k lab lent ≡ x) ((length lent ≡ k .stated) × (badTable lab ≡ false) × (first rest ≡ x))
+  call-gives x h g = record { to = λ e. to (eqb (length lent) (k .stated)) refl (badTable lab) (sym call-is ∙ e); from = λ p. files-decide (p .0) (p .1) ∙ p .2 }
+    where
+      to : (b : Bool) → eqb (length lent) (k .stated) ≡ b → (d : Bool) → cond b (cond d 14 (first rest)) 1 ≡ x → (length lent ≡ k .stated) × (d ≡ false) × (first rest ≡ x)
+      to true q true e = absurd (g (sym e))
+      to true q false e = (eqb-true (length lent) (k .stated) q, refl, e)
+      to false q d e = absurd (h (sym e))
 
-    pub own-answer : length lent ≡ stated → badTable lab ≡ false → (n : ℕ) (bytes : List ℕ) → n ≡ first rest → bytes ≡ cond (eqb (first rest) 0) full lent → (n ≡ callNumber) × (bytes ≡ callBytes)
-    own-answer l ok n bytes e f = let q = files-decide l ok in (e ∙ sym q, f ∙ rw q)
+  pub call-accepted : callReturned k lab lent ≡ 0 → (length lent ≡ k .stated) × (badTable lab ≡ false) × (first rest ≡ 0)
+  call-accepted e = call-gives 0 (λ z. omega arith) (λ z. omega arith) .to e
+
+  pub accepted-fills : callReturned k lab lent ≡ 0 → callWritten k lab lent ≡ k .full (cutoffsIn lab) lent
+  unfolding callWritten
+  accepted-fills e = rw e
+
+  -- what code answers, by who refuses: `c` are the cutoffs that it read from the table
+  pub other-length : (length lent ≡ k .stated → ⊥) → (1 ≡ callReturned k lab lent) × (lent ≡ callWritten k lab lent)
+  other-length h = let e = length-refuses h in (sym e, sym (refusal-keeps (λ z. let q : _≡_ {A = ℕ} 1 0 = sym e ∙ z in omega arith)))
+
+  pub other-table : length lent ≡ k .stated → badTable lab ≡ true → (14 ≡ callReturned k lab lent) × (lent ≡ callWritten k lab lent)
+  other-table l bad = let e = table-refuses l bad in (sym e, sym (refusal-keeps (λ z. let q : _≡_ {A = ℕ} 14 0 = sym e ∙ z in omega arith)))
+
+  pub own-answer : length lent ≡ k .stated → badTable lab ≡ false → (c : Cutoffs) → c ≡ cutoffsIn lab → (n : ℕ) (bytes : List ℕ) → n ≡ first (k .reasons c) → bytes ≡ filledBy (first (k .reasons c)) (k .full c lent) lent
+      → (n ≡ callReturned k lab lent) × (bytes ≡ callWritten k lab lent)
+  unfolding callWritten
+  own-answer l ok c e n bytes q b =
+      let f = files-decide l ok in
+      (q ∙ ap (λ (x : Cutoffs). first (k .reasons x)) e ∙ sym f, b ∙ ap (λ (x : Cutoffs). filledBy (first (k .reasons x)) (k .full x lent) lent) e ∙ rw f)
+
+-- ---- TWO CALLS ANSWER ALIKE whose files give one number and, where it is 0, one answer: with a table both, or one of them as it was before there were tables
+pub record AnswersAlike (k j : Call) (c : Cutoffs) (lent : List ℕ) : Type 0 where
+  pub stated : k .stated ≡ j .stated
+  pub number : first (k .reasons c) ≡ first (j .reasons c)
+  pub full : first (j .reasons c) ≡ 0 → k .full c lent ≡ j .full c lent
+
+module _ (k j : Call) (lab lent : List ℕ) (a : AnswersAlike k j (cutoffsIn lab) lent) where
+  pub alike-returned : callReturned k lab lent ≡ callReturned j lab lent
+  alike-returned = call-is k lab lent ∙ rw (a .stated, a .number) (sym (call-is j lab lent))
+
+  pub alike-written : callWritten k lab lent ≡ callWritten j lab lent
+  unfolding callWritten
+  alike-written = rw (alike-returned) (go (eqb (callReturned j lab lent) 0) refl)
+    where
+      go : (b : Bool) → eqb (callReturned j lab lent) 0 ≡ b → cond b (k .full (cutoffsIn lab) lent) lent ≡ cond b (j .full (cutoffsIn lab) lent) lent
+      go true e = a .full (call-accepted j lab lent (eqb-true (callReturned j lab lent) 0 e) .2)
+      go false e = refl
+
+module _ (k : Call) (lab lent : List ℕ) (ok : badTable lab ≡ false) where
+  pub untabled-returned : callReturned k lab lent ≡ untabledReturned k (cutoffsIn lab) lent
+  unfolding callReturned callReasons tableReasons untabledReturned first
+  untabled-returned = rw ok
+
+  pub untabled-written : callWritten k lab lent ≡ untabledWritten k (cutoffsIn lab) lent
+  unfolding callWritten untabledWritten
+  untabled-written = rw untabled-returned
+
+-- with an accepted table a call is as one that had none
+module _ (k j : Call) (lab lent : List ℕ) (ok : badTable lab ≡ false) (a : AnswersAlike k j (cutoffsIn lab) lent) where
+  pub former-returned : callReturned k lab lent ≡ untabledReturned j (cutoffsIn lab) lent
+  former-returned = alike-returned k j lab lent a ∙ untabled-returned j lab lent ok
+
+  pub former-written : callWritten k lab lent ≡ untabledWritten j (cutoffsIn lab) lent
+  former-written = alike-written k j lab lent a ∙ untabled-written j lab lent ok
 
 -- ---- lent bytes that a file's number n leaves as they are, or fills
 pub kept-bytes : (k n : ℕ) (full lent : List ℕ) → k ≡ n → (k ≡ 0 → ⊥) → lent ≡ cond (eqb n 0) full lent

@@ -22,20 +22,20 @@ use Rattle.records.specs.Kinds.{Table, kindAt, indexOf, valueHolds, kenw
 use Rattle.records.specs.File.{count, kindOf, rowOf, columnOf, bitsOf, again, rows, notFinite, lengthReasons, formReasons}
 use Rattle.records.specs.Order.{orderReasons}
 use Rattle.records.specs.Alike.{Alike, Stays}
-use Rattle.records.specs.Layout.{answerBytes}
 use Rattle.records.specs.Text.{textOf}
 use Rattle.records.specs.Shortened.{allTorn, shortened}
 use Rattle.records.specs.Series.{blockCount, kinds, sigma2, blockOf, asSent, parameterCount, miscounted, badSize, blockReasons, sizeReasons, valueReasons, reasons, refusal, design, phi}
-use Rattle.records.specs.CutoffTable.{badTable, tableReasons, cutoffsIn}
-use Rattle.records.specs.KenwardRogerCall.{adjusted, scaled, run, testReasons, allReasons, number, entries, returnedReasons, returned, written}
-use Rattle.records.specs.ArchiveCall.{seriesArchive, seriesReasons, archivingReasons, archivingRefusal, archivingReturned, archivingWritten}
-use Rattle.records.specs.CountsKeep.{blockBits, bareReasons, bareList, bareReturned, bareWritten, bareText, bareArchiving, bareArchivingReturned, bareArchivingWritten, withCounts, uncountable, Countable, CountsKeep}
+use Rattle.records.specs.CutoffTable.{badTable, cutoffsIn}
+use Rattle.records.specs.Call.{untabledReturned}
+use Rattle.records.specs.KenwardRogerCall.{adjusted, scaled, run, testReasons, allReasons, number, entries, seriesCall}
+use Rattle.records.specs.ArchiveCall.{seriesArchive, seriesReasons, archivingCall, told, archivingReturned}
+use Rattle.records.specs.CountsKeep.{blockBits, bareReasons, bareList, bareCall, bareText, bareArchiving, withCounts, uncountable, Countable, CountsKeep}
 use Rattle.records.proofs.ScanLaws.{or-false, any-none, none-any, any-same, le-most}
 use Rattle.records.proofs.CellLaws.{own-last}
 use Rattle.records.proofs.SameFile.{count-same, rows-same, columns-same, length-same, falls-same, form-same}
 use Rattle.records.proofs.SameSeries as same
-use Rattle.records.proofs.CallLaws.{returned-is}
-use Rattle.records.proofs.SortedLaws.{filled-once-accepted, told-once-accepted}
+use Rattle.records.proofs.CallLaws.{AnswersAlike, former-returned, former-written}
+use Rattle.records.proofs.SortedLaws.{told-once-accepted}
 use Rattle.records.proofs.CountLaws.{small-finite, past-a-byte, counts-alike, bits-stay, counts-stay, bits-block, counts-right, counts-none, CountableBlock, countable-block}
 
 -- ---- a file of whole records whose blocks' counts can be written
@@ -151,32 +151,18 @@ module _ (s : List ℕ) (h : Countable s) where
       unfolding entries bareText
       text-same = rw (← number-same, run-same) (told-once-accepted (number w c s') (run c s .entries) (replicate 7 noEntry))
 
-  -- with an accepted table: what the calls return, and the lent bytes
-  module _ (lab : List ℕ) (ok : badTable lab ≡ false) (w : ℕ) where
-    abbrev own : Cutoffs
-    own = cutoffsIn lab
+      -- what the calls return, and the lent bytes
+      counted-alike : (answer : List ℕ) → AnswersAlike (seriesCall w s') (bareCall w s) c answer
+      unfolding number entries
+      counted-alike answer = record { stated = refl; number = number-same; full = λ z. rw (number-same, z, run-same) }
 
-    returned-same : (answer : List ℕ) → returned w lab s' answer ≡ bareReturned w own s answer
-    unfolding returned returnedReasons tableReasons bareReturned number first
-    returned-same answer = rw ok (ap (λ (n : ℕ). cond (not (eqb (length answer) 168)) 1 n) (number-same own w))
+      archiving-alike : (lent : List ℕ) → AnswersAlike (archivingCall w s') (bareArchiving w s) c lent
+      unfolding seriesReasons
+      archiving-alike lent = record { stated = refl; number = rw (design-same, phi-same, variance) (first-same w (adjustmentReasons c (design s) (phi s) (sigma2 s))); full = λ z. rw archive-same }
 
-    written-same : (answer : List ℕ) → written w lab s' answer ≡ bareWritten w own s answer
-    unfolding written entries bareWritten
-    written-same answer =
-        rw (← returned-same answer, returned-is lab s' w answer, ok, run-same own)
-        (filled-once-accepted (eqb (length answer) 168) (number w own s') (run own s .entries) (replicate 7 noEntry) answerBytes answer)
-
-    archiving-same : (lent : List ℕ) → archivingRefusal w lab s' lent ≡ bareArchiving w own s lent
-    unfolding archivingRefusal archivingReasons tableReasons seriesReasons bareArchiving first
-    archiving-same lent = rw ok (ap (λ (n : ℕ). cond (not (eqb (length lent) 7184)) 1 n) (rw (design-same, phi-same, variance) (first-same w (adjustmentReasons own (design s) (phi s) (sigma2 s)))))
-
-    archiving-returned-same : (lent : List ℕ) → archivingReturned w lab s' lent ≡ bareArchivingReturned w own s lent
-    unfolding archivingReturned bareArchivingReturned
-    archiving-returned-same lent = rw (archiving-same lent, archive-same own)
-
-    archiving-written-same : (lent : List ℕ) → archivingWritten w lab s' lent ≡ bareArchivingWritten w own s lent
-    unfolding archivingWritten bareArchivingWritten
-    archiving-written-same lent = rw (archiving-same lent, archive-same own)
+  archiving-told : (lab : List ℕ) → badTable lab ≡ false → (w : ℕ) (lent : List ℕ) → archivingReturned w lab s' lent ≡ told (cutoffsIn lab) s (untabledReturned (bareArchiving w s) (cutoffsIn lab) lent)
+  unfolding told
+  archiving-told lab ok w lent = rw (former-returned (archivingCall w s') (bareArchiving w s) lab lent ok (archiving-alike (cutoffsIn lab) w lent), archive-same (cutoffsIn lab))
 
 -- ---- what was accepted before
 -- the k of a block's record is the block's, where no cell is named twice
@@ -234,10 +220,10 @@ pub counts-keep : CountsKeep
 counts-keep = record {
   accepted = accepted-counts;
   countable = countable-accepted;
-  sameNumber = λ w lab s answer ok h. returned-same s h lab ok w answer;
-  sameBytes = λ w lab s answer ok h. written-same s h lab ok w answer;
+  sameNumber = λ w lab s answer ok h. former-returned (seriesCall w (withCounts s)) (bareCall w s) lab answer ok (counted-alike s h (cutoffsIn lab) w answer);
+  sameBytes = λ w lab s answer ok h. former-written (seriesCall w (withCounts s)) (bareCall w s) lab answer ok (counted-alike s h (cutoffsIn lab) w answer);
   sameText = λ w c s h. text-same s h c w;
-  sameArchive = λ w lab s lent ok h. (archiving-returned-same s h lab ok w lent, archiving-written-same s h lab ok w lent);
+  sameArchive = λ w lab s lent ok h. (archiving-told s h lab ok w lent, former-written (archivingCall w (withCounts s)) (bareArchiving w s) lab lent ok (archiving-alike s h (cutoffsIn lab) w lent));
   noBlock = counts-none;
   neverRight = never-right;
 }

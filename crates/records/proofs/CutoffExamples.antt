@@ -16,7 +16,8 @@ use Rattle.records.specs.Bytes.{word, long, bytesOf}
 use Rattle.records.specs.Scan.{any}
 use Rattle.records.specs.Written.{recordOf, recordAt, sequence}
 use Rattle.records.specs.CutoffTable.{floorOf, badCutoff, badTable, tableReasons, cutoffAt, cutoffBytes, builtInTable}
-use Rattle.records.specs.KenwardRogerCall.{returnedReasons, returned}
+use Rattle.records.specs.KenwardRogerCall.{returned}
+use Rattle.records.specs.Call.{callReturned, callReasons}
 
 -- the built-in table with another value in row i, and with another byte
 abbrev withValue : ℕ → Float → List ℕ
@@ -70,7 +71,7 @@ pub record Tables : Type 0 where
   pub afterLength : returned 24 [] (0 ∷ []) (replicate 167 0) ≡ 1
 
 pub tables : Tables
-unfolding returned returnedReasons tableReasons first badTable badCutoff any floorOf builtInTable cutoffBytes cutoffAt sequence bytesOf word long documentCutoffs decimal round isFinite lt toBits ofBits
+unfolding callReturned callReasons tableReasons first badTable badCutoff any floorOf builtInTable cutoffBytes cutoffAt sequence bytesOf word long documentCutoffs decimal round isFinite lt toBits ofBits
 tables =
     record {
       builtIn = refl;

@@ -17,10 +17,10 @@ use Rattle.records.specs.Scan.{any}
 use Rattle.records.specs.File.{kindOf, rowOf, columnOf, paddingOf, countOf, valueOf}
 use Rattle.records.specs.Written.{sequence}
 use Rattle.records.specs.CutoffTable.{floorOf, badCutoff, badTable, cutoffsIn, cutoffAt, cutoffBytes, builtInTable}
-use Rattle.records.specs.KenwardRogerCall.{number, returned}
-use Rattle.records.specs.SatterthwaiteCall.{number as satterthwaiteNumber, returned as satterthwaiteReturned}
+use Rattle.algebra.specs.Reasons.{first}
+use Rattle.records.specs.Call.{Call, callReturned}
 use Rattle.records.proofs.ScanLaws.{or-false, any-none}
-use Rattle.records.proofs.CallLaws.{returned-is, satterthwaite-returned-is}
+use Rattle.records.proofs.CallLaws.{call-is}
 
 -- ---- an accepted table: its length, and record i's fields and value
 pub record CutoffIs (lab : List ℕ) (i : ℕ) : Type 0 where
@@ -76,8 +76,5 @@ unfolding cutoffsIn builtInTable cutoffBytes cutoffAt sequence bytesOf word long
 built-in-numbers = refl
 
 -- so that a call with it is one with document 01's numbers
-pub built-in-returned : (w : ℕ) (s answer : List ℕ) → returned w builtInTable s answer ≡ cond (eqb (length answer) 168) (number w documentCutoffs s) 1
-built-in-returned w s answer = returned-is builtInTable s w answer ∙ rw (built-in-accepted, built-in-numbers)
-
-pub built-in-test-returned : (s answer : List ℕ) → satterthwaiteReturned builtInTable s answer ≡ cond (eqb (length answer) 24) (satterthwaiteNumber documentCutoffs s) 1
-built-in-test-returned s answer = satterthwaite-returned-is builtInTable s answer ∙ rw (built-in-accepted, built-in-numbers)
+pub built-in-returned : (k : Call) (lent : List ℕ) → callReturned k builtInTable lent ≡ cond (eqb (length lent) (k .stated)) (first (k .reasons documentCutoffs)) 1
+built-in-returned k lent = call-is k builtInTable lent ∙ rw built-in-accepted (ap (λ (c : Cutoffs). cond (eqb (length lent) (k .stated)) (first (k .reasons c)) 1) built-in-numbers)

@@ -20,10 +20,9 @@ use Rattle.records.specs.Scan.{any}
 use Rattle.records.specs.File.{kindOf, rowOf, columnOf, paddingOf, countOf, bitsOf, valueOf}
 use Rattle.records.specs.Written.{recordOf, sequence}
 use Rattle.records.specs.CutoffTable.{floorOf, badCutoff, badTable, tableReasons, cutoffsIn, cutoffAt, cutoffBytes, builtInTable}
-use Rattle.records.specs.KenwardRogerCall.{returnedReasons, returned, written}
-use Rattle.records.specs.SatterthwaiteCall.{returnedReasons as satterthwaiteReturnedReasons, returned as satterthwaiteReturned, written as satterthwaiteWritten}
-use Rattle.records.specs.ArchiveCall.{archivingReasons, archivingRefusal, archivingReturned, archivingWritten, testingReasons, testingReturned, testingWritten}
-use Rattle.records.specs.CutoffTableKeeps.{untabledReturned, untabledWritten, untabledTest, untabledTestWritten, untabledArchiving, untabledArchivingReturned, untabledArchivingWritten, untabledTesting, untabledTestingWritten, LoaderTakes, CutoffTableKeeps}
+use Rattle.records.specs.Call.{Call, callReturned, callWritten, untabledReturned, untabledWritten}
+use Rattle.records.specs.CutoffTableKeeps.{LoaderTakes, CutoffTableKeeps}
+use Rattle.records.proofs.CallLaws.{untabled-returned, untabled-written}
 use Rattle.records.proofs.ScanLaws.{none-any}
 use Rattle.records.proofs.WrittenLaws.{RecordIs, record-is, sequence-length-of, byte-sequence-of}
 use Rattle.records.proofs.Canonical.{record-back}
@@ -31,41 +30,11 @@ use Rattle.records.proofs.ArchiveAgain.{finite-number, long-below}
 use Rattle.records.proofs.CutoffLaws.{table-length, cutoff-is, built-in-accepted, built-in-numbers}
 
 -- ---- "with it every old answer stands"
-returned-kept : (w : ℕ) (s answer : List ℕ) → returned w builtInTable s answer ≡ untabledReturned w s answer
-unfolding returned returnedReasons tableReasons untabledReturned first
-returned-kept w s answer = rw (built-in-accepted, built-in-numbers)
+returned-kept : (k : Call) (lent : List ℕ) → callReturned k builtInTable lent ≡ untabledReturned k documentCutoffs lent
+returned-kept k lent = untabled-returned k builtInTable lent built-in-accepted ∙ rw built-in-numbers
 
-written-kept : (w : ℕ) (s answer : List ℕ) → written w builtInTable s answer ≡ untabledWritten w s answer
-unfolding written untabledWritten
-written-kept w s answer = rw (returned-kept w s answer, built-in-numbers)
-
-test-kept : (s answer : List ℕ) → satterthwaiteReturned builtInTable s answer ≡ untabledTest s answer
-unfolding satterthwaiteReturned satterthwaiteReturnedReasons tableReasons untabledTest first
-test-kept s answer = rw (built-in-accepted, built-in-numbers)
-
-test-written-kept : (s answer : List ℕ) → satterthwaiteWritten builtInTable s answer ≡ untabledTestWritten s answer
-unfolding satterthwaiteWritten untabledTestWritten
-test-written-kept s answer = rw (test-kept s answer, built-in-numbers)
-
-archiving-kept : (w : ℕ) (s lent : List ℕ) → archivingRefusal w builtInTable s lent ≡ untabledArchiving w s lent
-unfolding archivingRefusal archivingReasons tableReasons untabledArchiving first
-archiving-kept w s lent = rw (built-in-accepted, built-in-numbers)
-
-archiving-returned-kept : (w : ℕ) (s lent : List ℕ) → archivingReturned w builtInTable s lent ≡ untabledArchivingReturned w s lent
-unfolding archivingReturned untabledArchivingReturned
-archiving-returned-kept w s lent = rw (archiving-kept w s lent, built-in-numbers)
-
-archiving-written-kept : (w : ℕ) (s lent : List ℕ) → archivingWritten w builtInTable s lent ≡ untabledArchivingWritten w s lent
-unfolding archivingWritten untabledArchivingWritten
-archiving-written-kept w s lent = rw (archiving-kept w s lent, built-in-numbers)
-
-testing-kept : (s t answer : List ℕ) → testingReturned builtInTable s t answer ≡ untabledTesting s t answer
-unfolding testingReturned testingReasons tableReasons untabledTesting first
-testing-kept s t answer = rw (built-in-accepted, built-in-numbers)
-
-testing-written-kept : (s t answer : List ℕ) → testingWritten builtInTable s t answer ≡ untabledTestingWritten s t answer
-unfolding testingWritten untabledTestingWritten
-testing-written-kept s t answer = rw (testing-kept s t answer, built-in-numbers)
+written-kept : (k : Call) (lent : List ℕ) → callWritten k builtInTable lent ≡ untabledWritten k documentCutoffs lent
+written-kept k lent = untabled-written k builtInTable lent built-in-accepted ∙ rw built-in-numbers
 
 -- ---- the table of nine numbers
 module _ (c : Cutoffs) where
@@ -173,10 +142,6 @@ cutoff-table-keeps =
       builtInNumbers = built-in-numbers;
       sameNumber = returned-kept;
       sameBytes = written-kept;
-      sameTestNumber = test-kept;
-      sameTestBytes = test-written-kept;
-      sameArchive = λ w s lent. (archiving-returned-kept w s lent, archiving-written-kept w s lent);
-      sameTesting = λ s t answer. (testing-kept s t answer, testing-written-kept s t answer);
       everyChoice = λ c takes. (every-accepted c takes, every-read c takes);
       onlyTable = λ lab bytes ok. (only-table lab bytes ok, only-taken lab bytes ok);
     }

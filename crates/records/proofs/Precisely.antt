@@ -11,26 +11,28 @@ use borrow.Author.Tests.{eq-eqb, eqb-true, not-false}
 use Rattle.algebra.specs.Reasons.{first}
 use Rattle.arithmetic_cutoffs.specs.declared.Cutoffs.{Cutoffs}
 use Rattle.adjustment.specs.Adjusted.{adjustmentReasons}
-use Rattle.algebra.proofs.ReasonLaws.{Line, lacks, Iff, Precisely, precisely, passed, first-alone}
+use Rattle.algebra.proofs.ReasonLaws.{Line, lacks, Iff, Precisely, passed, first-alone}
 use Rattle.records.specs.Scan.{any}
 use Rattle.records.specs.Kinds.{kenwardRoger}
 use Rattle.records.specs.File.{count, lengthReasons, formReasons}
 use Rattle.records.specs.Order.{falls, orderReasons}
 use Rattle.records.specs.Series.{kinds, miscounted, blockReasons, sizeReasons, valueReasons, contentReasons, reasons, design, phi, sigma2}
 use Rattle.records.specs.Parameters.{valueReasons as parameterValueReasons, contentReasons as parameterContentReasons, reasons as parameterReasons}
-use Rattle.records.specs.CutoffTable.{badTable, tableReasons, cutoffsIn}
-use Rattle.records.specs.KenwardRogerCall.{testReasons, allReasons, number, returnedReasons, returned}
-use Rattle.records.specs.SatterthwaiteCall.{testReasons as satterthwaiteTestReasons, allReasons as satterthwaiteReasons, returnedReasons as satterthwaiteReturnedReasons, returned as satterthwaiteReturned}
+use Rattle.records.specs.CutoffTable.{badTable, cutoffsIn}
+use Rattle.records.specs.Call.{callReasons}
+use Rattle.records.specs.KenwardRogerCall.{testReasons, allReasons, number, seriesCall, returned}
+use Rattle.records.specs.SatterthwaiteCall.{testReasons as satterthwaiteTestReasons, allReasons as satterthwaiteReasons, testCall, returned as satterthwaiteReturned}
+use Rattle.records.proofs.CallLaws.{call-precisely, call-fourteen, call-gives}
 
 -- 1; 14; 2, 12, 2, 13, 3 to 8; 9, 10, 10, 4 of the adjustment; a test's 10
-pub kenward-roger-precisely : (w : ℕ) (lab s answer : List ℕ) → Precisely (returned w lab s answer) (returnedReasons w lab s answer)
-unfolding returned returnedReasons tableReasons allReasons reasons lengthReasons orderReasons formReasons blockReasons sizeReasons valueReasons adjustmentReasons testReasons
-kenward-roger-precisely w lab s answer = precisely (returnedReasons w lab s answer) refl
+pub kenward-roger-precisely : (w : ℕ) (lab s answer : List ℕ) → Precisely (returned w lab s answer) (callReasons (seriesCall w s) lab answer)
+unfolding allReasons reasons lengthReasons orderReasons formReasons blockReasons sizeReasons valueReasons adjustmentReasons testReasons
+kenward-roger-precisely w lab s answer = call-precisely (seriesCall w s) lab answer refl
 
 -- 1; 14; 2, 12, 2, 4; 11
-pub satterthwaite-precisely : (lab s answer : List ℕ) → Precisely (satterthwaiteReturned lab s answer) (satterthwaiteReturnedReasons lab s answer)
-unfolding satterthwaiteReturned satterthwaiteReturnedReasons tableReasons satterthwaiteReasons parameterReasons lengthReasons orderReasons formReasons parameterValueReasons satterthwaiteTestReasons
-satterthwaite-precisely lab s answer = precisely (satterthwaiteReturnedReasons lab s answer) refl
+pub satterthwaite-precisely : (lab s answer : List ℕ) → Precisely (satterthwaiteReturned lab s answer) (callReasons (testCall s) lab answer)
+unfolding satterthwaiteReasons parameterReasons lengthReasons orderReasons formReasons parameterValueReasons satterthwaiteTestReasons
+satterthwaite-precisely lab s answer = call-precisely (testCall s) lab answer refl
 
 -- ---- 12: "a file whose neighbouring records don't rise, checked directly after the multiple-of-16 test of 2": precisely where the file's length m is a multiple of 16 and it falls
 file-twelve : (m : ℕ) (f : Bool) (rest : List Line) → lacks 12 rest ≡ true → Iff (first ((2, not (eqb (m % 16) 0)) ∷ ((12, f) ∷ rest)) ≡ 12) ((m % 16 ≡ 0) × (f ≡ true))
@@ -39,32 +41,15 @@ file-twelve m f rest h =
     let i = first-alone ((2, not (eqb (m % 16) 0)) ∷ []) rest 12 f (λ z. omega arith) refl refl h in
     record { to = λ e. let p = i .to e in (eqb-true (m % 16) 0 (not-false (eqb (m % 16) 0) (passed 2 (not (eqb (m % 16) 0)) [] refl (p .0) .0)), p .1); from = λ p. rw (eq-eqb (m % 16) 0 (p .0), p .1) }
 
--- ---- of a call: a number other than 1 and 14 precisely where the lent length l is the stated one, n, the table is accepted and the list after it gives the number
-pub call-gives : (x n l : ℕ) (bad : Bool) (rest : List Line) → (x ≡ 1 → ⊥) → (x ≡ 14 → ⊥)
-    → Iff (first ((1, not (eqb l n)) ∷ ((14, bad) ∷ rest)) ≡ x) ((l ≡ n) × (bad ≡ false) × (first rest ≡ x))
-unfolding first
-call-gives x n l bad rest h k = record { to = λ e. to (eqb l n) refl bad e; from = λ p. rw (eq-eqb l n (p .0), p .1) (p .2) }
-  where
-    to : (b : Bool) → eqb l n ≡ b → (d : Bool) → cond (not b) 1 (cond d 14 (first rest)) ≡ x → (l ≡ n) × (d ≡ false) × (first rest ≡ x)
-    to true q true e = absurd (k (sym e))
-    to true q false e = (eqb-true l n q, refl, e)
-    to false q d e = absurd (h (sym e))
-
 -- ---- 14: "any other table, after 1 and before the series is read": precisely where the lent length is the stated one and the table is not accepted, whatever the files are
-pub call-fourteen : (n l : ℕ) (bad : Bool) (rest : List Line) → lacks 14 rest ≡ true → Iff (first ((1, not (eqb l n)) ∷ ((14, bad) ∷ rest)) ≡ 14) ((l ≡ n) × (bad ≡ true))
-unfolding first
-call-fourteen n l bad rest h =
-    let i = first-alone ((1, not (eqb l n)) ∷ []) rest 14 bad (λ z. omega arith) refl refl h in
-    record { to = λ e. let p = i .to e in (eqb-true l n (not-false (eqb l n) (passed 1 (not (eqb l n)) [] refl (p .0) .0)), p .1); from = λ p. rw (eq-eqb l n (p .0), p .1) }
-
 module _ (lab s : List ℕ) where
   pub kenward-roger-fourteen : (w : ℕ) (answer : List ℕ) → Iff (returned w lab s answer ≡ 14) ((length answer ≡ 168) × (badTable lab ≡ true))
-  unfolding returned returnedReasons tableReasons allReasons reasons lengthReasons orderReasons formReasons blockReasons sizeReasons valueReasons adjustmentReasons testReasons
-  kenward-roger-fourteen w answer = call-fourteen 168 (length answer) (badTable lab) (allReasons w (cutoffsIn lab) s) refl
+  unfolding allReasons reasons lengthReasons orderReasons formReasons blockReasons sizeReasons valueReasons adjustmentReasons testReasons
+  kenward-roger-fourteen w answer = call-fourteen (seriesCall w s) lab answer refl
 
   pub satterthwaite-fourteen : (answer : List ℕ) → Iff (satterthwaiteReturned lab s answer ≡ 14) ((length answer ≡ 24) × (badTable lab ≡ true))
-  unfolding satterthwaiteReturned satterthwaiteReturnedReasons tableReasons satterthwaiteReasons parameterReasons lengthReasons orderReasons formReasons parameterValueReasons satterthwaiteTestReasons
-  satterthwaite-fourteen answer = call-fourteen 24 (length answer) (badTable lab) (satterthwaiteReasons (cutoffsIn lab) s) refl
+  unfolding satterthwaiteReasons parameterReasons lengthReasons orderReasons formReasons parameterValueReasons satterthwaiteTestReasons
+  satterthwaite-fourteen answer = call-fourteen (testCall s) lab answer refl
 
 -- ---- 12, of a file's number, which the program prints, and of both calls
 module _ (c : Cutoffs) (s : List ℕ) where
@@ -82,14 +67,14 @@ past-both i j =
 
 module _ (lab s : List ℕ) where
   pub kenward-roger-twelve : (w : ℕ) (answer : List ℕ) → Iff (returned w lab s answer ≡ 12) ((length answer ≡ 168) × (badTable lab ≡ false) × (length s % 16 ≡ 0) × (falls s ≡ true))
-  unfolding returned returnedReasons tableReasons number
+  unfolding number
   kenward-roger-twelve w answer =
-      past-both (call-gives 12 168 (length answer) (badTable lab) (allReasons w (cutoffsIn lab) s) (λ z. omega arith) (λ z. omega arith)) (series-twelve (cutoffsIn lab) s w)
+      past-both (call-gives (seriesCall w s) lab answer 12 (λ z. omega arith) (λ z. omega arith)) (series-twelve (cutoffsIn lab) s w)
 
   pub satterthwaite-twelve : (answer : List ℕ) → Iff (satterthwaiteReturned lab s answer ≡ 12) ((length answer ≡ 24) × (badTable lab ≡ false) × (length s % 16 ≡ 0) × (falls s ≡ true))
-  unfolding satterthwaiteReturned satterthwaiteReturnedReasons tableReasons satterthwaiteReasons parameterReasons lengthReasons orderReasons formReasons parameterValueReasons satterthwaiteTestReasons
+  unfolding satterthwaiteReasons parameterReasons lengthReasons orderReasons formReasons parameterValueReasons satterthwaiteTestReasons
   satterthwaite-twelve answer =
-      past-both (call-gives 12 24 (length answer) (badTable lab) (satterthwaiteReasons (cutoffsIn lab) s) (λ z. omega arith) (λ z. omega arith))
+      past-both (call-gives (testCall s) lab answer 12 (λ z. omega arith) (λ z. omega arith))
       (file-twelve (length s) (falls s) (parameterContentReasons s ++ satterthwaiteTestReasons (cutoffsIn lab) s) refl)
 
 -- ---- 13: "a block whose written number differs from k(k+1)/2, after 2 and before 3": precisely where no reason of the length, the order and the form holds and some block is miscounted
@@ -111,6 +96,6 @@ module _ (w : ℕ) (s : List ℕ) where
   -- and of the Kenward–Roger call
   pub kenward-roger-thirteen : (lab answer : List ℕ)
       → Iff (returned w lab s answer ≡ 13) ((length answer ≡ 168) × (badTable lab ≡ false) × (fileRefusal w s ≡ 0) × (any (count s) (miscounted s) ≡ true))
-  unfolding returned returnedReasons tableReasons number
+  unfolding number
   kenward-roger-thirteen lab answer =
-      past-both (call-gives 13 168 (length answer) (badTable lab) (allReasons w (cutoffsIn lab) s) (λ z. omega arith) (λ z. omega arith)) (series-thirteen (cutoffsIn lab))
+      past-both (call-gives (seriesCall w s) lab answer 13 (λ z. omega arith) (λ z. omega arith)) (series-thirteen (cutoffsIn lab))

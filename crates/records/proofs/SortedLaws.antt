@@ -2,36 +2,25 @@
 use Prim.Native.Nat.{ℕ}
 use mathlib.Core.Path.{_≡_, refl}
 use mathlib.Core.Bool.{Bool, true, false, cond}
-use mathlib.Core.List.{List}
+use mathlib.Core.List.{List, _++_}
 use lib.Dec.{eqb}
-use lib.ListN.{length, replicate}
+use lib.ListN.{replicate}
 use Rattle.arithmetic_cutoffs.specs.declared.Cutoffs.{Cutoffs}
 use Rattle.algebra.specs.Reasons.{first}
 use Rattle.tests.specs.declared.Entry.{Entry}
 use Rattle.tests.specs.Answer.{noEntry}
 use Rattle.records.specs.File.{lengthReasons}
 use Rattle.records.specs.Order.{falls, orderReasons}
-use Rattle.records.specs.Layout.{answerBytes, entryBytes}
-use Rattle.records.specs.CutoffTable.{badTable, tableReasons, cutoffsIn}
+use Rattle.records.specs.CutoffTable.{cutoffsIn}
 use Rattle.records.specs.Text.{linesText, refusalText, textOf}
 use Rattle.records.specs.Series.{anyOrderReasons, reasons}
 use Rattle.records.specs.Parameters.{anyOrderReasons as parametersInAnyOrder, reasons as parameterReasons}
-use Rattle.records.specs.KenwardRogerCall.{run, allReasons, number, entries, returnedReasons, returned, written}
-use Rattle.records.specs.SatterthwaiteCall.{outcome, allReasons as satterthwaiteReasons, number as satterthwaiteNumber, entry, returnedReasons as satterthwaiteReturnedReasons, returned as satterthwaiteReturned, written as satterthwaiteWritten}
-use Rattle.records.specs.AnyOrder.{anyOrderList, anyOrderReturned, anyOrderWritten, anyOrderText, satterthwaiteInAnyOrder, satterthwaiteWrittenInAnyOrder, SortedKeeps}
-use Rattle.records.proofs.CallLaws.{returned-is, satterthwaite-returned-is}
+use Rattle.records.specs.KenwardRogerCall.{run, allReasons, number, entries, seriesCall}
+use Rattle.records.specs.SatterthwaiteCall.{testReasons as satterthwaiteTestReasons, allReasons as satterthwaiteReasons, number as satterthwaiteNumber, entry, testCall}
+use Rattle.records.specs.AnyOrder.{anyOrderList, anyOrderText, anyOrderCall, anyOrderTest, SortedKeeps}
+use Rattle.records.proofs.CallLaws.{AnswersAlike, former-returned, former-written}
 
--- what is filled in where a call returns 0, though the answer is chosen by the file's number: a call that returns 0 has lent bytes of the stated length, and the file's number is 0
-pub filled-once-accepted : {A : Type 0} (stated : Bool) (n : ℕ) (full bare : A) (fill : A → List ℕ) (kept : List ℕ)
-    → cond (eqb (cond stated n 1) 0) (fill (cond (eqb n 0) full bare)) kept ≡ cond (eqb (cond stated n 1) 0) (fill full) kept
-filled-once-accepted false n full bare fill kept = refl
-filled-once-accepted true n full bare fill kept = go (eqb n 0)
-  where
-    go : (z : Bool) → cond z (fill (cond z full bare)) kept ≡ cond z (fill full) kept
-    go true = refl
-    go false = refl
-
--- the text alike
+-- a text that is chosen by the number, of entries that are
 pub told-once-accepted : (n : ℕ) (full bare : List Entry) → textOf n (cond (eqb n 0) full bare) ≡ textOf n full
 unfolding textOf
 told-once-accepted n full bare = go (eqb n 0)
@@ -50,29 +39,27 @@ module _ (w : ℕ) (c : Cutoffs) (s : List ℕ) (h : falls s ≡ false) where
   unfolding entries anyOrderText
   sorted-text = rw (← sorted-number) (told-once-accepted (number w c s) (run c s .entries) (replicate 7 noEntry))
 
-module _ (w : ℕ) (lab s : List ℕ) (ok : badTable lab ≡ false) (h : falls s ≡ false) where
-  sorted-returned : (answer : List ℕ) → returned w lab s answer ≡ anyOrderReturned w (cutoffsIn lab) s answer
-  unfolding returned returnedReasons tableReasons allReasons reasons lengthReasons orderReasons anyOrderReturned anyOrderList anyOrderReasons first
-  sorted-returned answer = rw (ok, h)
-
-  sorted-written : (answer : List ℕ) → written w lab s answer ≡ anyOrderWritten w (cutoffsIn lab) s answer
-  unfolding written entries anyOrderWritten
-  sorted-written answer =
-      rw (← sorted-returned answer, returned-is lab s w answer, ok)
-      (filled-once-accepted (eqb (length answer) 168) (number w (cutoffsIn lab) s) (run (cutoffsIn lab) s .entries) (replicate 7 noEntry) answerBytes answer)
+  sorted-alike : (answer : List ℕ) → AnswersAlike (seriesCall w s) (anyOrderCall w s) c answer
+  unfolding number entries
+  sorted-alike answer = record { stated = refl; number = sorted-number; full = λ z. rw (sorted-number, z) }
 
 -- ---- the Satterthwaite call
-module _ (lab s answer : List ℕ) (ok : badTable lab ≡ false) (h : falls s ≡ false) where
-  sorted-test-returned : satterthwaiteReturned lab s answer ≡ satterthwaiteInAnyOrder (cutoffsIn lab) s answer
-  unfolding satterthwaiteReturned satterthwaiteReturnedReasons tableReasons satterthwaiteReasons parameterReasons lengthReasons orderReasons satterthwaiteInAnyOrder parametersInAnyOrder first
-  sorted-test-returned = rw (ok, h)
+module _ (c : Cutoffs) (s answer : List ℕ) (h : falls s ≡ false) where
+  sorted-test : first (satterthwaiteReasons c s) ≡ first (parametersInAnyOrder s ++ satterthwaiteTestReasons c s)
+  unfolding satterthwaiteReasons parameterReasons lengthReasons orderReasons parametersInAnyOrder first
+  sorted-test = rw h
 
-  sorted-test-written : satterthwaiteWritten lab s answer ≡ satterthwaiteWrittenInAnyOrder (cutoffsIn lab) s answer
-  unfolding satterthwaiteWritten entry satterthwaiteWrittenInAnyOrder
-  sorted-test-written =
-      rw (← sorted-test-returned, satterthwaite-returned-is lab s answer, ok)
-      (filled-once-accepted (eqb (length answer) 24) (satterthwaiteNumber (cutoffsIn lab) s) (outcome (cutoffsIn lab) s .entry) noEntry entryBytes answer)
+  sorted-test-alike : AnswersAlike (testCall s) (anyOrderTest s) c answer
+  unfolding satterthwaiteNumber entry
+  sorted-test-alike = record { stated = refl; number = sorted-test; full = λ z. rw (sorted-test, z) }
 
 -- A SORTED FILE KEEPS ITS ANSWERS
 pub sorted-keeps : SortedKeeps
-sorted-keeps = record { sameNumber = λ w lab s answer ok h. sorted-returned w lab s ok h answer; sameBytes = λ w lab s answer ok h. sorted-written w lab s ok h answer; sameText = sorted-text; sameTestNumber = sorted-test-returned; sameTestBytes = sorted-test-written }
+sorted-keeps =
+    record {
+      sameNumber = λ w lab s answer ok h. former-returned (seriesCall w s) (anyOrderCall w s) lab answer ok (sorted-alike w (cutoffsIn lab) s h answer);
+      sameBytes = λ w lab s answer ok h. former-written (seriesCall w s) (anyOrderCall w s) lab answer ok (sorted-alike w (cutoffsIn lab) s h answer);
+      sameText = sorted-text;
+      sameTestNumber = λ lab s answer ok h. former-returned (testCall s) (anyOrderTest s) lab answer ok (sorted-test-alike (cutoffsIn lab) s answer h);
+      sameTestBytes = λ lab s answer ok h. former-written (testCall s) (anyOrderTest s) lab answer ok (sorted-test-alike (cutoffsIn lab) s answer h);
+    }

@@ -7,12 +7,10 @@ use mathlib.Core.List.{List, _++_}
 use native.Mathlib.Omega.{arith}
 use lib.Dec.{eqb}
 use lib.ListN.{length}
-use borrow.Author.Tests.{eqb-true}
 use Rattle.arithmetic.specs.Numbers.{plusZero}
 use Rattle.arithmetic_cutoffs.specs.declared.Cutoffs.{Cutoffs}
 use Rattle.algebra.specs.Table.{row, table}
 use Rattle.algebra.specs.Reasons.{first}
-use Rattle.algebra.proofs.ReasonLaws.{passed}
 use Rattle.algebra.proofs.TableLaws.{table-ext}
 use Rattle.adjustment.specs.Blocks.{noBlock}
 use Rattle.adjustment.specs.Adjusted.{adjustmentReasons}
@@ -23,16 +21,16 @@ use Rattle.records.specs.Order.{orderReasons}
 use Rattle.records.specs.Shortened.{torn, shortened}
 use Rattle.records.specs.Series.{specimens, coefficients, zColumns, cellValue, asSent, blockReasons, sizeReasons, valueReasons, reasons, refusal, design, phi, sigma2, beta, betaH, contrast}
 use Rattle.records.specs.Layout.{answerBytes}
-use Rattle.records.specs.CutoffTable.{badTable, tableReasons, cutoffsIn}
+use Rattle.records.specs.CutoffTable.{cutoffsIn}
 use Rattle.records.specs.Text.{textOf}
-use Rattle.records.specs.KenwardRogerCall.{adjusted, scaled, run, testReasons, allReasons, number, entries, returnedReasons, returned, written}
-use Rattle.records.specs.ArchiveCall.{seriesArchive, seriesReasons, seriesRefusal, archivingReasons, archivingRefusal, archivingReturned, archivingWritten}
-use Rattle.records.specs.TornKeeps.{designRun, designReasons, designReturned, designWritten, ofSpecimen, ofTorn, newRow, withoutTorn, columnLost, TornKeeps}
+use Rattle.records.specs.KenwardRogerCall.{adjusted, scaled, run, testReasons, allReasons, number, entries, seriesCall}
+use Rattle.records.specs.ArchiveCall.{seriesArchive, seriesReasons, seriesRefusal, archivingCall, told, archivingReturned}
+use Rattle.records.specs.TornKeeps.{designRun, designReasons, designCall, ofSpecimen, ofTorn, newRow, withoutTorn, columnLost, TornKeeps}
 use Rattle.records.proofs.ScanLaws.{any-none, none-any}
 use Rattle.records.proofs.KeptLaws.{kept-all}
 use Rattle.records.proofs.ShortLaws.{row-ext, short-x, short-z, short-weights, none-torn}
 use Rattle.records.proofs.AcceptedSeries.{AcceptedSeries, accepted-series}
-use Rattle.records.proofs.CallLaws.{first-next, number-is, returned-is, past-table}
+use Rattle.records.proofs.CallLaws.{first-next, number-is, AnswersAlike, alike-returned, alike-written}
 use Rattle.records.proofs.TakenFields.{taken-none}
 use Rattle.records.proofs.TakenOut.{specimensLeft, sentSpecimen, other-stays, specimen-stays, specimen-below, specimen-taken}
 use Rattle.records.proofs.TakenSizes.{specimens-taken, coefficients-taken, rows-taken, present-taken, zColumns-taken}
@@ -44,29 +42,10 @@ short-run : (c : Cutoffs) (s : List ℕ) → run c s ≡ designRun c (shortened 
 unfolding run scaled adjusted design designRun shortened asSent
 short-run c s = refl
 
-module _ (w : ℕ) (lab s answer : List ℕ) where
-  -- and so is the number that is returned
-  short-returned : returned w lab s answer ≡ designReturned w lab (shortened (asSent s)) s answer
-  unfolding returned returnedReasons allReasons testReasons design designReturned designReasons
-  short-returned = rw (short-run (cutoffsIn lab) s)
-
-  -- a call that returns 0 has the entries of the run
-  answered-entries : returned w lab s answer ≡ 0 → entries w (cutoffsIn lab) s ≡ run (cutoffsIn lab) s .entries
-  unfolding returned returnedReasons number entries
-  answered-entries e =
-      let l = allReasons w (cutoffsIn lab) s in
-      let q = past-table lab l (passed 1 (not (eqb (length answer) 168)) (tableReasons lab ++ l) refl e .1) .1 in
-      rw q
-
-  -- so the lent bytes are the definition's
-  short-written : written w lab s answer ≡ designWritten w lab (shortened (asSent s)) s answer
-  unfolding written designWritten
-  short-written = rw (← short-returned) (go (eqb (returned w lab s answer) 0) refl)
-    where
-      go : (b : Bool) → eqb (returned w lab s answer) 0 ≡ b
-          → cond b (answerBytes (entries w (cutoffsIn lab) s)) answer ≡ cond b (answerBytes (designRun (cutoffsIn lab) (shortened (asSent s)) s .entries)) answer
-      go true e = ap answerBytes (answered-entries (eqb-true (returned w lab s answer) 0 e) ∙ ap (λ (r : Run). r .entries) (short-run (cutoffsIn lab) s))
-      go false e = refl
+-- and so are its number and the answer
+short-alike : (w : ℕ) (c : Cutoffs) (s answer : List ℕ) → AnswersAlike (seriesCall w s) (designCall w (shortened (asSent s)) s) c answer
+unfolding number entries allReasons testReasons design designReasons
+short-alike w c s answer = record { stated = refl; number = rw (short-run c s); full = λ z. rw (short-run c s, z) }
 
 -- ---- the series of the file without its torn specimens is the shortened one
 module _ (w : ℕ) (s : List ℕ) (e : refusal w s ≡ 0) (noneLost : any (count s) (columnLost s) ≡ false) where
@@ -168,29 +147,18 @@ module _ (w : ℕ) (s : List ℕ) (e : refusal w s ≡ 0) (noneLost : any (count
         first-next (reasons w (withoutTorn s)) (adjustmentReasons c (design (withoutTorn s)) (phi (withoutTorn s)) (sigma2 (withoutTorn s))) refl (refusal-taken w s a noneLost)
         ∙ rw (design-taken, phi-taken, sigma2-taken w s a) (sym (first-next (reasons w s) (adjustmentReasons c (design s) (phi s) (sigma2 s)) refl e))
 
-  -- with a table: what the calls return, and the lent bytes
-  module _ (lab : List ℕ) where
-    abbrev own : Cutoffs
-    own = cutoffsIn lab
+    -- what the calls return, and the lent bytes
+    taken-alike : (answer : List ℕ) → AnswersAlike (seriesCall w (withoutTorn s)) (seriesCall w s) c answer
+    unfolding number
+    taken-alike answer = record { stated = refl; number = number-taken; full = λ z. rw entries-taken }
 
-    returned-taken : (answer : List ℕ) → returned w lab (withoutTorn s) answer ≡ returned w lab s answer
-    returned-taken answer = returned-is lab (withoutTorn s) w answer ∙ rw (number-taken own) (sym (returned-is lab s w answer))
+    archiving-alike : (lent : List ℕ) → AnswersAlike (archivingCall w (withoutTorn s)) (archivingCall w s) c lent
+    unfolding seriesRefusal
+    archiving-alike lent = record { stated = refl; number = series-refusal-taken; full = λ z. rw archive-taken }
 
-    written-taken : (answer : List ℕ) → written w lab (withoutTorn s) answer ≡ written w lab s answer
-    unfolding written
-    written-taken answer = rw (returned-taken answer, entries-taken own)
-
-    archiving-refusal-taken : (lent : List ℕ) → archivingRefusal w lab (withoutTorn s) lent ≡ archivingRefusal w lab s lent
-    unfolding archivingRefusal archivingReasons tableReasons seriesRefusal first
-    archiving-refusal-taken lent = ap (λ (n : ℕ). cond (not (eqb (length lent) 7184)) 1 (cond (badTable lab) 14 n)) (series-refusal-taken own)
-
-    archiving-returned-taken : (lent : List ℕ) → archivingReturned w lab (withoutTorn s) lent ≡ archivingReturned w lab s lent
-    unfolding archivingReturned
-    archiving-returned-taken lent = rw (archiving-refusal-taken lent, archive-taken own)
-
-    archiving-written-taken : (lent : List ℕ) → archivingWritten w lab (withoutTorn s) lent ≡ archivingWritten w lab s lent
-    unfolding archivingWritten
-    archiving-written-taken lent = rw (archiving-refusal-taken lent, archive-taken own)
+  archiving-told : (lab lent : List ℕ) → archivingReturned w lab (withoutTorn s) lent ≡ archivingReturned w lab s lent
+  unfolding told
+  archiving-told lab lent = rw (alike-returned (archivingCall w (withoutTorn s)) (archivingCall w s) lab lent (archiving-alike (cutoffsIn lab) lent), archive-taken (cutoffsIn lab))
 
 -- ---- where no specimen is torn no record is taken out, and none gets another number
 whole-file : (w : ℕ) (s : List ℕ) → AcceptedSeries w s → any (specimens s) (torn (asSent s)) ≡ false → withoutTorn s ≡ s
@@ -211,11 +179,11 @@ pub torn-keeps : TornKeeps
 torn-keeps =
     record {
       noneTorn = none-torn;
-      shortNumber = short-returned;
-      shortBytes = short-written;
-      takenNumber = λ w lab s answer e noneLost. returned-taken w s e noneLost lab answer;
-      takenBytes = λ w lab s answer e noneLost. written-taken w s e noneLost lab answer;
+      shortNumber = λ w lab s answer. alike-returned (seriesCall w s) (designCall w (shortened (asSent s)) s) lab answer (short-alike w (cutoffsIn lab) s answer);
+      shortBytes = λ w lab s answer. alike-written (seriesCall w s) (designCall w (shortened (asSent s)) s) lab answer (short-alike w (cutoffsIn lab) s answer);
+      takenNumber = λ w lab s answer e noneLost. alike-returned (seriesCall w (withoutTorn s)) (seriesCall w s) lab answer (taken-alike w s e noneLost (cutoffsIn lab) answer);
+      takenBytes = λ w lab s answer e noneLost. alike-written (seriesCall w (withoutTorn s)) (seriesCall w s) lab answer (taken-alike w s e noneLost (cutoffsIn lab) answer);
       takenText = λ w c s e noneLost. text-taken w s e noneLost c;
-      takenArchive = λ w lab s lent e noneLost. (archiving-returned-taken w s e noneLost lab lent, archiving-written-taken w s e noneLost lab lent);
+      takenArchive = λ w lab s lent e noneLost. (archiving-told w s e noneLost lab lent, alike-written (archivingCall w (withoutTorn s)) (archivingCall w s) lab lent (archiving-alike w s e noneLost (cutoffsIn lab) lent));
       takenNone = λ w s e none. whole-file w s (accepted-series w s e) none;
     }

@@ -11,6 +11,7 @@ use Rattle.adjustment.specs.Adjusted.{adjustmentReasons}
 use Rattle.records.specs.Order.{falls}
 use Rattle.records.specs.Layout.{answerBytes, entryBytes}
 use Rattle.records.specs.CutoffTable.{badTable, cutoffsIn}
+use Rattle.records.specs.Call.{Call, untabledReturned, untabledWritten}
 use Rattle.records.specs.Text.{textOf}
 use Rattle.records.specs.Series.{design, phi, sigma2, anyOrderReasons}
 use Rattle.records.specs.Parameters.{anyOrderReasons as parametersInAnyOrder}
@@ -23,30 +24,21 @@ module _ (w : ℕ) (c : Cutoffs) (s : List ℕ) where
   unfoldable pub anyOrderList : List (ℕ × Bool)
   anyOrderList = anyOrderReasons w s ++ (adjustmentReasons c (design s) (phi s) (sigma2 s) ++ testReasons c s)
 
-  -- what was returned for the lent bytes: 1 comes first
-  unfoldable pub anyOrderReturned : List ℕ → ℕ
-  anyOrderReturned answer = first ((1, not (eqb (length answer) 168)) ∷ anyOrderList)
-
-  -- what they held then: "lent answer bytes keep their contents" where it refused
-  unfoldable pub anyOrderWritten : List ℕ → List ℕ
-  anyOrderWritten answer = cond (eqb (anyOrderReturned answer) 0) (answerBytes (run c s .entries)) answer
-
   -- what `pulltest` printed
   unfoldable pub anyOrderText : List ℕ
   anyOrderText = textOf (first anyOrderList) (run c s .entries)
 
--- ---- the Satterthwaite call: what it returned for the lent bytes, and what they held then
-module _ (c : Cutoffs) (s answer : List ℕ) where
-  unfoldable pub satterthwaiteInAnyOrder : ℕ
-  satterthwaiteInAnyOrder = first ((1, not (eqb (length answer) 24)) ∷ (parametersInAnyOrder s ++ satterthwaiteTestReasons c s))
+abbrev pub anyOrderCall : ℕ → List ℕ → Call
+anyOrderCall w s = record { stated = 168; reasons = λ c. anyOrderList w c s; full = λ c answer. answerBytes (run c s .entries) }
 
-  unfoldable pub satterthwaiteWrittenInAnyOrder : List ℕ
-  satterthwaiteWrittenInAnyOrder = cond (eqb satterthwaiteInAnyOrder 0) (entryBytes (outcome c s .entry)) answer
+-- ---- the Satterthwaite call
+abbrev pub anyOrderTest : List ℕ → Call
+anyOrderTest s = record { stated = 24; reasons = λ c. parametersInAnyOrder s ++ satterthwaiteTestReasons c s; full = λ c answer. entryBytes (outcome c s .entry) }
 
 -- A SORTED FILE KEEPS ITS ANSWERS: for every limit of specimens, accepted table, file that rises and lent bytes, what is returned, what the lent bytes then hold, and the program's text
 pub record SortedKeeps : Type 0 where
-  pub sameNumber : (w : ℕ) (lab s answer : List ℕ) → badTable lab ≡ false → falls s ≡ false → returned w lab s answer ≡ anyOrderReturned w (cutoffsIn lab) s answer
-  pub sameBytes : (w : ℕ) (lab s answer : List ℕ) → badTable lab ≡ false → falls s ≡ false → written w lab s answer ≡ anyOrderWritten w (cutoffsIn lab) s answer
+  pub sameNumber : (w : ℕ) (lab s answer : List ℕ) → badTable lab ≡ false → falls s ≡ false → returned w lab s answer ≡ untabledReturned (anyOrderCall w s) (cutoffsIn lab) answer
+  pub sameBytes : (w : ℕ) (lab s answer : List ℕ) → badTable lab ≡ false → falls s ≡ false → written w lab s answer ≡ untabledWritten (anyOrderCall w s) (cutoffsIn lab) answer
   pub sameText : (w : ℕ) (c : Cutoffs) (s : List ℕ) → falls s ≡ false → textOf (number w c s) (entries w c s) ≡ anyOrderText w c s
-  pub sameTestNumber : (lab s answer : List ℕ) → badTable lab ≡ false → falls s ≡ false → satterthwaiteReturned lab s answer ≡ satterthwaiteInAnyOrder (cutoffsIn lab) s answer
-  pub sameTestBytes : (lab s answer : List ℕ) → badTable lab ≡ false → falls s ≡ false → satterthwaiteWritten lab s answer ≡ satterthwaiteWrittenInAnyOrder (cutoffsIn lab) s answer
+  pub sameTestNumber : (lab s answer : List ℕ) → badTable lab ≡ false → falls s ≡ false → satterthwaiteReturned lab s answer ≡ untabledReturned (anyOrderTest s) (cutoffsIn lab) answer
+  pub sameTestBytes : (lab s answer : List ℕ) → badTable lab ≡ false → falls s ≡ false → satterthwaiteWritten lab s answer ≡ untabledWritten (anyOrderTest s) (cutoffsIn lab) answer

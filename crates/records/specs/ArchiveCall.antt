@@ -1,6 +1,6 @@
 -- Document 02, "Req 02": the archive's two calls whole, the writer and the test from an archive, from the bytes of their files and the lab's table to their numbers and the lent bytes.
 use Prim.Native.Nat.{ℕ}
-use mathlib.Core.Bool.{Bool, not, cond}
+use mathlib.Core.Bool.{Bool, cond}
 use mathlib.Core.List.{List, [], _∷_, _++_}
 use lib.Dec.{eqb}
 use lib.ListN.{length, replicate}
@@ -15,7 +15,8 @@ use Rattle.tests.specs.declared.Entry.{Entry}
 use Rattle.tests.specs.Answer.{noEntry}
 use Rattle.tests.specs.KenwardRoger.{Scaled, scaledPs, Run, runOf}
 use Rattle.records.specs.Layout.{answerBytes}
-use Rattle.records.specs.CutoffTable.{tableReasons, cutoffsIn}
+use Rattle.records.specs.CutoffTable.{cutoffsIn}
+use Rattle.records.specs.Call.{Call, callReturned, callWritten}
 use Rattle.records.specs.Series as series
 use Rattle.records.specs.KenwardRogerCall.{adjusted}
 use Rattle.records.specs.Archive as archive
@@ -44,21 +45,23 @@ module _ (w : ℕ) (c : Cutoffs) (s : List ℕ) where
   unfoldable pub seriesRefusal : ℕ
   seriesRefusal = first seriesReasons
 
--- the call, with a lab's table ("Req 06"); the call without one is this at the built-in table
+-- "The writer is lent 7,184 bytes", "fills them from the front, keeps the rest and returns the file's length"; a refusal returns its number and keeps them all
+abbrev pub archivingCall : ℕ → List ℕ → Call
+archivingCall w s = record { stated = 7184; reasons = λ c. seriesReasons w c s; full = λ c lent. sets lent 0 (archiveBytes (seriesArchive c s)) }
+
+-- what it returns: the length where nothing refuses
+unfoldable pub told : Cutoffs → List ℕ → ℕ → ℕ
+told c s n = cond (eqb n 0) (length (archiveBytes (seriesArchive c s))) n
+
 module _ (w : ℕ) (lab s : List ℕ) where
-  -- "The writer is lent 7,184 bytes": any other length is 1; 14, the table; then the series
-  unfoldable pub archivingReasons : List ℕ → List (ℕ × Bool)
-  archivingReasons lent = (1, not (eqb (length lent) 7184)) ∷ (tableReasons lab ++ seriesReasons w (cutoffsIn lab) s)
+  abbrev pub archivingRefusal : List ℕ → ℕ
+  archivingRefusal lent = callReturned (archivingCall w s) lab lent
 
-  unfoldable pub archivingRefusal : List ℕ → ℕ
-  archivingRefusal lent = first (archivingReasons lent)
+  abbrev pub archivingReturned : List ℕ → ℕ
+  archivingReturned lent = told (cutoffsIn lab) s (archivingRefusal lent)
 
-  -- "fills them from the front, keeps the rest and returns the file's length"; a refusal returns its number and keeps them all
-  unfoldable pub archivingReturned : List ℕ → ℕ
-  archivingReturned lent = cond (eqb (archivingRefusal lent) 0) (length (archiveBytes (seriesArchive (cutoffsIn lab) s))) (archivingRefusal lent)
-
-  unfoldable pub archivingWritten : List ℕ → List ℕ
-  archivingWritten lent = cond (eqb (archivingRefusal lent) 0) (sets lent 0 (archiveBytes (seriesArchive (cutoffsIn lab) s))) lent
+  abbrev pub archivingWritten : List ℕ → List ℕ
+  archivingWritten lent = callWritten (archivingCall w s) lab lent
 
 -- ---- the test from an archive
 -- "the reader's test marks the scaling steps from them": Φ and Φ_A times sigma2, each P divided by it, from the records in residual units
@@ -91,14 +94,13 @@ module _ (c : Cutoffs) (s t : List ℕ) where
   unfoldable pub fromArchiveEntries : List Entry
   fromArchiveEntries = cond (eqb fromArchiveNumber 0) (archiveRun .entries) (replicate 7 noEntry)
 
--- the call, with a lab's table ("Req 06"); the call without one is this at the built-in table
+-- the call: 168 bytes as in the direct call
+abbrev pub testingCall : List ℕ → List ℕ → Call
+testingCall s t = record { stated = 168; reasons = λ c. fromArchiveReasons c s t; full = λ c answer. answerBytes (fromArchiveEntries c s t) }
+
 module _ (lab s t : List ℕ) where
-  -- for the lent bytes: 1, "lent length is not the stated one", 168 bytes as in the direct call; 14, the table; then the archive
-  unfoldable pub testingReasons : List ℕ → List (ℕ × Bool)
-  testingReasons answer = (1, not (eqb (length answer) 168)) ∷ (tableReasons lab ++ fromArchiveReasons (cutoffsIn lab) s t)
+  abbrev pub testingReturned : List ℕ → ℕ
+  testingReturned answer = callReturned (testingCall s t) lab answer
 
-  unfoldable pub testingReturned : List ℕ → ℕ
-  testingReturned answer = first (testingReasons answer)
-
-  unfoldable pub testingWritten : List ℕ → List ℕ
-  testingWritten answer = cond (eqb (testingReturned answer) 0) (answerBytes (fromArchiveEntries (cutoffsIn lab) s t)) answer
+  abbrev pub testingWritten : List ℕ → List ℕ
+  testingWritten answer = callWritten (testingCall s t) lab answer

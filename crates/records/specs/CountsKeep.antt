@@ -17,11 +17,12 @@ use Rattle.records.specs.Order.{orderReasons}
 use Rattle.records.specs.Written.{sequence, recordAt}
 use Rattle.records.specs.Layout.{answerBytes}
 use Rattle.records.specs.CutoffTable.{badTable, cutoffsIn}
+use Rattle.records.specs.Call.{Call, untabledReturned, untabledWritten}
 use Rattle.records.specs.Text.{textOf}
 use Rattle.records.specs.Series.{kinds, parameterCount, miscounted, sizeReasons, valueReasons, refusal, design, phi, sigma2}
 use Rattle.records.specs.KenwardRogerCall.{run, testReasons, number, entries, returned, written}
 use Rattle.records.specs.Archive.{archiveBytes}
-use Rattle.records.specs.ArchiveCall.{seriesArchive, archivingReturned, archivingWritten}
+use Rattle.records.specs.ArchiveCall.{seriesArchive, told, archivingReturned, archivingWritten}
 
 -- ---- before the request, when a block was bare
 -- document 01: "3 block (row its number, column k, count m, bits 0)", so that any other bits were a "nonzero unused field"
@@ -37,24 +38,16 @@ module _ (w : ℕ) (c : Cutoffs) (s : List ℕ) where
   unfoldable pub bareList : List (ℕ × Bool)
   bareList = bareReasons w s ++ (adjustmentReasons c (design s) (phi s) (sigma2 s) ++ testReasons c s)
 
-  unfoldable pub bareReturned : List ℕ → ℕ
-  bareReturned answer = first ((1, not (eqb (length answer) 168)) ∷ bareList)
-
-  unfoldable pub bareWritten : List ℕ → List ℕ
-  bareWritten answer = cond (eqb (bareReturned answer) 0) (answerBytes (run c s .entries)) answer
-
   unfoldable pub bareText : List ℕ
   bareText = textOf (first bareList) (run c s .entries)
 
-  -- the archive's writer: its refusal, what it returned, and the lent bytes
-  unfoldable pub bareArchiving : List ℕ → ℕ
-  bareArchiving lent = first ((1, not (eqb (length lent) 7184)) ∷ (bareReasons w s ++ adjustmentReasons c (design s) (phi s) (sigma2 s)))
+abbrev pub bareCall : ℕ → List ℕ → Call
+bareCall w s = record { stated = 168; reasons = λ c. bareList w c s; full = λ c answer. answerBytes (run c s .entries) }
 
-  unfoldable pub bareArchivingReturned : List ℕ → ℕ
-  bareArchivingReturned lent = cond (eqb (bareArchiving lent) 0) (length (archiveBytes (seriesArchive c s))) (bareArchiving lent)
-
-  unfoldable pub bareArchivingWritten : List ℕ → List ℕ
-  bareArchivingWritten lent = cond (eqb (bareArchiving lent) 0) (sets lent 0 (archiveBytes (seriesArchive c s))) lent
+-- the archive's writer
+abbrev pub bareArchiving : ℕ → List ℕ → Call
+bareArchiving w s =
+    record { stated = 7184; reasons = λ c. bareReasons w s ++ adjustmentReasons c (design s) (phi s) (sigma2 s); full = λ c lent. sets lent 0 (archiveBytes (seriesArchive c s)) }
 
 -- ---- the file with its blocks' parameter counts written
 -- record i with k(k+1)/2 in "the first of the eight value bytes", where it is a block
@@ -77,11 +70,11 @@ pub record CountsKeep : Type 0 where
   pub accepted : (w : ℕ) (s : List ℕ) → first (bareReasons w s) ≡ 0 → refusal w (withCounts s) ≡ 0
   -- with the same answer; so it is for every file whose blocks' counts can be written, and a refused one keeps its number: what is returned, the lent bytes, the program's text, and the archive
   pub countable : (w : ℕ) (s : List ℕ) → first (bareReasons w s) ≡ 0 → Countable s
-  pub sameNumber : (w : ℕ) (lab s answer : List ℕ) → badTable lab ≡ false → Countable s → returned w lab (withCounts s) answer ≡ bareReturned w (cutoffsIn lab) s answer
-  pub sameBytes : (w : ℕ) (lab s answer : List ℕ) → badTable lab ≡ false → Countable s → written w lab (withCounts s) answer ≡ bareWritten w (cutoffsIn lab) s answer
+  pub sameNumber : (w : ℕ) (lab s answer : List ℕ) → badTable lab ≡ false → Countable s → returned w lab (withCounts s) answer ≡ untabledReturned (bareCall w s) (cutoffsIn lab) answer
+  pub sameBytes : (w : ℕ) (lab s answer : List ℕ) → badTable lab ≡ false → Countable s → written w lab (withCounts s) answer ≡ untabledWritten (bareCall w s) (cutoffsIn lab) answer
   pub sameText : (w : ℕ) (c : Cutoffs) (s : List ℕ) → Countable s → textOf (number w c (withCounts s)) (entries w c (withCounts s)) ≡ bareText w c s
   pub sameArchive : (w : ℕ) (lab s lent : List ℕ) → badTable lab ≡ false → Countable s
-      → (archivingReturned w lab (withCounts s) lent ≡ bareArchivingReturned w (cutoffsIn lab) s lent) × (archivingWritten w lab (withCounts s) lent ≡ bareArchivingWritten w (cutoffsIn lab) s lent)
+      → (archivingReturned w lab (withCounts s) lent ≡ told (cutoffsIn lab) s (untabledReturned (bareArchiving w s) (cutoffsIn lab) lent)) × (archivingWritten w lab (withCounts s) lent ≡ untabledWritten (bareArchiving w s) (cutoffsIn lab) lent)
   -- a series without a block is the file itself
   pub noBlock : (s : List ℕ) → length s % 16 ≡ 0 → any (count s) (λ i. eqb (kindOf s i) 3) ≡ false → withCounts s ≡ s
   -- in a file of bytes no k from 23 on can be right

@@ -1,9 +1,9 @@
 -- Document 01, "kenward_roger.rs": the whole Kenward–Roger call, from the limit of specimens, the lab's table and the bytes of a file to its number, its entries and the lent bytes.
 use Prim.Native.Nat.{ℕ}
-use mathlib.Core.Bool.{Bool, not, cond}
+use mathlib.Core.Bool.{Bool, cond}
 use mathlib.Core.List.{List, [], _∷_, _++_}
 use lib.Dec.{eqb}
-use lib.ListN.{length, replicate}
+use lib.ListN.{replicate}
 use Rattle.arithmetic.specs.declared.Marked.{Marked}
 use Rattle.arithmetic_cutoffs.specs.declared.Cutoffs.{Cutoffs}
 use Rattle.adjustment.specs.Covariance.{matrices}
@@ -11,7 +11,7 @@ use Rattle.adjustment.specs.Adjusted.{Adjustment, adjustment, adjustmentReasons
 use Rattle.tests.specs.declared.Entry.{Entry}
 use Rattle.tests.specs.Answer.{noEntry}
 use Rattle.records.specs.Layout.{answerBytes}
-use Rattle.records.specs.CutoffTable.{tableReasons, cutoffsIn}
+use Rattle.records.specs.Call.{Call, callReturned, callWritten}
 use Rattle.tests.specs.KenwardRoger.{Scaled, scaledBy, Run, runOf}
 use Rattle.algebra.specs.Kind.{marks}
 use Rattle.algebra.specs.Reasons.{first}
@@ -56,15 +56,13 @@ module _ (w : ℕ) (c : Cutoffs) (s : List ℕ) where
   unfoldable pub specimensRun : ℕ
   specimensRun = cond (eqb number 0) (design s .n) 0
 
--- ---- the call, with a lab's table (document 02, "Req 06"); the call without one is this at the built-in table
+-- ---- the call: 168 bytes, the seven entries; with a lab's table what it returns for the lent bytes, and what they hold then
+abbrev pub seriesCall : ℕ → List ℕ → Call
+seriesCall w s = record { stated = 168; reasons = λ c. allReasons w c s; full = λ c answer. answerBytes (entries w c s) }
+
 module _ (w : ℕ) (lab s : List ℕ) where
-  -- what refuses a call, and what it returns for the lent bytes: 1, "lent length is not the stated one", 168 bytes; 14, the table; then the file
-  unfoldable pub returnedReasons : List ℕ → List (ℕ × Bool)
-  returnedReasons answer = (1, not (eqb (length answer) 168)) ∷ (tableReasons lab ++ allReasons w (cutoffsIn lab) s)
+  abbrev pub returned : List ℕ → ℕ
+  returned answer = callReturned (seriesCall w s) lab answer
 
-  unfoldable pub returned : List ℕ → ℕ
-  returned answer = first (returnedReasons answer)
-
-  -- what the lent bytes hold then: "lent answer bytes keep their contents" where it refuses
-  unfoldable pub written : List ℕ → List ℕ
-  written answer = cond (eqb (returned answer) 0) (answerBytes (entries w (cutoffsIn lab) s)) answer
+  abbrev pub written : List ℕ → List ℕ
+  written answer = callWritten (seriesCall w s) lab answer

@@ -14,6 +14,7 @@ pub mod Archive
 pub mod SecondFile
 pub mod Layout
 pub mod CutoffTable
+pub mod Call
 pub mod KenwardRogerCall
 pub mod SatterthwaiteCall
 pub mod ArchiveCall

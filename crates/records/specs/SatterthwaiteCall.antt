@@ -1,14 +1,13 @@
 -- Document 01: the whole Satterthwaite call, from the bytes of a file and the lab's table to its number, its entry and the lent bytes.
 use Prim.Native.Nat.{ℕ}
-use mathlib.Core.Bool.{Bool, not, cond}
+use mathlib.Core.Bool.{Bool, cond}
 use mathlib.Core.List.{List, [], _∷_, _++_}
 use lib.Dec.{eqb}
-use lib.ListN.{length}
 use Rattle.arithmetic_cutoffs.specs.declared.Cutoffs.{Cutoffs}
 use Rattle.tests.specs.declared.Entry.{Entry}
 use Rattle.tests.specs.Answer.{noEntry}
 use Rattle.records.specs.Layout.{entryBytes}
-use Rattle.records.specs.CutoffTable.{tableReasons, cutoffsIn}
+use Rattle.records.specs.Call.{Call, callReturned, callWritten}
 use Rattle.algebra.specs.Kind.{marks}
 use Rattle.algebra.specs.Reasons.{first}
 use Rattle.tests.specs.Satterthwaite.{Outcome, satterthwaite as test}
@@ -33,15 +32,13 @@ module _ (c : Cutoffs) (s : List ℕ) where
   unfoldable pub entry : Entry
   entry = cond (eqb number 0) (outcome .entry) noEntry
 
--- ---- the call, with a lab's table (document 02, "Req 06"); the call without one is this at the built-in table
+-- ---- the call: "The Satterthwaite call fills one such entry, 24 bytes"
+abbrev pub testCall : List ℕ → Call
+testCall s = record { stated = 24; reasons = λ c. allReasons c s; full = λ c answer. entryBytes (entry c s) }
+
 module _ (lab s : List ℕ) where
-  -- what refuses a call, and what it returns for the lent bytes: 1, "lent length is not the stated one", 24 bytes; 14, the table; then the file
-  unfoldable pub returnedReasons : List ℕ → List (ℕ × Bool)
-  returnedReasons answer = (1, not (eqb (length answer) 24)) ∷ (tableReasons lab ++ allReasons (cutoffsIn lab) s)
+  abbrev pub returned : List ℕ → ℕ
+  returned answer = callReturned (testCall s) lab answer
 
-  unfoldable pub returned : List ℕ → ℕ
-  returned answer = first (returnedReasons answer)
-
-  -- what they hold then: "The Satterthwaite call fills one such entry, 24 bytes"; "lent answer bytes keep their contents" where it refuses
-  unfoldable pub written : List ℕ → List ℕ
-  written answer = cond (eqb (returned answer) 0) (entryBytes (entry (cutoffsIn lab) s)) answer
+  abbrev pub written : List ℕ → List ℕ
+  written answer = callWritten (testCall s) lab answer

@@ -15,7 +15,7 @@ use Rattle.records.specs.Scan.{any}
 use Rattle.records.specs.File.{count, kindOf, rowOf, columnOf}
 use Rattle.records.specs.Written.{sequence, recordAt}
 use Rattle.records.specs.Layout.{answerBytes}
-use Rattle.records.specs.CutoffTable.{tableReasons, cutoffsIn}
+use Rattle.records.specs.Call.{Call, callReturned, callWritten}
 use Rattle.records.specs.Text.{textOf}
 use Rattle.records.specs.Shortened.{torn, keptBelow, shortened}
 use Rattle.records.specs.Series.{specimens, contrastRows, asSent, reasons, refusal, design, phi, sigma2, beta, betaH, contrast}
@@ -32,12 +32,15 @@ module _ (c : Cutoffs) (d : Design) (s : List ℕ) where
   designReasons = adjustmentReasons c d (phi s) (sigma2 s) ++ ((10, designRun .refused) ∷ [])
 
 -- what the call returns for the lent bytes and what they hold then, if the design is d: the table's reason is its own, and the reader's are the file's
-module _ (w : ℕ) (lab : List ℕ) (d : Design) (s answer : List ℕ) where
-  unfoldable pub designReturned : ℕ
-  designReturned = first ((1, not (eqb (length answer) 168)) ∷ (tableReasons lab ++ (reasons w s ++ designReasons (cutoffsIn lab) d s)))
+abbrev pub designCall : ℕ → Design → List ℕ → Call
+designCall w d s = record { stated = 168; reasons = λ c. reasons w s ++ designReasons c d s; full = λ c answer. answerBytes (designRun c d s .entries) }
 
-  unfoldable pub designWritten : List ℕ
-  designWritten = cond (eqb designReturned 0) (answerBytes (designRun (cutoffsIn lab) d s .entries)) answer
+module _ (w : ℕ) (lab : List ℕ) (d : Design) (s answer : List ℕ) where
+  abbrev pub designReturned : ℕ
+  designReturned = callReturned (designCall w d s) lab answer
+
+  abbrev pub designWritten : List ℕ
+  designWritten = callWritten (designCall w d s) lab answer
 
 -- ---- the file with the torn rows' records taken out and the others numbered anew
 -- "1 X; 2 Z (absent is 0); .. 5 weight": the kinds of which a row is a specimen

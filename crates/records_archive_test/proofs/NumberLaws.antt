@@ -1,11 +1,11 @@
--- The number of the test from an archive: the archive's reasons before the second file's, and these before the tests'; its entries; and the lent bytes.
+-- The number of the test from an archive: the archive's reasons before the second file's, and these before the tests'; and its entries.
 use Prim.Native.Nat.{ℕ}
 use mathlib.Core.Path.{_≡_, refl, sym, ap, _∙_}
 use mathlib.Core.Bool.{Bool, true, false, cond}
 use mathlib.Core.List.{List, _++_}
 use native.Mathlib.Omega.{arith}
 use lib.Dec.{eqb}
-use lib.ListN.{length, replicate}
+use lib.ListN.{replicate}
 use borrow.Author.Tests.{ne-eqb}
 use Rattle.arithmetic_cutoffs.specs.declared.Cutoffs.{Cutoffs}
 use Rattle.algebra.specs.Reasons.{first}
@@ -15,12 +15,9 @@ use Rattle.tests.specs.Answer.{noEntry}
 use Rattle.tests.specs.Entries.{runRefusal, runEntries}
 use Rattle.records.specs.File.{lengthReasons, formReasons}
 use Rattle.records.specs.Order.{orderReasons}
-use Rattle.records.specs.Layout.{answerBytes}
-use Rattle.records.specs.CutoffTable.{badTable, cutoffsIn}
 use Rattle.records.specs.Archive as archive
 use Rattle.records.specs.SecondFile as second
-use Rattle.records.specs.ArchiveCall.{archiveRun, archiveTestReasons, fromArchiveReasons, fromArchiveNumber, fromArchiveEntries, testingReasons, testingReturned, testingWritten}
-use Rattle.records.proofs.CallLaws.{other-length, other-table, own-answer}
+use Rattle.records.specs.ArchiveCall.{archiveRun, archiveTestReasons, fromArchiveReasons, fromArchiveNumber, fromArchiveEntries}
 
 module _ (c : Cutoffs) (s t : List ℕ) where
   -- the second file's number, for the archive's coefficients
@@ -68,19 +65,3 @@ module _ (c : Cutoffs) (s t : List ℕ) where
       unfolding runEntries runRefusal fromArchiveEntries
       tests-answer true es fs k e f p q = let x = tests-number true e in (p ∙ sym (none-in-use 10 x (omega arith)), q ∙ sym x)
       tests-answer false es fs k e f p q = let x = tests-number false e in (p ∙ f ∙ rw x, q ∙ sym x)
-
--- ---- the lent bytes: of another length; with another table; filled by the files' answer with the cutoffs c, which are those of an accepted table
-pub other-answer : (lab s t answer : List ℕ) → (length answer ≡ 168 → ⊥) → (1 ≡ testingReturned lab s t answer) × (answer ≡ testingWritten lab s t answer)
-unfolding testingReturned testingReasons testingWritten
-other-answer lab s t answer h = other-length 168 answer lab (fromArchiveReasons (cutoffsIn lab) s t) (answerBytes (fromArchiveEntries (cutoffsIn lab) s t)) h
-
-pub refused-table : (lab s t answer : List ℕ) → length answer ≡ 168 → badTable lab ≡ true → (14 ≡ testingReturned lab s t answer) × (answer ≡ testingWritten lab s t answer)
-unfolding testingReturned testingReasons testingWritten
-refused-table lab s t answer l bad = other-table 168 answer lab (fromArchiveReasons (cutoffsIn lab) s t) (answerBytes (fromArchiveEntries (cutoffsIn lab) s t)) l bad
-
-pub own-call : (lab s t answer : List ℕ) → length answer ≡ 168 → badTable lab ≡ false → (c : Cutoffs) → c ≡ cutoffsIn lab → (n : ℕ) (bytes : List ℕ) → n ≡ fromArchiveNumber c s t
-    → bytes ≡ cond (eqb (fromArchiveNumber c s t) 0) (answerBytes (fromArchiveEntries c s t)) answer → (n ≡ testingReturned lab s t answer) × (bytes ≡ testingWritten lab s t answer)
-unfolding testingReturned testingReasons testingWritten fromArchiveNumber
-own-call lab s t answer l ok c e n bytes q b =
-    own-answer 168 answer lab (fromArchiveReasons (cutoffsIn lab) s t) (answerBytes (fromArchiveEntries (cutoffsIn lab) s t)) l ok n bytes (q ∙ ap (λ (x : Cutoffs). fromArchiveNumber x s t) e)
-    (b ∙ ap (λ (x : Cutoffs). cond (eqb (fromArchiveNumber x s t) 0) (answerBytes (fromArchiveEntries x s t)) answer) e)

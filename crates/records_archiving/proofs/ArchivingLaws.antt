@@ -22,8 +22,9 @@ use Rattle.records.specs.KenwardRogerCall.{adjusted}
 use Rattle.records.specs.CutoffTable.{badTable, cutoffsIn}
 use Rattle.records.specs.Kinds.{archiveKinds}
 use Rattle.records.specs.Archive.{sizesAt, archiveContent, archiveBytes}
-use Rattle.records.specs.ArchiveCall.{seriesArchive, seriesReasons, seriesRefusal, archivingReasons, archivingRefusal, archivingReturned, archivingWritten}
-use Rattle.records.proofs.CallLaws.{fileAdjustmentRefusal, length-refuses, table-refuses, files-decide}
+use Rattle.records.specs.ArchiveCall.{seriesArchive, seriesReasons, seriesRefusal, archivingCall, told, archivingReturned, archivingWritten}
+use Rattle.records.specs.Call.{Call, callReturned, callWritten}
+use Rattle.records.proofs.CallLaws.{fileAdjustmentRefusal, other-length, other-table, own-answer}
 use Rattle.records.proofs.WrittenLaws.{length-file}
 use Rattle.records_archive_bytes.specs.joints.Parts.{archiveFrom}
 use Rattle.records.proofs.ArchiveLengths.{archive-slots}
@@ -76,23 +77,24 @@ module _ (w : ℕ) (c : Cutoffs) (s : List ℕ) where
       pub archives : (n : ℕ) (out : List ℕ) → fileAdjustmentRefusal c s ≡ 0 → n ≡ length (archiveBytes (seriesArchive c s)) → out ≡ sets lent 0 (archiveBytes (seriesArchive c s)) → (n ≡ seriesTold) × (out ≡ seriesPut lent)
       archives n out e en eo = let z = series-taken e in (en ∙ rw z, eo ∙ rw z)
 
--- ---- the call: lent bytes of another length; another table; a series' own answer with the cutoffs c, which are those of an accepted table
+-- ---- the call: what is told of a refusal, and of a series' own answer
 module _ (lab s lent : List ℕ) where
-  call-refuses : (n : ℕ) → archivingRefusal 24 lab s lent ≡ n → (n ≡ 0 → ⊥) → (n ≡ archivingReturned 24 lab s lent) × (lent ≡ archivingWritten 24 lab s lent)
-  unfolding archivingReturned archivingWritten
-  call-refuses n e h = (rw (e, ne-eqb n 0 h), rw (e, ne-eqb n 0 h))
+  abbrev call : Call
+  call = archivingCall 24 s
+
+  tells : (n : ℕ) (bytes : List ℕ) → (n ≡ 0 → ⊥) → (n ≡ callReturned call lab lent) × (bytes ≡ callWritten call lab lent) → (n ≡ archivingReturned 24 lab s lent) × (bytes ≡ archivingWritten 24 lab s lent)
+  unfolding told
+  tells n bytes h p = (rw (← (p .0), ne-eqb n 0 h), p .1)
 
   pub other-lent : (length lent ≡ 7184 → ⊥) → (1 ≡ archivingReturned 24 lab s lent) × (lent ≡ archivingWritten 24 lab s lent)
-  unfolding archivingRefusal archivingReasons
-  other-lent h = call-refuses 1 (length-refuses 7184 lent lab (seriesReasons 24 (cutoffsIn lab) s) h) (λ e. omega arith)
+  other-lent h = tells 1 lent (λ e. omega arith) (other-length call lab lent h)
 
   pub refused-table : length lent ≡ 7184 → badTable lab ≡ true → (14 ≡ archivingReturned 24 lab s lent) × (lent ≡ archivingWritten 24 lab s lent)
-  unfolding archivingRefusal archivingReasons
-  refused-table l bad = call-refuses 14 (table-refuses 7184 lent lab (seriesReasons 24 (cutoffsIn lab) s) l bad) (λ e. omega arith)
+  refused-table l bad = tells 14 lent (λ e. omega arith) (other-table call lab lent l bad)
 
   pub own-call : length lent ≡ 7184 → badTable lab ≡ false → (c : Cutoffs) → c ≡ cutoffsIn lab → (n : ℕ) (bytes : List ℕ) → n ≡ seriesTold 24 c s → bytes ≡ seriesPut 24 c s lent
       → (n ≡ archivingReturned 24 lab s lent) × (bytes ≡ archivingWritten 24 lab s lent)
-  unfolding archivingReturned archivingWritten archivingRefusal archivingReasons seriesRefusal
+  unfolding told seriesRefusal
   own-call l ok c e n bytes q b =
-      let r = files-decide 7184 lent lab (seriesReasons 24 (cutoffsIn lab) s) l ok in
-      (q ∙ ap (λ (x : Cutoffs). seriesTold 24 x s) e ∙ rw r, b ∙ ap (λ (x : Cutoffs). seriesPut 24 x s lent) e ∙ rw r)
+      let p = own-answer call lab lent l ok c e (seriesRefusal 24 c s) bytes refl b in
+      (q ∙ ap (λ (x : Cutoffs). cond (eqb (seriesRefusal 24 c s) 0) (length (archiveBytes (seriesArchive x s))) (seriesRefusal 24 c s)) e ∙ rw (p .0), p .1)

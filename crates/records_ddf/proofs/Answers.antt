@@ -29,7 +29,8 @@ use Rattle.tests.specs.Satterthwaite.{Inputs, squaresOver, gradientAt, capped, 
 use Rattle.records.specs.Layout.{entryBytes, answerBytes, entryFrom}
 use Rattle.records.specs.Parameters.{contrastRows, refusal, inputs}
 use Rattle.records.specs.CutoffTable.{cutoffsIn}
-use Rattle.records.specs.SatterthwaiteCall.{outcome, number, entry, returned, written}
+use Rattle.records.proofs.CallLaws.{accepted-fills}
+use Rattle.records.specs.SatterthwaiteCall.{testCall, outcome, number, entry, returned, written}
 use Rattle.records.proofs.CutoffLaws.{cap-fits}
 use Rattle.records_answer_bytes.proofs.LayoutLaws.{Held, number-held, read-back}
 use Rattle.records_ddf.proofs.Judged.{judged-early, contrast-rows-within}
@@ -183,8 +184,7 @@ file-read-back lab s = entry-back (cutoffsIn lab) s (cap-fits lab)
 
 -- the same of the bytes that an accepting call has filled
 pub call-read-back : (lab s answer : List ℕ) → returned lab s answer ≡ 0 → entryFrom (written lab s answer) 0 ≡ entry (cutoffsIn lab) s
-unfolding written
-call-read-back lab s answer h = rw (eq-eqb (returned lab s answer) 0 h) (file-read-back lab s)
+call-read-back lab s answer h = rw (accepted-fills (testCall s) lab answer h) (file-read-back lab s)
 
 -- SO THE BYTES DETERMINE THE ANSWER: equal bytes are equal entries
 pub file-determined : (lab lab' s t : List ℕ) → entryBytes (entry (cutoffsIn lab) s) ≡ entryBytes (entry (cutoffsIn lab') t) → entry (cutoffsIn lab) s ≡ entry (cutoffsIn lab') t

@@ -34,9 +34,10 @@ use Rattle.records.specs.File.{outOf, badRecord, isCell, again, has, cell as fi
 use Rattle.records.specs.Written.{recordOf}
 use Rattle.records.specs.Order.{numbersMatrix, matrixOf, standsBefore, falls, orderReasons}
 use Rattle.records.specs.Parameters.{sizes, valueReasons, reasons, refusal, jacobians, inputs}
-use Rattle.records.specs.SatterthwaiteCall.{outcome, number, entry, returned, written}
+use Rattle.records.specs.Call.{callWritten}
+use Rattle.records.specs.SatterthwaiteCall.{testCall, outcome, number, entry, returned, written}
 use Rattle.records.specs.CutoffTable.{builtInTable}
-use Rattle.records.proofs.CutoffLaws.{built-in-numbers, built-in-test-returned}
+use Rattle.records.proofs.CutoffLaws.{built-in-numbers, built-in-returned}
 use Rattle.records_ddf.proofs.Judged.{judged-taken, judged-late}
 
 abbrev oneBits : ℕ
@@ -131,11 +132,11 @@ pub record Example : Type 0 where
   pub written-i : written builtInTable fileI (replicate 24 255) ≡ 0 ∷ 0 ∷ 0 ∷ 0 ∷ 0 ∷ 0 ∷ 4 ∷ 0x40 ∷ 0 ∷ 0 ∷ 0 ∷ 0 ∷ 0 ∷ 0 ∷ 0x10 ∷ 0x40 ∷ 2 ∷ 1 ∷ 1 ∷ 1 ∷ 0 ∷ 0 ∷ 0 ∷ 0 ∷ []
 
 pub example-i : Example
-unfolding written entryBytes bitsOf bytesOf toBits
+unfolding number callWritten entryBytes bitsOf bytesOf toBits
 example-i =
     let j = judged-taken documentCutoffs fileI answered (file-taken .0) (ap (λ (o : Outcome). o .refused) tested-file) (sym (ap (λ (o : Outcome). o .entry) tested-file)) in
     let n : number documentCutoffs fileI ≡ 0 = sym (j .1) in
-    let r : returned builtInTable fileI (replicate 24 255) ≡ 0 = built-in-test-returned fileI (replicate 24 255) ∙ n in
+    let r : returned builtInTable fileI (replicate 24 255) ≡ 0 = built-in-returned (testCall fileI) (replicate 24 255) ∙ n in
     record { number-i = n; entry-i = sym (j .0); returned-i = r; written-i = rw (r, built-in-numbers, sym (j .0)) }
 
 -- ---- and what is refused
@@ -166,7 +167,7 @@ pub record Refused : Type 0 where
 pub refused : Refused
 unfolding refusal reasons lengthReasons orderReasons falls standsBefore matrixOf numbersMatrix formReasons valueReasons first sizes outOf badRecord isCell again has fileCell rows columns beyond missing notFinite kindAt holds width indexOf valueHolds satterthwaiteKinds limits any most last word long bytesOf isFinite isZero ofBits le eq
 refused = record {
-  short = built-in-test-returned fileI (replicate 23 0);
+  short = built-in-returned (testCall fileI) (replicate 23 0);
   empty = refl;
   otherCall = refl;
   partly = refl;

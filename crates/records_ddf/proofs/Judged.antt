@@ -22,10 +22,10 @@ use Rattle.records.specs.File.{count, beyond, notFinite, lengthReasons, formRea
 use Rattle.records.specs.Order.{orderReasons}
 use Rattle.records.specs.Parameters.{contrastRows, sizes, kinds, valueReasons, reasons, refusal}
 use Rattle.records.specs.CutoffTable.{badTable, cutoffsIn}
-use Rattle.records.specs.SatterthwaiteCall.{outcome, allReasons, number, entry, returnedReasons, returned, written}
+use Rattle.records.specs.SatterthwaiteCall.{outcome, number, entry}
 use Rattle.records.proofs.Limits.{Below, parameters-below, fewer-slots}
 use Rattle.records.proofs.AcceptedParameters.{accepted-parameters}
-use Rattle.records.proofs.CallLaws.{satterthwaite-number-is, other-length, other-table, own-answer}
+use Rattle.records.proofs.CallLaws.{satterthwaite-number-is}
 use Rattle.records_answer_bytes.proofs.LayoutLaws.{length-entry}
 use Rattle.records_little_endian.proofs.StoreLaws.{sets-all}
 use Rattle.records_sheet.specs.joints.Sheet.{Small}
@@ -100,22 +100,6 @@ module _ (c : Cutoffs) (s : List ℕ) where
   judged-taken e q h p =
       let x : number c s ≡ 0 = satterthwaite-number-is c s ∙ rw (q, h) in
       (p ∙ sym (entry-of 0 x), sym x)
-
--- ---- the lent bytes: of another length; with another table; filled by a file's answer with the cutoffs c, which are those of an accepted table
-pub other-answer : (lab s answer : List ℕ) → (length answer ≡ 24 → ⊥) → (1 ≡ returned lab s answer) × (answer ≡ written lab s answer)
-unfolding returned returnedReasons written
-other-answer lab s answer h = other-length 24 answer lab (allReasons (cutoffsIn lab) s) (entryBytes (entry (cutoffsIn lab) s)) h
-
-pub refused-table : (lab s answer : List ℕ) → length answer ≡ 24 → badTable lab ≡ true → (14 ≡ returned lab s answer) × (answer ≡ written lab s answer)
-unfolding returned returnedReasons written
-refused-table lab s answer l bad = other-table 24 answer lab (allReasons (cutoffsIn lab) s) (entryBytes (entry (cutoffsIn lab) s)) l bad
-
-pub own-call : (lab s answer : List ℕ) → length answer ≡ 24 → badTable lab ≡ false → (c : Cutoffs) → c ≡ cutoffsIn lab → (n : ℕ) (bytes : List ℕ) → n ≡ number c s
-    → bytes ≡ cond (eqb (number c s) 0) (entryBytes (entry c s)) answer → (n ≡ returned lab s answer) × (bytes ≡ written lab s answer)
-unfolding returned returnedReasons written number
-own-call lab s answer l ok c e n bytes q b =
-    own-answer 24 answer lab (allReasons (cutoffsIn lab) s) (entryBytes (entry (cutoffsIn lab) s)) l ok n bytes (q ∙ ap (λ (x : Cutoffs). number x s) e)
-    (b ∙ ap (λ (x : Cutoffs). cond (eqb (number x s) 0) (entryBytes (entry x s)) answer) e)
 
 -- an entry put into 24 bytes is all of them
 pub entry-fills : (a : List ℕ) (e f : Entry) → length a ≡ 24 → e ≡ f → sets a 0 (entryBytes e) ≡ entryBytes f

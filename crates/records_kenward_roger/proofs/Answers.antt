@@ -31,7 +31,8 @@ use Rattle.records.specs.Series.{coefficients, contrastRows, refusal, beta, bet
 use Rattle.records.specs.Layout.{entryBytes, answerBytes, entryFrom}
 use Rattle.records.specs.CutoffTable.{cutoffsIn}
 use Rattle.records.specs.Text.{textOf, seriesText}
-use Rattle.records.specs.KenwardRogerCall.{scaled, run, number, entries, returned, written}
+use Rattle.records.proofs.CallLaws.{accepted-fills}
+use Rattle.records.specs.KenwardRogerCall.{seriesCall, scaled, run, number, entries, returned, written}
 use Rattle.records.proofs.AcceptedSeries.{AcceptedSeries, accepted-series}
 use Rattle.records_series.proofs.Accepted.{limits}
 use Rattle.records_answer_bytes.proofs.LayoutLaws.{Held, number-held, unused-zero, read-back, determined}
@@ -156,8 +157,7 @@ module _ (w : ℕ) (c : Cutoffs) (s : List ℕ) where
 
 -- the same of the 168 bytes that an accepting call with a table has filled
 pub call-read-back : (w : ℕ) (lab s answer : List ℕ) → returned w lab s answer ≡ 0 → (i : ℕ) → i < 7 → entryFrom (written w lab s answer) i ≡ getD (entries w (cutoffsIn lab) s) i noEntry
-unfolding written
-call-read-back w lab s answer h i l = rw (eq-eqb (returned w lab s answer) 0 h) (file-read-back w (cutoffsIn lab) s i l)
+call-read-back w lab s answer h i l = rw (accepted-fills (seriesCall w s) lab answer h) (file-read-back w (cutoffsIn lab) s i l)
 
 -- SO THE BYTES DETERMINE THE ANSWER: equal bytes are equal entries
 pub file-determined : (w v : ℕ) (c d : Cutoffs) (s t : List ℕ) → answerBytes (entries w c s) ≡ answerBytes (entries v d t) → entries w c s ≡ entries v d t

@@ -1,21 +1,18 @@
 -- The number of a call: the first reason that holds, the reader's before those that come after it.
 use Prim.Native.Nat.{ℕ}
-use mathlib.Core.Path.{_≡_, refl, sym, ap, _∙_}
+use mathlib.Core.Path.{_≡_, refl, sym, _∙_}
 use mathlib.Core.Bool.{Bool, true, false, cond}
 use mathlib.Core.List.{List}
 use native.Mathlib.Omega.{arith}
-use lib.Dec.{eqb}
-use lib.ListN.{length, replicate}
+use lib.ListN.{replicate}
 use borrow.Author.Tests.{eq-eqb, ne-eqb}
 use Rattle.arithmetic_cutoffs.specs.declared.Cutoffs.{Cutoffs}
 use Rattle.tests.specs.declared.Entry.{Entry}
 use Rattle.tests.specs.Answer.{noEntry}
-use Rattle.records.specs.Layout.{answerBytes}
-use Rattle.records.specs.CutoffTable.{badTable, cutoffsIn}
 use Rattle.tests.specs.Entries.{runRefusal, runEntries}
 use Rattle.records.specs.Series.{refusal, design}
-use Rattle.records.specs.KenwardRogerCall.{adjusted, run, allReasons, number, entries, rotations, specimensRun, returnedReasons, returned, written}
-use Rattle.records.proofs.CallLaws.{fileAdjustmentRefusal, number-is, other-length, other-table, own-answer}
+use Rattle.records.specs.KenwardRogerCall.{adjusted, run, number, entries, rotations, specimensRun}
+use Rattle.records.proofs.CallLaws.{fileAdjustmentRefusal, number-is}
 
 -- ---- the number and the entries, by who refuses
 module _ (w : ℕ) (c : Cutoffs) (s : List ℕ) where
@@ -79,19 +76,3 @@ module _ (w : ℕ) (c : Cutoffs) (s : List ℕ) where
     pub run-specimens : (b : Bool) (m n : ℕ) → b ≡ run c s .refused → m ≡ design s .n → n ≡ cond b 0 m → n ≡ specimensRun w c s
     run-specimens true m n e f p = p ∙ no-specimens 10 (pivot-number r a true e refl) (omega arith)
     run-specimens false m n e f p = p ∙ own-specimens m f (no-number r a false e refl)
-
--- ---- the lent bytes: of another length; with another table; filled by a file's answer with the cutoffs c, which are those of an accepted table
-pub other-answer : (lab s answer : List ℕ) → (length answer ≡ 168 → ⊥) → (1 ≡ returned 24 lab s answer) × (answer ≡ written 24 lab s answer)
-unfolding returned returnedReasons written
-other-answer lab s answer h = other-length 168 answer lab (allReasons 24 (cutoffsIn lab) s) (answerBytes (entries 24 (cutoffsIn lab) s)) h
-
-pub refused-table : (lab s answer : List ℕ) → length answer ≡ 168 → badTable lab ≡ true → (14 ≡ returned 24 lab s answer) × (answer ≡ written 24 lab s answer)
-unfolding returned returnedReasons written
-refused-table lab s answer l bad = other-table 168 answer lab (allReasons 24 (cutoffsIn lab) s) (answerBytes (entries 24 (cutoffsIn lab) s)) l bad
-
-pub own-call : (lab s answer : List ℕ) → length answer ≡ 168 → badTable lab ≡ false → (c : Cutoffs) → c ≡ cutoffsIn lab → (n : ℕ) (bytes : List ℕ) → n ≡ number 24 c s
-    → bytes ≡ cond (eqb (number 24 c s) 0) (answerBytes (entries 24 c s)) answer → (n ≡ returned 24 lab s answer) × (bytes ≡ written 24 lab s answer)
-unfolding returned returnedReasons written number
-own-call lab s answer l ok c e n bytes q b =
-    own-answer 168 answer lab (allReasons 24 (cutoffsIn lab) s) (answerBytes (entries 24 (cutoffsIn lab) s)) l ok n bytes (q ∙ ap (λ (x : Cutoffs). number 24 x s) e)
-    (b ∙ ap (λ (x : Cutoffs). cond (eqb (number 24 x s) 0) (answerBytes (entries 24 x s)) answer) e)

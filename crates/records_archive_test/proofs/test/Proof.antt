@@ -3,7 +3,8 @@ use mathlib.Core.Path.{sym, _∙_}
 use denote.Ref.{now}
 use Rattle.records.specs.CutoffTable.{builtInTable}
 use Rattle.records.proofs.CutoffLaws.{built-in-accepted, built-in-numbers}
-use Rattle.records_archive_test.proofs.NumberLaws.{other-answer, own-call}
+use Rattle.records.specs.ArchiveCall.{fromArchiveNumber, testingCall}
+use Rattle.records.proofs.CallLaws.{other-length, own-answer}
 use borrow.Author.Needs.{needs}
 use Rattle.records_archive_test.proofs.test.Statement.{statement}
 use Rattle.records_archive_test.proofs.test.Tie as tie
@@ -15,7 +16,7 @@ use Rattle.records_archive_test.proofs.fill_tests.Reads as fill-tests-r
 returns : tie.Need-returns
 returns c =
     let a = c .before .before .before .before .args in
-    other-answer builtInTable (now (a .archive)) (now (a .tests)) (now (a .answer)) (c .if1 .taken)
+    other-length (testingCall (now (a .archive)) (now (a .tests))) builtInTable (now (a .answer)) (c .if1 .taken)
 
 document-cutoffs-requires : tie.Need-document-cutoffs-requires
 document-cutoffs-requires c κs = search needs
@@ -27,10 +28,11 @@ same-length : tie.Need-same-length
 same-length c = search needs
 
 returns-2 : tie.Need-returns-2
+unfolding fromArchiveNumber
 returns-2 c =
     let a = c .before .before .before .before .before .before .before .before .before .args in
     let f = c .before .before .fill-tests .ensures in
-    own-call builtInTable (now (a .archive)) (now (a .tests)) (now (a .answer)) (c .before .before .before .before .before .if1 .left) built-in-accepted _ (c .before .before .before .before .document-cutoffs .ensures ∙ sym built-in-numbers) _ _ (f .0) (f .1)
+    own-answer (testingCall (now (a .archive)) (now (a .tests))) builtInTable (now (a .answer)) (c .before .before .before .before .before .if1 .left) built-in-accepted _ (c .before .before .before .before .document-cutoffs .ensures ∙ sym built-in-numbers) _ _ (f .0) (f .1)
 
 pub test-spec : {M : Type 1} → statement M
 test-spec =

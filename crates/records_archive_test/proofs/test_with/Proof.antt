@@ -2,7 +2,8 @@
 use mathlib.Core.Path.{sym, _∙_}
 use denote.Ref.{now}
 use Rattle.records.proofs.CutoffLaws.{table-length}
-use Rattle.records_archive_test.proofs.NumberLaws.{other-answer, refused-table, own-call}
+use Rattle.records.specs.ArchiveCall.{fromArchiveNumber, testingCall}
+use Rattle.records.proofs.CallLaws.{other-length, other-table, own-answer}
 use borrow.Author.Needs.{needs}
 use Rattle.records_archive_test.proofs.test_with.Statement.{statement}
 use Rattle.records_archive_test.proofs.test_with.Tie as tie
@@ -15,7 +16,7 @@ use Rattle.records_cutoffs.proofs.cutoffs_in.Reads as cutoffs-in-reads
 returns : tie.Need-returns
 returns c =
     let a = c .before .before .before .before .before .args in
-    other-answer (now (a .table)) (now (a .archive)) (now (a .tests)) (now (a .answer)) (c .if1 .taken)
+    other-length (testingCall (now (a .archive)) (now (a .tests))) (now (a .table)) (now (a .answer)) (c .if1 .taken)
 
 bad-table-requires : tie.Need-bad-table-requires
 bad-table-requires c κs = search needs
@@ -23,7 +24,7 @@ bad-table-requires c κs = search needs
 returns-2 : tie.Need-returns-2
 returns-2 c =
     let a = c .before .before .before .before .before .before .before .args in
-    refused-table (now (a .table)) (now (a .archive)) (now (a .tests)) (now (a .answer)) (c .before .before .if1 .left) (sym (c .before .bad-table .ensures) ∙ c .if2 .taken)
+    other-table (testingCall (now (a .archive)) (now (a .tests))) (now (a .table)) (now (a .answer)) (c .before .before .if1 .left) (sym (c .before .bad-table .ensures) ∙ c .if2 .taken)
 
 cutoffs-in-requires : tie.Need-cutoffs-in-requires
 cutoffs-in-requires c κs = table-length (now (c .before .before .before .before .before .before .before .args .table)) (sym (c .before .bad-table .ensures) ∙ c .if2 .left)
@@ -35,10 +36,11 @@ same-length : tie.Need-same-length
 same-length c = search needs
 
 returns-3 : tie.Need-returns-3
+unfolding fromArchiveNumber
 returns-3 c =
     let a = c .before .before .before .before .before .before .before .before .before .before .before .before .args in
     let f = c .before .before .fill-tests .ensures in
-    own-call (now (a .table)) (now (a .archive)) (now (a .tests)) (now (a .answer)) (c .before .before .before .before .before .before .before .if1 .left) (sym (c .before .before .before .before .before .before .bad-table .ensures) ∙ c .before .before .before .before .before .if2 .left) _ (c .before .before .before .before .cutoffs-in .ensures) _ _ (f .0) (f .1)
+    own-answer (testingCall (now (a .archive)) (now (a .tests))) (now (a .table)) (now (a .answer)) (c .before .before .before .before .before .before .before .if1 .left) (sym (c .before .before .before .before .before .before .bad-table .ensures) ∙ c .before .before .before .before .before .if2 .left) _ (c .before .before .before .before .cutoffs-in .ensures) _ _ (f .0) (f .1)
 
 pub test-with-spec : {M : Type 1} → statement M
 test-with-spec =

@@ -3,7 +3,8 @@ use mathlib.Core.Path.{sym, _∙_}
 use denote.Ref.{now}
 use Rattle.records.specs.CutoffTable.{builtInTable}
 use Rattle.records.proofs.CutoffLaws.{built-in-accepted, built-in-numbers}
-use Rattle.records_ddf.proofs.Judged.{other-answer, own-call}
+use Rattle.records.specs.SatterthwaiteCall.{number, testCall}
+use Rattle.records.proofs.CallLaws.{other-length, own-answer}
 use borrow.Author.Needs.{needs}
 use Rattle.records_ddf.proofs.call.Statement.{statement}
 use Rattle.records_ddf.proofs.call.Tie as tie
@@ -15,7 +16,7 @@ use Rattle.records_ddf.proofs.fill_entry.Reads as fill-entry-reads
 returns : tie.Need-returns
 returns c =
     let a = c .before .before .before .args in
-    other-answer builtInTable (now (a .records)) (now (a .answer)) (c .if1 .taken)
+    other-length (testCall (now (a .records))) builtInTable (now (a .answer)) (c .if1 .taken)
 
 document-cutoffs-requires : tie.Need-document-cutoffs-requires
 document-cutoffs-requires c κs = search needs
@@ -27,10 +28,11 @@ same-length : tie.Need-same-length
 same-length c = search needs
 
 returns-2 : tie.Need-returns-2
+unfolding number
 returns-2 c =
     let a = c .before .before .before .before .before .before .before .before .args in
     let f = c .before .before .fill-entry .ensures in
-    own-call builtInTable (now (a .records)) (now (a .answer)) (c .before .before .before .before .before .if1 .left) built-in-accepted _ (c .before .before .before .before .document-cutoffs .ensures ∙ sym built-in-numbers) _ _ (f .0) (f .1)
+    own-answer (testCall (now (a .records))) builtInTable (now (a .answer)) (c .before .before .before .before .before .if1 .left) built-in-accepted _ (c .before .before .before .before .document-cutoffs .ensures ∙ sym built-in-numbers) _ _ (f .0) (f .1)
 
 pub call-spec : {M : Type 1} → statement M
 call-spec =

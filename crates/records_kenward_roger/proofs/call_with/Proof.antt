@@ -2,7 +2,8 @@
 use mathlib.Core.Path.{sym, _∙_}
 use denote.Ref.{now}
 use Rattle.records.proofs.CutoffLaws.{table-length}
-use Rattle.records_kenward_roger.proofs.Numbers.{other-answer, refused-table, own-call}
+use Rattle.records.specs.KenwardRogerCall.{number, seriesCall}
+use Rattle.records.proofs.CallLaws.{other-length, other-table, own-answer}
 use borrow.Author.Needs.{needs}
 use Rattle.records_kenward_roger.proofs.call_with.Statement.{statement}
 use Rattle.records_kenward_roger.proofs.call_with.Tie as tie
@@ -15,7 +16,7 @@ use Rattle.records_kenward_roger.proofs.fill_answer.Reads as fill-answe
 returns : tie.Need-returns
 returns c =
     let a = c .before .before .before .before .args in
-    other-answer (now (a .table)) (now (a .records)) (now (a .answer)) (c .if1 .taken)
+    other-length (seriesCall 24 (now (a .records))) (now (a .table)) (now (a .answer)) (c .if1 .taken)
 
 bad-table-requires : tie.Need-bad-table-requires
 bad-table-requires c κs = search needs
@@ -23,7 +24,7 @@ bad-table-requires c κs = search needs
 returns-2 : tie.Need-returns-2
 returns-2 c =
     let a = c .before .before .before .before .before .before .args in
-    refused-table (now (a .table)) (now (a .records)) (now (a .answer)) (c .before .before .if1 .left) (sym (c .before .bad-table .ensures) ∙ c .if2 .taken)
+    other-table (seriesCall 24 (now (a .records))) (now (a .table)) (now (a .answer)) (c .before .before .if1 .left) (sym (c .before .bad-table .ensures) ∙ c .if2 .taken)
 
 cutoffs-in-requires : tie.Need-cutoffs-in-requires
 cutoffs-in-requires c κs = table-length (now (c .before .before .before .before .before .before .args .table)) (sym (c .before .bad-table .ensures) ∙ c .if2 .left)
@@ -35,10 +36,11 @@ same-length : tie.Need-same-length
 same-length c = search needs
 
 returns-3 : tie.Need-returns-3
+unfolding number
 returns-3 c =
     let a = c .before .before .before .before .before .before .before .before .before .before .before .args in
     let f = c .before .before .fill-answer .ensures in
-    own-call (now (a .table)) (now (a .records)) (now (a .answer)) (c .before .before .before .before .before .before .before .if1 .left) (sym (c .before .before .before .before .before .before .bad-table .ensures) ∙ c .before .before .before .before .before .if2 .left) _ (c .before .before .before .before .cutoffs-in .ensures) _ _ (f .0) (f .1)
+    own-answer (seriesCall 24 (now (a .records))) (now (a .table)) (now (a .answer)) (c .before .before .before .before .before .before .before .if1 .left) (sym (c .before .before .before .before .before .before .bad-table .ensures) ∙ c .before .before .before .before .before .if2 .left) _ (c .before .before .before .before .cutoffs-in .ensures) _ _ (f .0) (f .1)
 
 pub call-with-spec : {M : Type 1} → statement M
 call-with-spec =
