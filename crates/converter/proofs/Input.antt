@@ -85,7 +85,7 @@ module _ (w : ℕ) (k : ℤ) (m : ℕ → ℤ) (s : List ℕ) (c : AcceptedSerie
 
   pub input-exact : Exact (kenwardRogerChange k m) s
   input-exact =
-      exact-cells (kenwardRogerChange k m) (kinds s) s (c .once) (c .within) (series-numbered k m (sizes s))
+      exact-cells (kenwardRogerChange k m) (kinds s) s (c .formed .once) (c .formed .within) (series-numbered k m (sizes s))
       (λ kind n r j e. among 7 8 9 10 Again variance-again estimates-again lines-again hypotheses-again kind e n r j)
 
 -- ---- the input of the run: each number times its power of two, as f64 multiplication gives it
@@ -139,4 +139,4 @@ module _ (k : ℤ) (m : ℕ → ℤ) (s : List ℕ) (within : any (count s) (bey
 
 -- ---- together: of a file that is not refused, with an input that scales exactly, the refusals before any computing stay
 pub reasons-converted : (w : ℕ) (k : ℤ) (m : ℕ → ℤ) (s : List ℕ) → AcceptedSeries w s → InputExact k m s → reasons w (converted (kenwardRogerChange k m) s) ≡ reasons w s
-reasons-converted w k m s c h = reasons-same k m s (c .within) (input-exact w k m s c h) w
+reasons-converted w k m s c h = reasons-same k m s (c .formed .within) (input-exact w k m s c h) w

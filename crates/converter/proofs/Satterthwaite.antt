@@ -31,7 +31,7 @@ module _ (k : ℤ) (s : List ℕ) where
   s' = converted (satterthwaiteChange k) s
 
   alike : ReadAlike (satterthwaiteChange k) satterthwaite (kinds s) s (converted (satterthwaiteChange k) s)
-  alike = converted-reads-alike (satterthwaiteChange k) satterthwaite (kinds s) s (parameters-floats k (limits 0))
+  alike = converted-reads-alike (satterthwaiteChange k) satterthwaite (kinds s) s (parameters-floats k (limits 1))
 
   pub p-same : coefficients (converted (satterthwaiteChange k) s) ≡ coefficients s
   p-same = ap (max 1) (alike .sameRows 8)

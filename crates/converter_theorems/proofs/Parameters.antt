@@ -27,7 +27,7 @@ positive x = omega arith
 pub inputs-sized : (s : List ℕ) → AcceptedParameters s → InputSizes (inputs s)
 unfolding sizes limits inputs
 inputs-sized s c =
-    let b = parameters-below s (c .good) in
+    let b = parameters-below s (c .formed .good) in
     record { p = b .coefficients; some = positive (rows s 9); q = b .contrasts; n = b .parameters }
 
 -- ---- where the numbers stand

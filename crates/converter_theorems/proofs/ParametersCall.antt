@@ -79,7 +79,7 @@ module _ (k : ℤ) (s : List ℕ) (c : AcceptedParameters s) (h : InputExact k s
 
   input-exact : Exact (satterthwaiteChange k) s
   input-exact =
-      exact-cells (satterthwaiteChange k) (kinds s) s (c .once) (c .within) (parameters-numbered k (sizes s))
+      exact-cells (satterthwaiteChange k) (kinds s) s (c .formed .once) (c .formed .within) (parameters-numbered k (sizes s))
       (λ kind n r j e. among 8 10 30 31 CellsAgain estimates-again hypotheses-again variance-again jacobian-again kind e n r j)
 
 -- ---- the call's parts
@@ -150,7 +150,7 @@ module _ {t : ℕ} (c : Cutoffs) (rotation : T (fits binary64 (c .rotation))) (s
   of-n {i} l = subst (λ (n : ℕ). i < n) (sym (n-same k s)) l
 
   moved : (kind n r j : ℕ) → satterthwaiteChange k .rewrites kind ≡ true → cellValue s' kind n r j ≡ scale (satterthwaiteShift k kind n r j) (cellValue s kind n r j)
-  moved = scales k s exact (taken .within)
+  moved = scales k s exact (taken .formed .within)
 
   -- the test's input is the file's, scaled exactly
   scaled-input : ConvertedInputs k (inputs s) (inputs s')

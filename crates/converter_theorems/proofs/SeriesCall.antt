@@ -108,10 +108,10 @@ module _ {t : ℕ} (w : ℕ) (c : Cutoffs) (s : List ℕ) (k : ℤ) (m : ℕ →
   -- the converted file's input is the file's, multiplied, and so scaled exactly
   multiplied : Multiplied k m (coefficients s) (contrastRows s) (inputOf s) (inputOf s')
   multiplied = record {
-    sigma2 = sigma2-product k m s (taken .within) hp hr;
-    beta = beta-product k m s (taken .within) hp hr;
-    betaH = λ r. betaH-product k m s (taken .within) hp hr;
-    contrast = contrast-product k m s (taken .within) hp hr;
+    sigma2 = sigma2-product k m s (taken .formed .within) hp hr;
+    beta = beta-product k m s (taken .formed .within) hp hr;
+    betaH = λ r. betaH-product k m s (taken .formed .within) hp hr;
+    contrast = contrast-product k m s (taken .formed .within) hp hr;
   }
 
   scaled-input : ConvertedInput k m (coefficients s) (contrastRows s) (inputOf s) (inputOf s')
@@ -123,9 +123,9 @@ module _ {t : ℕ} (w : ℕ) (c : Cutoffs) (s : List ℕ) (k : ℤ) (m : ℕ →
   exact : InputExact k m s
   exact = record {
     variance = subst (λ (x : Float). T (fits binary64 x)) (scaled-input .sigma2) (sigma2-fits s');
-    estimates = λ i l. subst (λ (x : Float). T (fits binary64 x)) (sym (beta-product k m s (taken .within) hp hr i l) ∙ scaled-input .beta i l) (mul-fits binary64 (getD (beta s) i nan) (powerOfTwo k));
-    hypotheses = λ i l r. subst (λ (x : Float). T (fits binary64 x)) (sym (betaH-product k m s (taken .within) hp hr i l) ∙ scaled-input .betaH r i l) (mul-fits binary64 (getD (betaH s) i nan) (powerOfTwo k));
-    lines = λ i j h l. subst (λ (x : Float). T (fits binary64 x)) (sym (contrast-product k m s (taken .within) hp hr i j h l) ∙ scaled-input .contrast i j h l)
+    estimates = λ i l. subst (λ (x : Float). T (fits binary64 x)) (sym (beta-product k m s (taken .formed .within) hp hr i l) ∙ scaled-input .beta i l) (mul-fits binary64 (getD (beta s) i nan) (powerOfTwo k));
+    hypotheses = λ i l r. subst (λ (x : Float). T (fits binary64 x)) (sym (betaH-product k m s (taken .formed .within) hp hr i l) ∙ scaled-input .betaH r i l) (mul-fits binary64 (getD (betaH s) i nan) (powerOfTwo k));
+    lines = λ i j h l. subst (λ (x : Float). T (fits binary64 x)) (sym (contrast-product k m s (taken .formed .within) hp hr i j h l) ∙ scaled-input .contrast i j h l)
         (mul-fits binary64 (at floats (contrast s) i j) (powerOfTwo (m i)));
   }
 
@@ -139,7 +139,7 @@ module _ {t : ℕ} (w : ℕ) (c : Cutoffs) (s : List ℕ) (k : ℤ) (m : ℕ →
       run-is c s'
       ∙ ap (λ (d : Design). whole c d (phi s') (contrastRows s') (inputOf s')) (design-same k m s)
       ∙ ap (λ (f : Rows). whole c (design s) f (contrastRows s') (inputOf s')) (phi-same k m s)
-      ∙ ap (λ (n : ℕ). whole c (design s) (phi s) n (inputOf s')) (r-same k m s (taken .within) hp hr)
+      ∙ ap (λ (n : ℕ). whole c (design s) (phi s) n (inputOf s')) (r-same k m s (taken .formed .within) hp hr)
 
   adjustment-after : adjustmentRefusal c (design s') (phi s') (sigma2 s') ≡ adjustmentRefusal c (design s) (phi s) (sigma2 s)
   adjustment-after =

@@ -2,7 +2,7 @@
 use Prim.Native.Nat.{ℕ, _≤_}
 use native.Mathlib.Nat.{le-trans}
 use native.Mathlib.Omega.{arith}
-use mathlib.Core.Path.{_≡_, _∙_, subst}
+use mathlib.Core.Path.{_≡_, refl, _∙_, subst}
 use mathlib.Core.Bool.{false}
 use mathlib.Core.List.{List}
 use lib.Dec.{T, lit≤}
@@ -67,11 +67,11 @@ module _ (lab : List ℕ) (ok : badTable lab ≡ false) where
   -- an accepted table, an accepted file and bytes of the stated length: the call returns 0
   series-returns : (w : ℕ) (s : List ℕ) → kenwardRoger.number w own s ≡ 0 → (answer : List ℕ) → length answer ≡ 168 → kenwardRoger.returned w lab s answer ≡ 0
   unfolding kenwardRoger.number
-  series-returns w s e answer h = files-decide (kenwardRoger.seriesCall w s) lab answer h ok ∙ e
+  series-returns w s e answer h = files-decide (kenwardRoger.seriesCall w s) lab answer refl h ok ∙ e
 
   parameters-returns : (s : List ℕ) → satterthwaite.number own s ≡ 0 → (answer : List ℕ) → length answer ≡ 24 → satterthwaite.returned lab s answer ≡ 0
   unfolding satterthwaite.number
-  parameters-returns s e answer h = files-decide (satterthwaite.testCall s) lab answer h ok ∙ e
+  parameters-returns s e answer h = files-decide (satterthwaite.testCall s) lab answer refl h ok ∙ e
 
   series-answer : (w : ℕ) (s s' : List ℕ) → kenwardRoger.number w own s ≡ 0 → SameVerdicts w own s s' → SameAnswers w lab s s'
   unfolding callWritten

@@ -129,13 +129,13 @@ module _ (s : List ℕ) (h : AcceptedArchive s) where
   unfolding badRecord
   record-padding i l =
       let k = kindAt archiveTable (kindOf s i) in
-      let b = any-none (count s) (badRecord archiveTable s) i l (h .good) in
+      let b = any-none (count s) (badRecord archiveTable s) i l (h .formed .good) in
       let d = or-false (outOf k s i || not (eqb (paddingOf s i) 0)) (not (valueHolds (k .value) (bitsOf s i))) b in
       eqb-true (paddingOf s i) 0 (not-false (eqb (paddingOf s i) 0) (or-false (outOf k s i) (not (eqb (paddingOf s i) 0)) (d .0) .1))
 
   -- its cell is one that the sizes leave
   record-inside : (i : ℕ) → i < count s → Inside (kindAt (kinds s) (kindOf s i)) (cellCount (kinds s) s i) (cellRow (kinds s) s i) (cellColumn (kinds s) s i)
-  record-inside i l = sized-inside (kinds s) s i (any-none (count s) (beyond (kinds s) s) i l (h .within))
+  record-inside i l = sized-inside (kinds s) s i (any-none (count s) (beyond (kinds s) s) i l (h .formed .within))
 
   -- so the file is the table's cells in order, and its records say what is archived
   archive-canon : ((i : ℕ) → byte s i < 256) → Canon (kinds s) s (archiveContent (archiveOf s))
@@ -143,14 +143,14 @@ module _ (s : List ℕ) (h : AcceptedArchive s) where
   archive-canon bytes =
       record {
         table = archive-orderly (sizes s);
-        size = h .whole;
+        size = h .formed .whole;
         bytes = bytes;
-        order = h .rises;
-        sized = h .within;
+        order = h .formed .rises;
+        sized = h .formed .within;
         padding = record-padding;
         kinds = λ i l. archive-kind-below (sizes s) (kindOf s i) (cellCount (kinds s) s i) (cellRow (kinds s) s i) (cellColumn (kinds s) s i) (record-inside i l);
-        complete = h .complete;
-        says = λ i l. archived-bits (kindOf s i) (cellCount (kinds s) s i) (cellRow (kinds s) s i) (cellColumn (kinds s) s i) (record-inside i l) ∙ ap (toBits binary64) (own-cell (kinds s) s i l (h .once)) ∙ bits-back s i bytes l (h .finite);
+        complete = h .formed .complete;
+        says = λ i l. archived-bits (kindOf s i) (cellCount (kinds s) s i) (cellRow (kinds s) s i) (cellColumn (kinds s) s i) (record-inside i l) ∙ ap (toBits binary64) (own-cell (kinds s) s i l (h .formed .once)) ∙ bits-back s i bytes l (h .finite);
       }
 
 -- ANY ACCEPTED FILE WRITES BACK TO THE SAME BYTES

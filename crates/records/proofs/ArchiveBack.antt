@@ -55,6 +55,7 @@ use Rattle.records.proofs.AcceptedSeries.{AcceptedSeries, accepted-seri
 use Rattle.records.proofs.CellLaws.{cell-finite}
 use Rattle.records.proofs.SeriesInput.{series-sized, matrices-bound, phi-at, phi-fits, sigma2-fits}
 use Rattle.records.proofs.CallLaws.{first-next}
+use Rattle.records.specs.declared.Shape.the-variants.{Archived}
 
 -- ---- the cells of a table one by one
 -- what holds of the cells of each line holds of each cell: a kind that is not listed has none
@@ -137,8 +138,7 @@ archive-inside a k n r d w = record { number = w .index; row = w .row; column = 
 
 -- its kind is one that the files have
 pub archive-kind-below : (z : Sizes) (k n r d : ℕ) → Inside (kindAt (archiveKinds z) k) n r d → k < kindNumbers
-unfolding kindsOf
-archive-kind-below z k n r d w = kind-below 2 z k n r d w
+archive-kind-below z k n r d w = kind-below Archived z k n r d w
 
 -- each field of an archive's kinds tells its cells apart
 pub archive-orderly : (z : Sizes) → orderly (archiveKinds z) ≡ true
@@ -247,7 +247,7 @@ module _ (a : Archive) (h : Archivable a) where
 
   -- no record is bad: it lies within the sizes, and so within the limits; byte 3 is 0; its value is an f64's bits
   record-good : (i : ℕ) → i < slotCount (archiveKindsOf a) → badRecord archiveTable (fileOf (archiveKindsOf a) (archiveContent a)) i ≡ false
-  unfolding badRecord outOf beyond kindsOf valueHolds
+  unfolding badRecord outOf beyond valueHolds
   record-good i l =
       let s = fileOf (archiveKindsOf a) (archiveContent a) in
       let x = cell-of (archiveKindsOf a) i l in
@@ -258,8 +258,8 @@ module _ (a : Archive) (h : Archivable a) where
       let u = kindAt archiveTable (kindOf s i) in
       let v = within z s i (file-beyond (archiveKindsOf a) (archiveContent a) archive-fitting i l) in
       let o = orderly-at (archiveKindsOf a) (kindOf s i) (archive-orderly (sizesAt (a .coefficients) (a .parameters))) in
-      let b = orderly-at archiveTable (kindOf s i) (archive-orderly (limits 0)) in
-      let n = narrower (sizesAt (a .coefficients) (a .parameters)) (limits 0) (archive-sizes-below (a .coefficients) (a .parameters) (h .coefficientsBelow) (h .parametersBelow)) 2 (kindOf s i) in
+      let b = orderly-at archiveTable (kindOf s i) (archive-orderly (limits 1)) in
+      let n = narrower (sizesAt (a .coefficients) (a .parameters)) (limits 1) (archive-sizes-below (a .coefficients) (a .parameters) (h .coefficientsBelow) (h .parametersBelow)) Archived (kindOf s i) in
       let bits : u .value ≡ FloatBits = ap (λ (k : ℕ). kindAt archiveTable k .value) kind ∙ value-bits (x .kind) (x .number) (x .row) (x .column) (x .inside) in
       rw (
         wider-holds (z .row) (u .row) (rowOf s i) (o .row) (b .row) (n .row) (v .row),

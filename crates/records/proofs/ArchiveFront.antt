@@ -8,6 +8,7 @@ use native.Mathlib.Omega.{arith}
 use lib.Dec.{eqb}
 use lib.ListN.{length, drop, List·getD-append}
 use lib.Seq.{sets, sets-eq, getD-append-add, getD-drop}
+use borrow.Author.Tests.{eqb-true}
 use Rattle.records.specs.Bytes.{byte}
 use Rattle.records.specs.Archive.{archiveBytes}
 use Rattle.records.specs.CutoffTable.{cutoffsIn}
@@ -45,7 +46,7 @@ module _ (w : ℕ) (lab s lent : List ℕ) (e : archivingRefusal w lab s lent �
 
   -- the lent bytes are as many as are asked for, and so have room for the archive
   lent-length : length lent ≡ 7184
-  lent-length = call-accepted (archivingCall w s) lab lent e .0
+  lent-length = eqb-true (length lent) 7184 (call-accepted (archivingCall w s) lab lent e .0)
 
   lent-room : length file ≤ length lent
   lent-room =

@@ -71,7 +71,7 @@ module _ (w : ℕ) (lab s : List ℕ) (e : seriesRefusal w (cutoffsIn lab) s ≡
   -- "gives the direct run's answer, mark included": the number that is returned, and the lent bytes
   answers-alike : (answer : List ℕ) → AnswersAlike (testingCall archivedFile (ownTests s)) (seriesCall w s) (cutoffsIn lab) answer
   unfolding fromArchiveNumber number fromArchiveEntries entries
-  answers-alike answer = record { stated = refl; number = number-same w (cutoffsIn lab) s e; full = λ z. rw (number-same w (cutoffsIn lab) s e, run-same w (cutoffsIn lab) s e) }
+  answers-alike answer = record { stated = refl; besides = refl; number = number-same w (cutoffsIn lab) s e; full = λ z. rw (number-same w (cutoffsIn lab) s e, run-same w (cutoffsIn lab) s e) }
 
 -- a series that the direct call accepts is archived
 pub answered-archived : (w : ℕ) (c : Cutoffs) (s : List ℕ) → number w c s ≡ 0 → seriesRefusal w c s ≡ 0

@@ -18,7 +18,7 @@ use Rattle.records.specs.Archive as archive
 use Rattle.records.specs.SecondFile as second
 use Rattle.records.specs.ArchiveCall.{seriesReasons, archivingCall, archivingRefusal, archiveTestReasons, fromArchiveReasons, testingCall, testingReturned}
 use Rattle.records.proofs.Precisely.{fileRefusal, past-both, file-thirteen}
-use Rattle.records.proofs.CallLaws.{call-precisely, call-fourteen, call-gives}
+use Rattle.records.proofs.CallLaws.{call-precisely, call-fourteen, call-gives, by-length}
 
 -- 1; 14; 2, 12, 2, 13, 3 to 8 of the series; 9, 10, 10, 4 of the adjustment
 pub archiving-precisely : (w : ℕ) (lab s lent : List ℕ) → Precisely (archivingRefusal w lab s lent) (callReasons (archivingCall w s) lab lent)
@@ -28,14 +28,14 @@ archiving-precisely w lab s lent = call-precisely (archivingCall w s) lab lent r
 -- 14, precisely where the table is not accepted
 pub archiving-fourteen : (w : ℕ) (lab s lent : List ℕ) → Iff (archivingRefusal w lab s lent ≡ 14) ((length lent ≡ 7184) × (badTable lab ≡ true))
 unfolding seriesReasons series.reasons lengthReasons orderReasons formReasons series.blockReasons series.sizeReasons series.valueReasons adjustmentReasons
-archiving-fourteen w lab s lent = call-fourteen (archivingCall w s) lab lent refl
+archiving-fourteen w lab s lent = by-length (length lent) 7184 (call-fourteen (archivingCall w s) lab lent refl)
 
 -- 13 of the series, precisely under its condition
 pub archiving-thirteen : (w : ℕ) (lab s lent : List ℕ)
     → Iff (archivingRefusal w lab s lent ≡ 13) ((length lent ≡ 7184) × (badTable lab ≡ false) × (fileRefusal w s ≡ 0) × (any (count s) (series.miscounted s) ≡ true))
 unfolding seriesReasons series.reasons lengthReasons orderReasons formReasons series.blockReasons series.sizeReasons series.valueReasons adjustmentReasons
 archiving-thirteen w lab s lent =
-    past-both (call-gives (archivingCall w s) lab lent 13 (λ z. omega arith) (λ z. omega arith))
+    past-both (length lent) 7184 (call-gives (archivingCall w s) lab lent 13 (λ z. omega arith) (λ z. omega arith))
     (file-thirteen w s ((series.sizeReasons s ++ series.valueReasons s) ++ adjustmentReasons (cutoffsIn lab) (series.design s) (series.phi s) (series.sigma2 s)) refl)
 
 -- 1; 14; 2, 12, 2, 4, 5, 2 of the archive; 2, 12, 2, 4, 8 of the second file; a test's 10
@@ -45,4 +45,4 @@ testing-precisely lab s t answer = call-precisely (testingCall s t) lab answer r
 
 pub testing-fourteen : (lab s t answer : List ℕ) → Iff (testingReturned lab s t answer ≡ 14) ((length answer ≡ 168) × (badTable lab ≡ true))
 unfolding fromArchiveReasons archiveTestReasons archive.reasons archive.valueReasons archive.scaledReasons second.reasons second.formedFor second.valueReasons lengthReasons orderReasons formReasons
-testing-fourteen lab s t answer = call-fourteen (testingCall s t) lab answer refl
+testing-fourteen lab s t answer = by-length (length answer) 168 (call-fourteen (testingCall s t) lab answer refl)

@@ -1,7 +1,7 @@
 -- The numbers of the calls by who refuses: the lent length, then the table, then the files, the reader before what is computed.
 use Prim.Native.Nat.{ℕ}
 use mathlib.Core.Path.{_≡_, refl, ap, sym, _∙_}
-use mathlib.Core.Bool.{Bool, true, false, not, cond}
+use mathlib.Core.Bool.{Bool, true, false, not, _&&_, cond}
 use mathlib.Core.List.{List, [], _∷_, _++_}
 use lib.Dec.{eqb}
 use lib.ListN.{length}
@@ -16,7 +16,7 @@ use Rattle.records.specs.Order.{orderReasons}
 use Rattle.records.specs.Series.{blockReasons, sizeReasons, valueReasons, reasons, refusal, design, phi, sigma2}
 use Rattle.records.specs.Parameters.{valueReasons as parameterValueReasons, reasons as parameterReasons, refusal as parameterRefusal}
 use Rattle.records.specs.CutoffTable.{badTable, tableReasons, cutoffsIn}
-use Rattle.records.specs.Call.{Call, filledBy, callReasons, callReturned, callWritten, untabledReturned, untabledWritten}
+use Rattle.records.specs.Call.{Call, lengthsFit, filledBy, callReasons, callReturned, callWritten}
 use Rattle.records.specs.KenwardRogerCall.{run, testReasons, allReasons, number}
 use Rattle.records.specs.SatterthwaiteCall.{outcome, testReasons as satterthwaiteTestReasons, allReasons as satterthwaiteReasons, number as satterthwaiteNumber}
 
@@ -59,18 +59,9 @@ module _ (k : Call) (lab lent : List ℕ) where
   abbrev rest : List Line
   rest = k .reasons (cutoffsIn lab)
 
-  pub call-is : callReturned k lab lent ≡ cond (eqb (length lent) (k .stated)) (pastTable lab (first rest)) 1
+  pub call-is : callReturned k lab lent ≡ cond (lengthsFit k lent) (pastTable lab (first rest)) 1
   unfolding callReturned callReasons tableReasons first
-  call-is = other-way (eqb (length lent) (k .stated)) 1 (first (tableReasons lab ++ rest))
-
-  pub length-refuses : (length lent ≡ k .stated → ⊥) → callReturned k lab lent ≡ 1
-  length-refuses h = call-is ∙ rw (ne-eqb (length lent) (k .stated) h)
-
-  pub table-refuses : length lent ≡ k .stated → badTable lab ≡ true → callReturned k lab lent ≡ 14
-  table-refuses l bad = call-is ∙ rw (eq-eqb (length lent) (k .stated) l, bad)
-
-  pub files-decide : length lent ≡ k .stated → badTable lab ≡ false → callReturned k lab lent ≡ first rest
-  files-decide l ok = call-is ∙ rw (eq-eqb (length lent) (k .stated) l, ok)
+  call-is = other-way (lengthsFit k lent) 1 (first (tableReasons lab ++ rest))
 
   -- A REFUSAL KEEPS THE LENT BYTES
   pub refusal-keeps : (callReturned k lab lent ≡ 0 → ⊥) → callWritten k lab lent ≡ lent
@@ -83,59 +74,83 @@ module _ (k : Call) (lab lent : List ℕ) where
   call-precisely h = precisely (callReasons k lab lent) h
 
   -- 1 COMES FIRST: whatever the table and the files are
-  pub call-one : lacks 1 rest ≡ true → Iff (callReturned k lab lent ≡ 1) (eqb (length lent) (k .stated) ≡ false)
+  pub call-one : lacks 1 rest ≡ true → Iff (callReturned k lab lent ≡ 1) (lengthsFit k lent ≡ false)
   unfolding callReturned callReasons tableReasons first
   call-one h =
-      let i = first-alone [] (tableReasons lab ++ rest) 1 (not (eqb (length lent) (k .stated))) (λ z. omega arith) refl refl h in
-      record { to = λ e. not-true (eqb (length lent) (k .stated)) (i .to e .1); from = λ p. rw p }
+      let i = first-alone [] (tableReasons lab ++ rest) 1 (not (lengthsFit k lent)) (λ z. omega arith) refl refl h in
+      record { to = λ e. not-true (lengthsFit k lent) (i .to e .1); from = λ p. rw p }
 
   -- 14: "any other table, after 1 and before the series is read", whatever the files are
-  pub call-fourteen : lacks 14 rest ≡ true → Iff (callReturned k lab lent ≡ 14) ((length lent ≡ k .stated) × (badTable lab ≡ true))
+  pub call-fourteen : lacks 14 rest ≡ true → Iff (callReturned k lab lent ≡ 14) ((lengthsFit k lent ≡ true) × (badTable lab ≡ true))
   unfolding callReturned callReasons tableReasons first
   call-fourteen h =
-      let b = eqb (length lent) (k .stated) in
+      let b = lengthsFit k lent in
       let i = first-alone ((1, not b) ∷ []) rest 14 (badTable lab) (λ z. omega arith) refl refl h in
-      record { to = λ e. let p = i .to e in (eqb-true (length lent) (k .stated) (not-false b (passed 1 (not b) [] refl (p .0) .0)), p .1); from = λ p. rw (eq-eqb (length lent) (k .stated) (p .0), p .1) }
+      record { to = λ e. let p = i .to e in (not-false b (passed 1 (not b) [] refl (p .0) .0), p .1); from = λ p. rw (p .0, p .1) }
 
   -- any other number precisely where the files give it, under an accepted table
-  pub call-gives : (x : ℕ) → (x ≡ 1 → ⊥) → (x ≡ 14 → ⊥) → Iff (callReturned k lab lent ≡ x) ((length lent ≡ k .stated) × (badTable lab ≡ false) × (first rest ≡ x))
-  call-gives x h g = record { to = λ e. to (eqb (length lent) (k .stated)) refl (badTable lab) (sym call-is ∙ e); from = λ p. files-decide (p .0) (p .1) ∙ p .2 }
+  pub call-gives : (x : ℕ) → (x ≡ 1 → ⊥) → (x ≡ 14 → ⊥) → Iff (callReturned k lab lent ≡ x) ((lengthsFit k lent ≡ true) × (badTable lab ≡ false) × (first rest ≡ x))
+  call-gives x h g = record { to = λ e. to (lengthsFit k lent) (badTable lab) (sym call-is ∙ e); from = λ p. call-is ∙ rw (p .0, p .1) (p .2) }
     where
-      to : (b : Bool) → eqb (length lent) (k .stated) ≡ b → (d : Bool) → cond b (cond d 14 (first rest)) 1 ≡ x → (length lent ≡ k .stated) × (d ≡ false) × (first rest ≡ x)
-      to true q true e = absurd (g (sym e))
-      to true q false e = (eqb-true (length lent) (k .stated) q, refl, e)
-      to false q d e = absurd (h (sym e))
+      to : (b d : Bool) → cond b (cond d 14 (first rest)) 1 ≡ x → (b ≡ true) × (d ≡ false) × (first rest ≡ x)
+      to true true e = absurd (g (sym e))
+      to true false e = (refl, refl, e)
+      to false d e = absurd (h (sym e))
 
-  pub call-accepted : callReturned k lab lent ≡ 0 → (length lent ≡ k .stated) × (badTable lab ≡ false) × (first rest ≡ 0)
+  pub call-accepted : callReturned k lab lent ≡ 0 → (lengthsFit k lent ≡ true) × (badTable lab ≡ false) × (first rest ≡ 0)
   call-accepted e = call-gives 0 (λ z. omega arith) (λ z. omega arith) .to e
 
   pub accepted-fills : callReturned k lab lent ≡ 0 → callWritten k lab lent ≡ k .full (cutoffsIn lab) lent
   unfolding callWritten
   accepted-fills e = rw e
 
-  -- what code answers, by who refuses: `c` are the cutoffs that it read from the table
+  -- ---- what code answers, by who refuses
+  refuses-with : (n : ℕ) → (n ≡ 0 → ⊥) → callReturned k lab lent ≡ n → (n ≡ callReturned k lab lent) × (lent ≡ callWritten k lab lent)
+  refuses-with n h e = (sym e, sym (refusal-keeps (λ z. h (sym e ∙ z))))
+
+  pub other-lengths : lengthsFit k lent ≡ false → (1 ≡ callReturned k lab lent) × (lent ≡ callWritten k lab lent)
+  other-lengths h = refuses-with 1 (λ z. omega arith) (call-is ∙ rw h)
+
   pub other-length : (length lent ≡ k .stated → ⊥) → (1 ≡ callReturned k lab lent) × (lent ≡ callWritten k lab lent)
-  other-length h = let e = length-refuses h in (sym e, sym (refusal-keeps (λ z. let q : _≡_ {A = ℕ} 1 0 = sym e ∙ z in omega arith)))
+  other-length h = other-lengths (go (k .besides) (ne-eqb (length lent) (k .stated) h))
+    where
+      go : (b : Bool) {d : Bool} → d ≡ false → b && d ≡ false
+      go true e = e
+      go false e = refl
 
-  pub other-table : length lent ≡ k .stated → badTable lab ≡ true → (14 ≡ callReturned k lab lent) × (lent ≡ callWritten k lab lent)
-  other-table l bad = let e = table-refuses l bad in (sym e, sym (refusal-keeps (λ z. let q : _≡_ {A = ℕ} 14 0 = sym e ∙ z in omega arith)))
+  -- every lent length is the stated one
+  module _ (others : k .besides ≡ true) (stated : length lent ≡ k .stated) where
+    lengths-fit : lengthsFit k lent ≡ true
+    lengths-fit = rw (others, eq-eqb (length lent) (k .stated) stated)
 
-  pub own-answer : length lent ≡ k .stated → badTable lab ≡ false → (c : Cutoffs) → c ≡ cutoffsIn lab → (n : ℕ) (bytes : List ℕ) → n ≡ first (k .reasons c) → bytes ≡ filledBy (first (k .reasons c)) (k .full c lent) lent
-      → (n ≡ callReturned k lab lent) × (bytes ≡ callWritten k lab lent)
-  unfolding callWritten
-  own-answer l ok c e n bytes q b =
-      let f = files-decide l ok in
-      (q ∙ ap (λ (x : Cutoffs). first (k .reasons x)) e ∙ sym f, b ∙ ap (λ (x : Cutoffs). filledBy (first (k .reasons x)) (k .full x lent) lent) e ∙ rw f)
+    pub files-decide : badTable lab ≡ false → callReturned k lab lent ≡ first rest
+    files-decide ok = call-is ∙ rw (lengths-fit, ok)
 
--- ---- TWO CALLS ANSWER ALIKE whose files give one number and, where it is 0, one answer: with a table both, or one of them as it was before there were tables
+    pub other-table : badTable lab ≡ true → (14 ≡ callReturned k lab lent) × (lent ≡ callWritten k lab lent)
+    other-table bad = refuses-with 14 (λ z. omega arith) (call-is ∙ rw (lengths-fit, bad))
+
+    -- `c` are the cutoffs that it read from the table
+    pub own-answer : badTable lab ≡ false → (c : Cutoffs) → c ≡ cutoffsIn lab → (n : ℕ) (bytes : List ℕ) → n ≡ first (k .reasons c) → bytes ≡ filledBy (first (k .reasons c)) (k .full c lent) lent
+        → (n ≡ callReturned k lab lent) × (bytes ≡ callWritten k lab lent)
+    unfolding callWritten
+    own-answer ok c e n bytes q b =
+        let f = files-decide ok in
+        (q ∙ ap (λ (x : Cutoffs). first (k .reasons x)) e ∙ sym f, b ∙ ap (λ (x : Cutoffs). filledBy (first (k .reasons x)) (k .full x lent) lent) e ∙ rw f)
+
+-- a call that is lent its answer bytes alone: their length m is the stated one n
+pub by-length : {A B : Type 0} (m n : ℕ) → Iff A ((eqb m n ≡ true) × B) → Iff A ((m ≡ n) × B)
+by-length m n i = record { to = λ a. let p = i .to a in (eqb-true m n (p .0), p .1); from = λ p. i .from (eq-eqb m n (p .0), p .1) }
+
+-- ---- TWO CALLS ANSWER ALIKE whose files give one number and, where it is 0, one answer
 pub record AnswersAlike (k j : Call) (c : Cutoffs) (lent : List ℕ) : Type 0 where
   pub stated : k .stated ≡ j .stated
+  pub besides : k .besides ≡ j .besides
   pub number : first (k .reasons c) ≡ first (j .reasons c)
   pub full : first (j .reasons c) ≡ 0 → k .full c lent ≡ j .full c lent
 
 module _ (k j : Call) (lab lent : List ℕ) (a : AnswersAlike k j (cutoffsIn lab) lent) where
   pub alike-returned : callReturned k lab lent ≡ callReturned j lab lent
-  alike-returned = call-is k lab lent ∙ rw (a .stated, a .number) (sym (call-is j lab lent))
+  alike-returned = call-is k lab lent ∙ rw (a .stated, a .besides, a .number) (sym (call-is j lab lent))
 
   pub alike-written : callWritten k lab lent ≡ callWritten j lab lent
   unfolding callWritten
@@ -144,23 +159,6 @@ module _ (k j : Call) (lab lent : List ℕ) (a : AnswersAlike k j (cutoffsIn lab
       go : (b : Bool) → eqb (callReturned j lab lent) 0 ≡ b → cond b (k .full (cutoffsIn lab) lent) lent ≡ cond b (j .full (cutoffsIn lab) lent) lent
       go true e = a .full (call-accepted j lab lent (eqb-true (callReturned j lab lent) 0 e) .2)
       go false e = refl
-
-module _ (k : Call) (lab lent : List ℕ) (ok : badTable lab ≡ false) where
-  pub untabled-returned : callReturned k lab lent ≡ untabledReturned k (cutoffsIn lab) lent
-  unfolding callReturned callReasons tableReasons untabledReturned first
-  untabled-returned = rw ok
-
-  pub untabled-written : callWritten k lab lent ≡ untabledWritten k (cutoffsIn lab) lent
-  unfolding callWritten untabledWritten
-  untabled-written = rw untabled-returned
-
--- with an accepted table a call is as one that had none
-module _ (k j : Call) (lab lent : List ℕ) (ok : badTable lab ≡ false) (a : AnswersAlike k j (cutoffsIn lab) lent) where
-  pub former-returned : callReturned k lab lent ≡ untabledReturned j (cutoffsIn lab) lent
-  former-returned = alike-returned k j lab lent a ∙ untabled-returned j lab lent ok
-
-  pub former-written : callWritten k lab lent ≡ untabledWritten j (cutoffsIn lab) lent
-  former-written = alike-written k j lab lent a ∙ untabled-written j lab lent ok
 
 -- ---- lent bytes that a file's number n leaves as they are, or fills
 pub kept-bytes : (k n : ℕ) (full lent : List ℕ) → k ≡ n → (k ≡ 0 → ⊥) → lent ≡ cond (eqb n 0) full lent

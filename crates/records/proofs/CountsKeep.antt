@@ -26,15 +26,17 @@ use Rattle.records.specs.Text.{textOf}
 use Rattle.records.specs.Shortened.{allTorn, shortened}
 use Rattle.records.specs.Series.{blockCount, kinds, sigma2, blockOf, asSent, parameterCount, miscounted, badSize, blockReasons, sizeReasons, valueReasons, reasons, refusal, design, phi}
 use Rattle.records.specs.CutoffTable.{badTable, cutoffsIn}
-use Rattle.records.specs.Call.{untabledReturned}
+use Rattle.records.specs.Untabled.{untabledReturned}
 use Rattle.records.specs.KenwardRogerCall.{adjusted, scaled, run, testReasons, allReasons, number, entries, seriesCall}
 use Rattle.records.specs.ArchiveCall.{seriesArchive, seriesReasons, archivingCall, told, archivingReturned}
-use Rattle.records.specs.CountsKeep.{blockBits, bareReasons, bareList, bareCall, bareText, bareArchiving, withCounts, uncountable, Countable, CountsKeep}
+use Rattle.records.specs.BareBlocks.{blockBits, bareReasons, bareList, bareCall, bareText, bareArchiving}
+use Rattle.records.specs.CountsKeep.{withCounts, uncountable, Countable, CountsKeep}
 use Rattle.records.proofs.ScanLaws.{or-false, any-none, none-any, any-same, le-most}
 use Rattle.records.proofs.CellLaws.{own-last}
 use Rattle.records.proofs.SameFile.{count-same, rows-same, columns-same, length-same, falls-same, form-same}
 use Rattle.records.proofs.SameSeries as same
-use Rattle.records.proofs.CallLaws.{AnswersAlike, former-returned, former-written}
+use Rattle.records.proofs.CallLaws.{AnswersAlike}
+use Rattle.records.proofs.UntabledLaws.{former-returned, former-written}
 use Rattle.records.proofs.SortedLaws.{told-once-accepted}
 use Rattle.records.proofs.CountLaws.{small-finite, past-a-byte, counts-alike, bits-stay, counts-stay, bits-block, counts-right, counts-none, CountableBlock, countable-block}
 
@@ -154,11 +156,11 @@ module _ (s : List ℕ) (h : Countable s) where
       -- what the calls return, and the lent bytes
       counted-alike : (answer : List ℕ) → AnswersAlike (seriesCall w s') (bareCall w s) c answer
       unfolding number entries
-      counted-alike answer = record { stated = refl; number = number-same; full = λ z. rw (number-same, z, run-same) }
+      counted-alike answer = record { stated = refl; besides = refl; number = number-same; full = λ z. rw (number-same, z, run-same) }
 
       archiving-alike : (lent : List ℕ) → AnswersAlike (archivingCall w s') (bareArchiving w s) c lent
       unfolding seriesReasons
-      archiving-alike lent = record { stated = refl; number = rw (design-same, phi-same, variance) (first-same w (adjustmentReasons c (design s) (phi s) (sigma2 s))); full = λ z. rw archive-same }
+      archiving-alike lent = record { stated = refl; besides = refl; number = rw (design-same, phi-same, variance) (first-same w (adjustmentReasons c (design s) (phi s) (sigma2 s))); full = λ z. rw archive-same }
 
   archiving-told : (lab : List ℕ) → badTable lab ≡ false → (w : ℕ) (lent : List ℕ) → archivingReturned w lab s' lent ≡ told (cutoffsIn lab) s (untabledReturned (bareArchiving w s) (cutoffsIn lab) lent)
   unfolding told

@@ -18,7 +18,7 @@ use Rattle.records.specs.File.{kindOf, rowOf, columnOf, paddingOf, count
 use Rattle.records.specs.Written.{sequence}
 use Rattle.records.specs.CutoffTable.{floorOf, badCutoff, badTable, cutoffsIn, cutoffAt, cutoffBytes, builtInTable}
 use Rattle.algebra.specs.Reasons.{first}
-use Rattle.records.specs.Call.{Call, callReturned}
+use Rattle.records.specs.Call.{Call, lengthsFit, callReturned}
 use Rattle.records.proofs.ScanLaws.{or-false, any-none}
 use Rattle.records.proofs.CallLaws.{call-is}
 
@@ -76,5 +76,5 @@ unfolding cutoffsIn builtInTable cutoffBytes cutoffAt sequence bytesOf word long
 built-in-numbers = refl
 
 -- so that a call with it is one with document 01's numbers
-pub built-in-returned : (k : Call) (lent : List ℕ) → callReturned k builtInTable lent ≡ cond (eqb (length lent) (k .stated)) (first (k .reasons documentCutoffs)) 1
-built-in-returned k lent = call-is k builtInTable lent ∙ rw built-in-accepted (ap (λ (c : Cutoffs). cond (eqb (length lent) (k .stated)) (first (k .reasons c)) 1) built-in-numbers)
+pub built-in-returned : (k : Call) (lent : List ℕ) → callReturned k builtInTable lent ≡ cond (lengthsFit k lent) (first (k .reasons documentCutoffs)) 1
+built-in-returned k lent = call-is k builtInTable lent ∙ rw built-in-accepted (ap (λ (c : Cutoffs). cond (lengthsFit k lent) (first (k .reasons c)) 1) built-in-numbers)

@@ -20,9 +20,10 @@ use Rattle.records.specs.Scan.{any}
 use Rattle.records.specs.File.{kindOf, rowOf, columnOf, paddingOf, countOf, bitsOf, valueOf}
 use Rattle.records.specs.Written.{recordOf, sequence}
 use Rattle.records.specs.CutoffTable.{floorOf, badCutoff, badTable, tableReasons, cutoffsIn, cutoffAt, cutoffBytes, builtInTable}
-use Rattle.records.specs.Call.{Call, callReturned, callWritten, untabledReturned, untabledWritten}
+use Rattle.records.specs.Call.{Call, callReturned, callWritten}
+use Rattle.records.specs.Untabled.{untabledReturned, untabledWritten}
 use Rattle.records.specs.CutoffTableKeeps.{LoaderTakes, CutoffTableKeeps}
-use Rattle.records.proofs.CallLaws.{untabled-returned, untabled-written}
+use Rattle.records.proofs.UntabledLaws.{untabled-returned, untabled-written}
 use Rattle.records.proofs.ScanLaws.{none-any}
 use Rattle.records.proofs.WrittenLaws.{RecordIs, record-is, sequence-length-of, byte-sequence-of}
 use Rattle.records.proofs.Canonical.{record-back}

@@ -17,7 +17,9 @@ pub mod SeriesInput
 pub mod AcceptedParameters
 pub mod CallLaws
 pub mod Precisely
+pub mod ReaderLaws
 pub mod CutoffLaws
+pub mod UntabledLaws
 pub mod SortedLaws
 pub mod TailLaws
 pub mod OwnTests

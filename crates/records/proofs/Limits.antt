@@ -1,5 +1,5 @@
 -- A file with no bad record keeps within its call's limits, and what its sizes leave a kind lies within what the limits leave it.
-use Prim.Native.Nat.{ℕ, _+_, _<_, _≤_}
+use Prim.Native.Nat.{ℕ, _+_, _*_, _<_, _≤_}
 use mathlib.Core.Path.{_≡_, refl, ap, sym, _∙_}
 use mathlib.Core.Bool.{Bool, true, false, _&&_, cond}
 use mathlib.Core.List.{List, [], _∷_}
@@ -12,6 +12,7 @@ use Rattle.records.specs.declared.Field.{Field}
 use Rattle.records.specs.declared.Field.the-variants.{Index}
 use Rattle.records.specs.declared.Kind.{Kind}
 use Rattle.records.specs.declared.Sizes.{Sizes}
+use Rattle.records.specs.declared.Shape.the-variants.{Series, Test, Archived, Second}
 use Rattle.records.specs.Scan.{any, most, total}
 use Rattle.records.specs.Kinds.{holds, width, Table, kindAt, kindNumbers, byRowAndColumn, byCount, unread, kenwardRogerKinds, satterthwaiteKinds, archiveKinds, testKinds, kindsOf, limits, kenwardRoger, satterthwaite, archiveTable, testTable}
 use Rattle.records.specs.Cells.{slots, firstSlot, slotCount}
@@ -22,6 +23,7 @@ use Rattle.records.specs.Archive as archive
 use Rattle.records.specs.SecondFile as second
 use Rattle.records.proofs.ScanLaws.{and-true, any-none, most-le, le-most, total-grows}
 use Rattle.records.proofs.Slots.{Inside, Within, within, good-within}
+use Rattle.records.specs.declared.Shape.{Shape}
 
 -- ---- the largest indices of a file: one more than the largest number in a field of a kind's records
 -- a number that a field with a limit holds is below it
@@ -94,7 +96,7 @@ series-below w h s g =
       hypothesis = λ _. refl;
     }
 
-pub parameters-below : (s : List ℕ) → any (count s) (badRecord satterthwaite s) ≡ false → Below (parameters.sizes s) (limits 0)
+pub parameters-below : (s : List ℕ) → any (count s) (badRecord satterthwaite s) ≡ false → Below (parameters.sizes s) (limits 1)
 unfolding parameters.sizes kindAt satterthwaiteKinds limits
 parameters-below s g =
     let a = rows-within satterthwaite s g 8 6 refl in
@@ -113,7 +115,7 @@ parameters-below s g =
       hypothesis = λ _. refl;
     }
 
-pub archive-sizes-below : (p N : ℕ) → p ≤ 6 → N ≤ 4 → Below (archive.sizesAt p N) (limits 0)
+pub archive-sizes-below : (p N : ℕ) → p ≤ 6 → N ≤ 4 → Below (archive.sizesAt p N) (limits 1)
 unfolding archive.sizesAt limits
 archive-sizes-below p N few fewer =
     record {
@@ -128,7 +130,7 @@ archive-sizes-below p N few fewer =
       hypothesis = λ _. refl;
     }
 
-pub archive-below : (s : List ℕ) → any (count s) (badRecord archiveTable s) ≡ false → Below (archive.sizes s) (limits 0)
+pub archive-below : (s : List ℕ) → any (count s) (badRecord archiveTable s) ≡ false → Below (archive.sizes s) (limits 1)
 unfolding archive.sizes kindAt archiveKinds limits
 archive-below s g =
     let a = rows-within archiveTable s g 11 6 refl in
@@ -137,7 +139,7 @@ archive-below s g =
     let d = columns-within archiveTable s g 14 4 refl in
     archive-sizes-below (archive.coefficients s) (archive.parameters s) (omega arith) (omega arith)
 
-pub second-below : (s : List ℕ) → any (count s) (badRecord testTable s) ≡ false → Below (second.sizes s) (limits 0)
+pub second-below : (s : List ℕ) → any (count s) (badRecord testTable s) ≡ false → Below (second.sizes s) (limits 1)
 unfolding second.sizes kindAt testKinds limits
 second-below s g =
     let a = rows-within testTable s g 8 6 refl in
@@ -169,15 +171,11 @@ each-numbered (e ∷ t) Q h k u = go (eqb k (e .0)) refl (each-numbered t Q (h .
     go false q x = x
 
 -- ---- what holds of the table of each kind of file holds of the table of any
-pub each-file : (P : (Sizes → Table) → Type 0) → P kenwardRogerKinds → P satterthwaiteKinds → P archiveKinds → P testKinds → (call : ℕ) → P (λ z. kindsOf call z)
-unfolding kindsOf
-each-file P series parameters archive second call = go (eqb call 0) (eqb call 1) (eqb call 2)
-  where
-    go : (x y v : Bool) → P (λ z. cond x (kenwardRogerKinds z) (cond y (satterthwaiteKinds z) (cond v (archiveKinds z) (testKinds z))))
-    go true y v = series
-    go false true v = parameters
-    go false false true = archive
-    go false false false = second
+pub each-file : (P : (Sizes → Table) → Type 0) → P kenwardRogerKinds → P satterthwaiteKinds → P archiveKinds → P testKinds → (file : Shape) → P (λ z. kindsOf file z)
+each-file P series parameters archive second Series = series
+each-file P series parameters archive second Test = parameters
+each-file P series parameters archive second Archived = archive
+each-file P series parameters archive second Second = second
 
 -- ---- so that they leave each kind no more cells
 pub record Narrower (a b : Kind) : Type 0 where
@@ -291,7 +289,7 @@ module _ (a b : Sizes) (h : Below a b) where
       let y = guarded (a .hypothesis) (b .hypothesis) (a .coefficients) (b .coefficients) (h .hypothesis) (h .coefficients) in
       (refl, record { number = same; row = h .coefficients; column = same }, (refl, record { number = same; row = h .contrasts; column = h .coefficients }, (refl, record { number = same; row = y; column = same }, tt)))
 
-  pub narrower : (call k : ℕ) → Narrower (kindAt (kindsOf call a) k) (kindAt (kindsOf call b) k)
+  pub narrower : (call : Shape) (k : ℕ) → Narrower (kindAt (kindsOf call a) k) (kindAt (kindsOf call b) k)
   narrower call k =
       each-file (λ T. Narrower (kindAt (T a) k) (kindAt (T b) k))
       (narrower-at (kenwardRogerKinds a) (kenwardRogerKinds b) series-narrowers k)
@@ -300,7 +298,7 @@ module _ (a b : Sizes) (h : Below a b) where
       (narrower-at (testKinds a) (testKinds b) second-narrowers k)
       call
 
-  pub fewer-slots : (call k : ℕ) → firstSlot (kindsOf call a) k ≤ firstSlot (kindsOf call b) k
+  pub fewer-slots : (call : Shape) (k : ℕ) → firstSlot (kindsOf call a) k ≤ firstSlot (kindsOf call b) k
   unfolding firstSlot slots
   fewer-slots call k = total-grows k _ _ (λ j _. let n = narrower call j in mul-le-mul (mul-le-mul (n .number) (n .row)) (n .column))
 
@@ -316,7 +314,7 @@ unread-from (e ∷ t) k l h =
     let p = and-true (ltb (e .0) kindNumbers) (allBelow t) h in
     rw (ne-eqb k (e .0) (λ q. absurd (omega (arith, ltb-true (e .0) kindNumbers (p .0))))) (unread-from t k l (p .1))
 
-pub kind-below : (call : ℕ) (z : Sizes) (k n r c : ℕ) → Inside (kindAt (kindsOf call z) k) n r c → k < kindNumbers
+pub kind-below : (call : Shape) (z : Sizes) (k n r c : ℕ) → Inside (kindAt (kindsOf call z) k) n r c → k < kindNumbers
 unfolding width kenwardRogerKinds satterthwaiteKinds archiveKinds testKinds
 kind-below call z k n r c w = go (decLt k kindNumbers)
   where
@@ -329,7 +327,16 @@ kind-below call z k n r c w = go (decLt k kindNumbers)
         let g = w .row in
         absurd (omega arith)
 
--- every cell that the panel's limits allow: w² + 7w + 91 at w = 24
-pub panel-slots : slotCount (kenwardRoger 24) ≡ 835
-unfolding firstSlot total slots width kindAt kenwardRogerKinds limits
-panel-slots = refl
+-- every cell that the limits allow a file, w being that of specimens
+abbrev pub mostCells : ℕ → Shape → ℕ
+mostCells w Series = w * w + 7 * w + 91
+mostCells w Test = 244
+mostCells w Archived = 449
+mostCells w Second = 48
+
+pub slot-count : (w : ℕ) (file : Shape) → slotCount (kindsOf file (limits w)) ≡ mostCells w file
+unfolding firstSlot total slots width kindAt kenwardRogerKinds satterthwaiteKinds archiveKinds testKinds limits
+slot-count w Series = omega arith
+slot-count w Test = refl
+slot-count w Archived = refl
+slot-count w Second = refl

@@ -47,7 +47,7 @@ low-kinds w s i good = go (decLt 10 (kindOf s i))
     go : Dec (10 < kindOf s i) → kindOf s i ≤ 10
     go (no l) = omega arith
     go (yes l) =
-        let e : kindAt (kenwardRoger w) (kindOf s i) ≡ unread = sym (late-kinds (limits 0) (limits w) (kindOf s i) (omega arith) refl refl refl) ∙ other-kinds (limits 0) (kindOf s i) (λ a b. omega arith) in
+        let e : kindAt (kenwardRoger w) (kindOf s i) ≡ unread = sym (late-kinds (limits 1) (limits w) (kindOf s i) (omega arith) refl refl refl) ∙ other-kinds (limits 1) (kindOf s i) (λ a b. omega arith) in
         let h = within (kindAt (kenwardRoger w) (kindOf s i)) s i (good-within (kenwardRoger w) s i good) .row in
         let z = holds-below (kindAt (kenwardRoger w) (kindOf s i) .row) (rowOf s i) 0 (ap (λ (y : Kind). y .row) e) h in
         absurd (omega arith)
@@ -95,7 +95,7 @@ module _ (w : ℕ) (s : List ℕ) (a : AcceptedSeries w s) (x : Parted s 8 (coun
   -- the records of kinds 8 to 10 are this tail
   own-tail : second.ownTests s ≡ u
   unfolding second.ownTests
-  own-tail = tests-tail s x (a .whole) (λ i l. low-kinds w s i (any-none (count s) (badRecord (kenwardRoger w) s) i l (a .good)))
+  own-tail = tests-tail s x (a .formed .whole) (λ i l. low-kinds w s i (any-none (count s) (badRecord (kenwardRoger w) s) i l (a .formed .good)))
 
   -- ---- the sizes are the same: β has a row for each coefficient
   rows-own : (k : ℕ) → 8 ≤ k → rows u k ≡ rows s k
@@ -103,7 +103,7 @@ module _ (w : ℕ) (s : List ℕ) (a : AcceptedSeries w s) (x : Parted s 8 (coun
 
   beta-rows : rows s 8 ≡ series.coefficients s
   unfolding kindAt kenwardRogerKinds series.sizes
-  beta-rows = rows-whole (series.kinds s) s 8 (series.coefficients s) refl (a .within) (any-none kindNumbers (missing (series.kinds s) s) 8 (lit< tt) (a .complete))
+  beta-rows = rows-whole (series.kinds s) s 8 (series.coefficients s) refl (a .formed .within) (any-none kindNumbers (missing (series.kinds s) s) 8 (lit< tt) (a .formed .complete))
 
   coefficients-own : second.coefficients u ≡ series.coefficients s
   coefficients-own = let e = rows-own 8 (omega arith) in let f = beta-rows in omega arith
@@ -119,7 +119,7 @@ module _ (w : ℕ) (s : List ℕ) (a : AcceptedSeries w s) (x : Parted s 8 (coun
   -- and so do the tables at the limits
   agree-limits : (k : ℕ) → 8 ≤ k → kindAt testTable k ≡ kindAt (kenwardRoger w) k
   unfolding limits
-  agree-limits k l = late-kinds (limits 0) (limits w) k l refl refl refl
+  agree-limits k l = late-kinds (limits 1) (limits w) k l refl refl refl
 
   -- ---- each cell has its number
   cell-own : (k r c : ℕ) → 8 ≤ k → second.cellValue u k r c ≡ series.cellValue s k r c
@@ -147,19 +147,19 @@ module _ (w : ℕ) (s : List ℕ) (a : AcceptedSeries w s) (x : Parted s 8 (coun
 
   -- ---- no reason refuses it
   whole-own : length u % 16 ≡ 0
-  whole-own = whole-tail s (x .place) (a .whole)
+  whole-own = whole-tail s (x .place) (a .formed .whole)
 
   rises-own : falls u ≡ false
-  rises-own = falls-tail s (x .place) (a .rises)
+  rises-own = falls-tail s (x .place) (a .formed .rises)
 
   good-own : any (count u) (badRecord testTable u) ≡ false
-  good-own = none-parted s 8 x (badRecord (kenwardRoger w) s) (badRecord testTable u) (a .good) (bad-parted s 8 x (kenwardRoger w) testTable agree-limits)
+  good-own = none-parted s 8 x (badRecord (kenwardRoger w) s) (badRecord testTable u) (a .formed .good) (bad-parted s 8 x (kenwardRoger w) testTable agree-limits)
 
   once-own : any (count u) (again (second.kinds u) u) ≡ false
-  once-own = none-parted s 8 x (again (series.kinds s) s) (again (second.kinds u) u) (a .once) (again-parted s 8 x (series.kinds s) (second.kinds u) agree)
+  once-own = none-parted s 8 x (again (series.kinds s) s) (again (second.kinds u) u) (a .formed .once) (again-parted s 8 x (series.kinds s) (second.kinds u) agree)
 
   within-own : any (count u) (beyond (second.kinds u) u) ≡ false
-  within-own = none-parted s 8 x (beyond (series.kinds s) s) (beyond (second.kinds u) u) (a .within) (beyond-parted s 8 x (series.kinds s) (second.kinds u) agree)
+  within-own = none-parted s 8 x (beyond (series.kinds s) s) (beyond (second.kinds u) u) (a .formed .within) (beyond-parted s 8 x (series.kinds s) (second.kinds u) agree)
 
   finite-own : any (count u) (notFinite u) ≡ false
   finite-own = none-parted s 8 x (notFinite s) (notFinite u) (a .finite) (λ i l. notFinite-parted s 8 x i)
@@ -169,7 +169,7 @@ module _ (w : ℕ) (s : List ℕ) (a : AcceptedSeries w s) (x : Parted s 8 (coun
     where
       go : (k : ℕ) → k < kindNumbers → Dec (k < 8) → missing (second.kinds u) u k ≡ false
       go k l (yes h) = missing-unread (second.kinds u) u k (other-kinds (second.sizes u) k (λ b c. omega arith))
-      go k l (no h) = missing-parted s 8 x (series.kinds s) (second.kinds u) agree k (omega arith) ∙ any-none kindNumbers (missing (series.kinds s) s) k l (a .complete)
+      go k l (no h) = missing-parted s 8 x (series.kinds s) (second.kinds u) agree k (omega arith) ∙ any-none kindNumbers (missing (series.kinds s) s) k l (a .formed .complete)
 
   nonzero-own : second.zeroContrast u ≡ false
   unfolding second.zeroContrast series.zeroContrast
@@ -182,7 +182,7 @@ module _ (w : ℕ) (s : List ℕ) (a : AcceptedSeries w s) (x : Parted s 8 (coun
 -- ---- THE LAWS
 -- the kinds below 8 stand before the others in a file that the reader accepts
 own-parted : (w : ℕ) (s : List ℕ) → AcceptedSeries w s → Parted s 8 (count s)
-own-parted w s a = parted s (a .rises) 8 (count s) (omega arith)
+own-parted w s a = parted s (a .formed .rises) 8 (count s) (omega arith)
 
 -- so its own tests stand at its end
 tests-end : (w : ℕ) (s : List ℕ) (a : AcceptedSeries w s) → second.ownTests s ≡ recordsFrom s (own-parted w s a .place)

@@ -16,13 +16,14 @@ use Rattle.records.specs.Scan.{any}
 use Rattle.records.specs.Kinds.{kenwardRoger}
 use Rattle.records.specs.File.{count, lengthReasons, formReasons}
 use Rattle.records.specs.Order.{falls, orderReasons}
-use Rattle.records.specs.Series.{kinds, miscounted, blockReasons, sizeReasons, valueReasons, contentReasons, reasons, design, phi, sigma2}
-use Rattle.records.specs.Parameters.{valueReasons as parameterValueReasons, contentReasons as parameterContentReasons, reasons as parameterReasons}
+use Rattle.records.specs.Reader.{contentReasons}
+use Rattle.records.specs.Series.{reader, kinds, miscounted, blockReasons, sizeReasons, valueReasons, reasons, design, phi, sigma2}
+use Rattle.records.specs.Parameters.{reader as parameterReader, valueReasons as parameterValueReasons, reasons as parameterReasons}
 use Rattle.records.specs.CutoffTable.{badTable, cutoffsIn}
 use Rattle.records.specs.Call.{callReasons}
 use Rattle.records.specs.KenwardRogerCall.{testReasons, allReasons, number, seriesCall, returned}
 use Rattle.records.specs.SatterthwaiteCall.{testReasons as satterthwaiteTestReasons, allReasons as satterthwaiteReasons, testCall, returned as satterthwaiteReturned}
-use Rattle.records.proofs.CallLaws.{call-precisely, call-fourteen, call-gives}
+use Rattle.records.proofs.CallLaws.{call-precisely, call-fourteen, call-gives, by-length}
 
 -- 1; 14; 2, 12, 2, 13, 3 to 8; 9, 10, 10, 4 of the adjustment; a test's 10
 pub kenward-roger-precisely : (w : ℕ) (lab s answer : List ℕ) → Precisely (returned w lab s answer) (callReasons (seriesCall w s) lab answer)
@@ -45,37 +46,37 @@ file-twelve m f rest h =
 module _ (lab s : List ℕ) where
   pub kenward-roger-fourteen : (w : ℕ) (answer : List ℕ) → Iff (returned w lab s answer ≡ 14) ((length answer ≡ 168) × (badTable lab ≡ true))
   unfolding allReasons reasons lengthReasons orderReasons formReasons blockReasons sizeReasons valueReasons adjustmentReasons testReasons
-  kenward-roger-fourteen w answer = call-fourteen (seriesCall w s) lab answer refl
+  kenward-roger-fourteen w answer = by-length (length answer) 168 (call-fourteen (seriesCall w s) lab answer refl)
 
   pub satterthwaite-fourteen : (answer : List ℕ) → Iff (satterthwaiteReturned lab s answer ≡ 14) ((length answer ≡ 24) × (badTable lab ≡ true))
   unfolding satterthwaiteReasons parameterReasons lengthReasons orderReasons formReasons parameterValueReasons satterthwaiteTestReasons
-  satterthwaite-fourteen answer = call-fourteen (testCall s) lab answer refl
+  satterthwaite-fourteen answer = by-length (length answer) 24 (call-fourteen (testCall s) lab answer refl)
 
 -- ---- 12, of a file's number, which the program prints, and of both calls
 module _ (c : Cutoffs) (s : List ℕ) where
   pub series-twelve : (w : ℕ) → Iff (number w c s ≡ 12) ((length s % 16 ≡ 0) × (falls s ≡ true))
   unfolding number allReasons reasons lengthReasons orderReasons formReasons blockReasons sizeReasons valueReasons adjustmentReasons testReasons
-  series-twelve w = file-twelve (length s) (falls s) (contentReasons w s ++ (adjustmentReasons c (design s) (phi s) (sigma2 s) ++ testReasons c s)) refl
+  series-twelve w = file-twelve (length s) (falls s) (contentReasons (reader w) s ++ (adjustmentReasons c (design s) (phi s) (sigma2 s) ++ testReasons c s)) refl
 
--- what a file's list gives, with what it says, is what a call gives where the length is the stated one and the table is accepted
-pub past-both : {A B C D : Type 0} → Iff A (B × C × D) → {E F : Type 0} → Iff D (E × F) → Iff A (B × C × E × F)
-past-both i j =
+-- what a file's list gives, with what it says, is what a call gives where the length m of its lent bytes is the stated one and the table is accepted
+pub past-both : {A C D : Type 0} (m n : ℕ) → Iff A ((eqb m n ≡ true) × C × D) → {E F : Type 0} → Iff D (E × F) → Iff A ((m ≡ n) × C × E × F)
+past-both m n i j =
     record {
-      to = λ e. let p = i .to e in let q = j .to (p .2) in (p .0, p .1, q .0, q .1);
-      from = λ p. i .from (p .0, p .1, j .from (p .2, p .3));
+      to = λ e. let p = i .to e in let q = j .to (p .2) in (eqb-true m n (p .0), p .1, q .0, q .1);
+      from = λ p. i .from (eq-eqb m n (p .0), p .1, j .from (p .2, p .3));
     }
 
 module _ (lab s : List ℕ) where
   pub kenward-roger-twelve : (w : ℕ) (answer : List ℕ) → Iff (returned w lab s answer ≡ 12) ((length answer ≡ 168) × (badTable lab ≡ false) × (length s % 16 ≡ 0) × (falls s ≡ true))
   unfolding number
   kenward-roger-twelve w answer =
-      past-both (call-gives (seriesCall w s) lab answer 12 (λ z. omega arith) (λ z. omega arith)) (series-twelve (cutoffsIn lab) s w)
+      past-both (length answer) 168 (call-gives (seriesCall w s) lab answer 12 (λ z. omega arith) (λ z. omega arith)) (series-twelve (cutoffsIn lab) s w)
 
   pub satterthwaite-twelve : (answer : List ℕ) → Iff (satterthwaiteReturned lab s answer ≡ 12) ((length answer ≡ 24) × (badTable lab ≡ false) × (length s % 16 ≡ 0) × (falls s ≡ true))
   unfolding satterthwaiteReasons parameterReasons lengthReasons orderReasons formReasons parameterValueReasons satterthwaiteTestReasons
   satterthwaite-twelve answer =
-      past-both (call-gives (testCall s) lab answer 12 (λ z. omega arith) (λ z. omega arith))
-      (file-twelve (length s) (falls s) (parameterContentReasons s ++ satterthwaiteTestReasons (cutoffsIn lab) s) refl)
+      past-both (length answer) 24 (call-gives (testCall s) lab answer 12 (λ z. omega arith) (λ z. omega arith))
+      (file-twelve (length s) (falls s) (contentReasons parameterReader s ++ satterthwaiteTestReasons (cutoffsIn lab) s) refl)
 
 -- ---- 13: "a block whose written number differs from k(k+1)/2, after 2 and before 3": precisely where no reason of the length, the order and the form holds and some block is miscounted
 abbrev pub fileRefusal : ℕ → List ℕ → ℕ
@@ -98,4 +99,4 @@ module _ (w : ℕ) (s : List ℕ) where
       → Iff (returned w lab s answer ≡ 13) ((length answer ≡ 168) × (badTable lab ≡ false) × (fileRefusal w s ≡ 0) × (any (count s) (miscounted s) ≡ true))
   unfolding number
   kenward-roger-thirteen lab answer =
-      past-both (call-gives (seriesCall w s) lab answer 13 (λ z. omega arith) (λ z. omega arith)) (series-thirteen (cutoffsIn lab))
+      past-both (length answer) 168 (call-gives (seriesCall w s) lab answer 13 (λ z. omega arith) (λ z. omega arith)) (series-thirteen (cutoffsIn lab))

@@ -36,8 +36,8 @@ pub record SeriesSized (s : List ℕ) : Type 0 where
 pub series-sized : (w : ℕ) (s : List ℕ) → AcceptedSeries w s → SeriesSized s
 unfolding kindAt kenwardRogerKinds limits
 series-sized w s c =
-    let b = columns-within (kenwardRoger w) s (c .good) 1 6 refl in
-    record { some = omega arith; coefficients = omega arith; blocks = rows-within (kenwardRoger w) s (c .good) 3 3 refl; contrast = rows-within (kenwardRoger w) s (c .good) 9 6 refl }
+    let b = columns-within (kenwardRoger w) s (c .formed .good) 1 6 refl in
+    record { some = omega arith; coefficients = omega arith; blocks = rows-within (kenwardRoger w) s (c .formed .good) 3 3 refl; contrast = rows-within (kenwardRoger w) s (c .formed .good) 9 6 refl }
 
 -- ---- the blocks' parameters
 -- "block parameters at most 3": the matrices are one more

@@ -2,7 +2,7 @@
 use Prim.Native.Nat.{ℕ}
 use mathlib.Core.Path.{_≡_, refl}
 use mathlib.Core.Bool.{Bool, true, false, cond}
-use mathlib.Core.List.{List, _++_}
+use mathlib.Core.List.{List}
 use lib.Dec.{eqb}
 use lib.ListN.{replicate}
 use Rattle.arithmetic_cutoffs.specs.declared.Cutoffs.{Cutoffs}
@@ -13,12 +13,14 @@ use Rattle.records.specs.File.{lengthReasons}
 use Rattle.records.specs.Order.{falls, orderReasons}
 use Rattle.records.specs.CutoffTable.{cutoffsIn}
 use Rattle.records.specs.Text.{linesText, refusalText, textOf}
-use Rattle.records.specs.Series.{anyOrderReasons, reasons}
-use Rattle.records.specs.Parameters.{anyOrderReasons as parametersInAnyOrder, reasons as parameterReasons}
+use Rattle.records.specs.Series.{reasons}
+use Rattle.records.specs.Parameters.{reasons as parameterReasons}
 use Rattle.records.specs.KenwardRogerCall.{run, allReasons, number, entries, seriesCall}
-use Rattle.records.specs.SatterthwaiteCall.{testReasons as satterthwaiteTestReasons, allReasons as satterthwaiteReasons, number as satterthwaiteNumber, entry, testCall}
-use Rattle.records.specs.AnyOrder.{anyOrderList, anyOrderText, anyOrderCall, anyOrderTest, SortedKeeps}
-use Rattle.records.proofs.CallLaws.{AnswersAlike, former-returned, former-written}
+use Rattle.records.specs.SatterthwaiteCall.{allReasons as satterthwaiteReasons, number as satterthwaiteNumber, entry, testCall}
+use Rattle.records.specs.AnyOrder.{anyOrderReasons, anyOrderList, anyOrderText, anyOrderCall, anyOrderTestList, anyOrderTest}
+use Rattle.records.specs.SortedKeeps.{SortedKeeps}
+use Rattle.records.proofs.CallLaws.{AnswersAlike}
+use Rattle.records.proofs.UntabledLaws.{former-returned, former-written}
 
 -- a text that is chosen by the number, of entries that are
 pub told-once-accepted : (n : ℕ) (full bare : List Entry) → textOf n (cond (eqb n 0) full bare) ≡ textOf n full
@@ -41,17 +43,17 @@ module _ (w : ℕ) (c : Cutoffs) (s : List ℕ) (h : falls s ≡ false) where
 
   sorted-alike : (answer : List ℕ) → AnswersAlike (seriesCall w s) (anyOrderCall w s) c answer
   unfolding number entries
-  sorted-alike answer = record { stated = refl; number = sorted-number; full = λ z. rw (sorted-number, z) }
+  sorted-alike answer = record { stated = refl; besides = refl; number = sorted-number; full = λ z. rw (sorted-number, z) }
 
 -- ---- the Satterthwaite call
 module _ (c : Cutoffs) (s answer : List ℕ) (h : falls s ≡ false) where
-  sorted-test : first (satterthwaiteReasons c s) ≡ first (parametersInAnyOrder s ++ satterthwaiteTestReasons c s)
-  unfolding satterthwaiteReasons parameterReasons lengthReasons orderReasons parametersInAnyOrder first
+  sorted-test : first (satterthwaiteReasons c s) ≡ first (anyOrderTestList c s)
+  unfolding satterthwaiteReasons parameterReasons lengthReasons orderReasons anyOrderTestList anyOrderReasons first
   sorted-test = rw h
 
   sorted-test-alike : AnswersAlike (testCall s) (anyOrderTest s) c answer
   unfolding satterthwaiteNumber entry
-  sorted-test-alike = record { stated = refl; number = sorted-test; full = λ z. rw (sorted-test, z) }
+  sorted-test-alike = record { stated = refl; besides = refl; number = sorted-test; full = λ z. rw (sorted-test, z) }
 
 -- A SORTED FILE KEEPS ITS ANSWERS
 pub sorted-keeps : SortedKeeps

@@ -127,7 +127,7 @@ has-complete t s k h = go (z .sparse) refl
 -- a series of which no reason of the reader's holds is accepted
 accepted-refusal : (w : ℕ) (s : List ℕ) → AcceptedSeries w s → refusal w s ≡ 0
 unfolding refusal reasons lengthReasons orderReasons formReasons blockReasons sizeReasons valueReasons first
-accepted-refusal w s a = rw (a .whole, a .rises, a .good, a .once, a .complete, a .within, a .counted, a .sized, a .pulled, a .finite, a .positive, a .weighed, a .fits, a .nonzero)
+accepted-refusal w s a = rw (a .formed .whole, a .formed .rises, a .formed .good, a .formed .once, a .formed .complete, a .formed .within, a .counted, a .sized, a .pulled, a .finite, a .positive, a .weighed, a .fits, a .nonzero)
 
 -- ---- the order of the file without its torn specimens
 module _ (s : List ℕ) where
@@ -206,7 +206,7 @@ module _ (w : ℕ) (s : List ℕ) (a : AcceptedSeries w s) where
   good-taken j l =
       let i : ℕ = sentRecord s j in
       let z : Kind = kindAt (kenwardRoger w) (kindOf s i) in
-      let good : badRecord (kenwardRoger w) s i ≡ false = any-none (count s) (badRecord (kenwardRoger w) s) i (record-below s j l) (a .good) in
+      let good : badRecord (kenwardRoger w) s i ≡ false = any-none (count s) (badRecord (kenwardRoger w) s) i (record-below s j l) (a .formed .good) in
       let x = or-false (outOf z s i || not (eqb (paddingOf s i) 0)) (not (valueHolds (z .value) (bitsOf s i))) good in
       let y = or-false (outOf z s i) (not (eqb (paddingOf s i) 0)) (x .0) in
       rw (taken-fields s .kind j l, taken-fields s .padding j l, taken-fields s .bits j l, limited z (within z s i (y .0)), y .1, x .1)
@@ -234,7 +234,7 @@ module _ (w : ℕ) (s : List ℕ) (a : AcceptedSeries w s) where
       → isCell (kinds (withoutTorn s)) (withoutTorn s) k n r c i ≡ false
   once-cell k n r c i j h m l e =
       isCell-taken w s a k n r c i h (omega arith)
-      ∙ named-once (kinds s) s (a .once) k n (sentRow s k r) c (sentRecord s i) (sentRecord s j) (kept-rises (ofTorn s) (count s) i j m l) (record-below s j l) (sym (isCell-taken w s a k n r c j h l) ∙ e)
+      ∙ named-once (kinds s) s (a .formed .once) k n (sentRow s k r) c (sentRecord s i) (sentRecord s j) (kept-rises (ofTorn s) (count s) i j m l) (record-below s j l) (sym (isCell-taken w s a k n r c j h l) ∙ e)
 
   -- the row that it names is a specimen that is left, where its rows are specimens
   named-below : (j : ℕ) → j < recordsLeft s → ofSpecimen (kindOf (withoutTorn s) j) ≡ true → cellRow (kinds (withoutTorn s)) (withoutTorn s) j < specimensLeft s
@@ -345,7 +345,7 @@ module _ (w : ℕ) (s : List ℕ) (a : AcceptedSeries w s) where
     unfolding beyond
     within-taken j l =
         let i : ℕ = sentRecord s j in
-        let v = within (kindAt (kinds s) (kindOf s i)) s i (any-none (count s) (beyond (kinds s) s) i (record-below s j l) (a .within)) in
+        let v = within (kindAt (kinds s) (kindOf s i)) s i (any-none (count s) (beyond (kinds s) s) i (record-below s j l) (a .formed .within)) in
         rw (taken-fields s .kind j l)
         (within-kind (kindAt (kinds (withoutTorn s)) (kindOf s i)) (withoutTorn s) j
         (record {
@@ -380,7 +380,7 @@ module _ (w : ℕ) (s : List ℕ) (a : AcceptedSeries w s) where
         has-complete (kinds (withoutTorn s)) (withoutTorn s) k
         (λ n r c v e.
         has-taken w s a k n r c (λ q. row-left k r q (v .row))
-        ∙ complete-has (kinds s) s k n (sentRow s k r) c (sym (sparse-kind k) ∙ e) (any-none kindNumbers (missing (kinds s) s) k l (a .complete))
+        ∙ complete-has (kinds s) s k n (sentRow s k r) c (sym (sparse-kind k) ∙ e) (any-none kindNumbers (missing (kinds s) s) k l (a .formed .complete))
         (record { number = rw (count-kind k) at (v .number); row = row-sent k r (v .row); column = rw (column-kind k) at (v .column) }))
 
     -- Z has the columns that the blocks want
@@ -392,12 +392,15 @@ module _ (w : ℕ) (s : List ℕ) (a : AcceptedSeries w s) where
     accepted-taken : AcceptedSeries w (withoutTorn s)
     accepted-taken =
         record {
-          whole = whole-taken s;
-          rises = rises-taken s (a .rises);
-          good = none-taken s (badRecord (kenwardRoger w) (withoutTorn s)) good-taken;
-          once = none-taken s (again (kinds (withoutTorn s)) (withoutTorn s)) once-taken;
-          complete = none-any kindNumbers (missing (kinds (withoutTorn s)) (withoutTorn s)) complete-taken;
-          within = none-taken s (beyond (kinds (withoutTorn s)) (withoutTorn s)) within-taken;
+          formed =
+              record {
+                whole = whole-taken s;
+                rises = rises-taken s (a .formed .rises);
+                good = none-taken s (badRecord (kenwardRoger w) (withoutTorn s)) good-taken;
+                once = none-taken s (again (kinds (withoutTorn s)) (withoutTorn s)) once-taken;
+                complete = none-any kindNumbers (missing (kinds (withoutTorn s)) (withoutTorn s)) complete-taken;
+                within = none-taken s (beyond (kinds (withoutTorn s)) (withoutTorn s)) within-taken;
+              };
           counted = none-taken s (miscounted (withoutTorn s)) counted-taken;
           sized = sized-taken ∙ a .sized;
           pulled = pulled-taken;

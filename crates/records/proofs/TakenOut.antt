@@ -207,7 +207,7 @@ module _ (w : ℕ) (s : List ℕ) (a : AcceptedSeries w s) where
   pub specimen-below : (i : ℕ) → i < count s → ofSpecimen (kindOf s i) ≡ true → rowOf s i < specimens s
   unfolding beyond holds sizes
   specimen-below i l e =
-      let h = within (kindAt (kinds s) (kindOf s i)) s i (any-none (count s) (beyond (kinds s) s) i l (a .within)) .row in
+      let h = within (kindAt (kinds s) (kindOf s i)) s i (any-none (count s) (beyond (kinds s) s) i l (a .formed .within)) .row in
       go (hasSpecimens (sizes s) (kindOf s i)) (rw (specimen-rows (sizes s) (kindOf s i) e) at h)
     where
       go : (b : Bool) → holds (Index (cond b (specimens s) 0)) (rowOf s i) ≡ true → rowOf s i < specimens s

@@ -132,7 +132,7 @@ module _ (w : ℕ) (s : List ℕ) (a : AcceptedSeries w s) where
   -- X has a record for each specimen and coefficient, and so for each specimen that is left
   has-x : (r c : ℕ) → r < specimens s → c < coefficients s → has (kinds s) s 1 0 r c ≡ true
   unfolding kindAt kenwardRogerKinds sizes width
-  has-x r c l m = complete-has (kinds s) s 1 0 r c refl (any-none kindNumbers (missing (kinds s) s) 1 (lit< tt) (a .complete)) (record { number = lit< tt; row = l; column = m })
+  has-x r c l m = complete-has (kinds s) s 1 0 r c refl (any-none kindNumbers (missing (kinds s) s) 1 (lit< tt) (a .formed .complete)) (record { number = lit< tt; row = l; column = m })
 
   has-x-left : (r c : ℕ) → r < specimensLeft s → c < coefficients s → has (kinds (withoutTorn s)) (withoutTorn s) 1 0 r c ≡ true
   unfolding ofSpecimen
@@ -141,7 +141,7 @@ module _ (w : ℕ) (s : List ℕ) (a : AcceptedSeries w s) where
   -- a weight for each specimen, where there are weights
   has-weight : (r : ℕ) → r < specimens s → present s 5 ≡ true → has (kinds s) s 5 0 r 0 ≡ true
   unfolding kindAt kenwardRogerKinds sizes width
-  has-weight r l e = complete-has (kinds s) s 5 0 r 0 refl (any-none kindNumbers (missing (kinds s) s) 5 (lit< tt) (a .complete)) (record { number = lit< tt; row = rw e l; column = lit< tt })
+  has-weight r l e = complete-has (kinds s) s 5 0 r 0 refl (any-none kindNumbers (missing (kinds s) s) 5 (lit< tt) (a .formed .complete)) (record { number = lit< tt; row = rw e l; column = lit< tt })
 
   -- so the specimens that are left are its specimens, and its coefficients those that were
   pub specimens-taken : specimens (withoutTorn s) ≡ specimensLeft s

@@ -45,7 +45,7 @@ short-run c s = refl
 -- and so are its number and the answer
 short-alike : (w : ℕ) (c : Cutoffs) (s answer : List ℕ) → AnswersAlike (seriesCall w s) (designCall w (shortened (asSent s)) s) c answer
 unfolding number entries allReasons testReasons design designReasons
-short-alike w c s answer = record { stated = refl; number = rw (short-run c s); full = λ z. rw (short-run c s, z) }
+short-alike w c s answer = record { stated = refl; besides = refl; number = rw (short-run c s); full = λ z. rw (short-run c s, z) }
 
 -- ---- the series of the file without its torn specimens is the shortened one
 module _ (w : ℕ) (s : List ℕ) (e : refusal w s ≡ 0) (noneLost : any (count s) (columnLost s) ≡ false) where
@@ -150,11 +150,11 @@ module _ (w : ℕ) (s : List ℕ) (e : refusal w s ≡ 0) (noneLost : any (count
     -- what the calls return, and the lent bytes
     taken-alike : (answer : List ℕ) → AnswersAlike (seriesCall w (withoutTorn s)) (seriesCall w s) c answer
     unfolding number
-    taken-alike answer = record { stated = refl; number = number-taken; full = λ z. rw entries-taken }
+    taken-alike answer = record { stated = refl; besides = refl; number = number-taken; full = λ z. rw entries-taken }
 
     archiving-alike : (lent : List ℕ) → AnswersAlike (archivingCall w (withoutTorn s)) (archivingCall w s) c lent
     unfolding seriesRefusal
-    archiving-alike lent = record { stated = refl; number = series-refusal-taken; full = λ z. rw archive-taken }
+    archiving-alike lent = record { stated = refl; besides = refl; number = series-refusal-taken; full = λ z. rw archive-taken }
 
   archiving-told : (lab lent : List ℕ) → archivingReturned w lab (withoutTorn s) lent ≡ archivingReturned w lab s lent
   unfolding told
@@ -164,7 +164,7 @@ module _ (w : ℕ) (s : List ℕ) (e : refusal w s ≡ 0) (noneLost : any (count
 whole-file : (w : ℕ) (s : List ℕ) → AcceptedSeries w s → any (specimens s) (torn (asSent s)) ≡ false → withoutTorn s ≡ s
 unfolding newRow
 whole-file w s a none =
-    taken-none s (a .whole) (λ i l. stays i l (ofSpecimen (kindOf s i)) refl)
+    taken-none s (a .formed .whole) (λ i l. stays i l (ofSpecimen (kindOf s i)) refl)
     (λ i l q. kept-all (torn (asSent s)) (rowOf s i) (λ r h. pulled r (let b = specimen-below w s a i l q in omega arith)))
   where
     pulled : (r : ℕ) → r < specimens s → torn (asSent s) r ≡ false

@@ -15,9 +15,9 @@ use Rattle.adjustment.specs.Adjusted.{Stack, matrixAt, stack}
 use Rattle.records.specs.declared.Kind.{Kind}
 use Rattle.records.specs.declared.Sizes.{Sizes}
 use Rattle.records.specs.Scan.{any}
-use Rattle.records.specs.Kinds.{Table, kindAt, width, archiveKinds, archiveTable}
-use Rattle.records.specs.File.{count, cell, rows, columns, notFinite, lengthReasons, formReasons}
-use Rattle.records.specs.Order.{orderReasons}
+use Rattle.records.specs.Kinds.{Table, kindAt, width, archiveKinds}
+use Rattle.records.specs.File.{count, cell, rows, columns, notFinite}
+use Rattle.records.specs.Reader.{Reader, readerReasons}
 use Rattle.records.specs.Written.{Content, fileOf}
 
 -- ---- what is archived: Φ and the adjustment in residual units, and sigma2; the coefficients are p, and each of the variance parameters has a P
@@ -97,8 +97,11 @@ valueReasons s = (4, any (count s) (notFinite s)) ∷ (5, le (archiveOf s .sigma
 unfoldable pub scaledReasons : List ℕ → List (ℕ × Bool)
 scaledReasons s = (2, misscaled s 11) ∷ (2, misscaled s 12) ∷ (2, misscaled s 13) ∷ []
 
+abbrev pub reader : Reader
+reader = record { kinds = archiveKinds; limit = 1; sizes = sizes; own = λ s. valueReasons s ++ scaledReasons s }
+
 unfoldable pub reasons : List ℕ → List (ℕ × Bool)
-reasons s = lengthReasons s ++ (orderReasons s ++ (formReasons archiveTable (kinds s) s ++ (valueReasons s ++ scaledReasons s)))
+reasons s = readerReasons reader s
 
 unfoldable pub refusal : List ℕ → ℕ
 refusal s = first (reasons s)

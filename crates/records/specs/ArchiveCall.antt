@@ -1,6 +1,6 @@
 -- Document 02, "Req 02": the archive's two calls whole, the writer and the test from an archive, from the bytes of their files and the lab's table to their numbers and the lent bytes.
 use Prim.Native.Nat.{ℕ}
-use mathlib.Core.Bool.{Bool, cond}
+use mathlib.Core.Bool.{Bool, true, cond}
 use mathlib.Core.List.{List, [], _∷_, _++_}
 use lib.Dec.{eqb}
 use lib.ListN.{length, replicate}
@@ -47,7 +47,7 @@ module _ (w : ℕ) (c : Cutoffs) (s : List ℕ) where
 
 -- "The writer is lent 7,184 bytes", "fills them from the front, keeps the rest and returns the file's length"; a refusal returns its number and keeps them all
 abbrev pub archivingCall : ℕ → List ℕ → Call
-archivingCall w s = record { stated = 7184; reasons = λ c. seriesReasons w c s; full = λ c lent. sets lent 0 (archiveBytes (seriesArchive c s)) }
+archivingCall w s = record { stated = 7184; besides = true; reasons = λ c. seriesReasons w c s; full = λ c lent. sets lent 0 (archiveBytes (seriesArchive c s)) }
 
 -- what it returns: the length where nothing refuses
 unfoldable pub told : Cutoffs → List ℕ → ℕ → ℕ
@@ -96,7 +96,7 @@ module _ (c : Cutoffs) (s t : List ℕ) where
 
 -- the call: 168 bytes as in the direct call
 abbrev pub testingCall : List ℕ → List ℕ → Call
-testingCall s t = record { stated = 168; reasons = λ c. fromArchiveReasons c s t; full = λ c answer. answerBytes (fromArchiveEntries c s t) }
+testingCall s t = record { stated = 168; besides = true; reasons = λ c. fromArchiveReasons c s t; full = λ c answer. answerBytes (fromArchiveEntries c s t) }
 
 module _ (lab s t : List ℕ) where
   abbrev pub testingReturned : List ℕ → ℕ

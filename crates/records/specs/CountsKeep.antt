@@ -2,52 +2,22 @@
 use Prim.Native.Nat.{ℕ, _%_, _<_, _≤_}
 use mathlib.Core.Path.{_≡_}
 use mathlib.Core.Bool.{Bool, true, false, not, _&&_, _||_, cond}
-use mathlib.Core.List.{List, [], _∷_, _++_}
+use mathlib.Core.List.{List}
 use lib.Dec.{eqb, ltb}
 use lib.ListN.{length, set}
-use lib.Seq.{sets}
 use Rattle.arithmetic_cutoffs.specs.declared.Cutoffs.{Cutoffs}
 use Rattle.algebra.specs.Reasons.{first}
-use Rattle.adjustment.specs.Adjusted.{adjustmentReasons}
 use Rattle.records.specs.Bytes.{byte}
 use Rattle.records.specs.Scan.{any}
-use Rattle.records.specs.Kinds.{kenwardRoger}
-use Rattle.records.specs.File.{count, kindOf, columnOf, bitsOf, lengthReasons, formReasons}
-use Rattle.records.specs.Order.{orderReasons}
+use Rattle.records.specs.File.{count, kindOf, columnOf, bitsOf}
 use Rattle.records.specs.Written.{sequence, recordAt}
-use Rattle.records.specs.Layout.{answerBytes}
 use Rattle.records.specs.CutoffTable.{badTable, cutoffsIn}
-use Rattle.records.specs.Call.{Call, untabledReturned, untabledWritten}
 use Rattle.records.specs.Text.{textOf}
-use Rattle.records.specs.Series.{kinds, parameterCount, miscounted, sizeReasons, valueReasons, refusal, design, phi, sigma2}
-use Rattle.records.specs.KenwardRogerCall.{run, testReasons, number, entries, returned, written}
-use Rattle.records.specs.Archive.{archiveBytes}
-use Rattle.records.specs.ArchiveCall.{seriesArchive, told, archivingReturned, archivingWritten}
-
--- ---- before the request, when a block was bare
--- document 01: "3 block (row its number, column k, count m, bits 0)", so that any other bits were a "nonzero unused field"
-unfoldable pub blockBits : List ℕ → ℕ → Bool
-blockBits s i = eqb (kindOf s i) 3 && not (eqb (bitsOf s i) 0)
-
--- what refused a file: such a block, beside 2's other reasons, and no 13
-unfoldable pub bareReasons : ℕ → List ℕ → List (ℕ × Bool)
-bareReasons w s = lengthReasons s ++ (orderReasons s ++ ((2, any (count s) (blockBits s)) ∷ (formReasons (kenwardRoger w) (kinds s) s ++ (sizeReasons s ++ valueReasons s))))
-
--- the Kenward–Roger call: what it returned for the lent bytes, what they held then, and what `pulltest` printed
-module _ (w : ℕ) (c : Cutoffs) (s : List ℕ) where
-  unfoldable pub bareList : List (ℕ × Bool)
-  bareList = bareReasons w s ++ (adjustmentReasons c (design s) (phi s) (sigma2 s) ++ testReasons c s)
-
-  unfoldable pub bareText : List ℕ
-  bareText = textOf (first bareList) (run c s .entries)
-
-abbrev pub bareCall : ℕ → List ℕ → Call
-bareCall w s = record { stated = 168; reasons = λ c. bareList w c s; full = λ c answer. answerBytes (run c s .entries) }
-
--- the archive's writer
-abbrev pub bareArchiving : ℕ → List ℕ → Call
-bareArchiving w s =
-    record { stated = 7184; reasons = λ c. bareReasons w s ++ adjustmentReasons c (design s) (phi s) (sigma2 s); full = λ c lent. sets lent 0 (archiveBytes (seriesArchive c s)) }
+use Rattle.records.specs.Series.{parameterCount, miscounted, refusal}
+use Rattle.records.specs.KenwardRogerCall.{number, entries, returned, written}
+use Rattle.records.specs.ArchiveCall.{told, archivingReturned, archivingWritten}
+use Rattle.records.specs.Untabled.{untabledReturned, untabledWritten}
+use Rattle.records.specs.BareBlocks.{bareReasons, bareCall, bareText, bareArchiving}
 
 -- ---- the file with its blocks' parameter counts written
 -- record i with k(k+1)/2 in "the first of the eight value bytes", where it is a block

@@ -9,7 +9,8 @@ use Rattle.arithmetic.specs.Numbers.{isFinite}
 use Rattle.arithmetic_cutoffs.specs.declared.Cutoffs.{Cutoffs}
 use Rattle.arithmetic_cutoffs.specs.Cutoffs.{documentCutoffs}
 use Rattle.records.specs.Bytes.{byte}
-use Rattle.records.specs.Call.{Call, callReturned, callWritten, untabledReturned, untabledWritten}
+use Rattle.records.specs.Call.{Call, callReturned, callWritten}
+use Rattle.records.specs.Untabled.{untabledReturned, untabledWritten}
 use Rattle.records.specs.CutoffTable.{floorOf, badTable, cutoffsIn, cutoffAt, cutoffBytes, builtInTable}
 
 -- ---- "nine finite positive values, the last above 2": number i of c is one that the loader takes, as an f64 number

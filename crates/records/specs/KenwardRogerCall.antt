@@ -1,6 +1,6 @@
 -- Document 01, "kenward_roger.rs": the whole Kenward–Roger call, from the limit of specimens, the lab's table and the bytes of a file to its number, its entries and the lent bytes.
 use Prim.Native.Nat.{ℕ}
-use mathlib.Core.Bool.{Bool, cond}
+use mathlib.Core.Bool.{Bool, true, cond}
 use mathlib.Core.List.{List, [], _∷_, _++_}
 use lib.Dec.{eqb}
 use lib.ListN.{replicate}
@@ -58,7 +58,7 @@ module _ (w : ℕ) (c : Cutoffs) (s : List ℕ) where
 
 -- ---- the call: 168 bytes, the seven entries; with a lab's table what it returns for the lent bytes, and what they hold then
 abbrev pub seriesCall : ℕ → List ℕ → Call
-seriesCall w s = record { stated = 168; reasons = λ c. allReasons w c s; full = λ c answer. answerBytes (entries w c s) }
+seriesCall w s = record { stated = 168; besides = true; reasons = λ c. allReasons w c s; full = λ c answer. answerBytes (entries w c s) }
 
 module _ (w : ℕ) (lab s : List ℕ) where
   abbrev pub returned : List ℕ → ℕ

@@ -10,6 +10,8 @@ use Rattle.records.specs.declared.Field.the-variants.{Index, Number, Unu
 use Rattle.records.specs.declared.Value.{Value}
 use Rattle.records.specs.declared.Value.the-variants.{Float, FirstByte}
 use Rattle.records.specs.declared.Kind.{Kind}
+use Rattle.records.specs.declared.Shape.{Shape}
+use Rattle.records.specs.declared.Shape.the-variants.{Series, Test, Archived, Second}
 use Rattle.records.specs.declared.Sizes.{Sizes}
 
 -- ---- one field
@@ -120,9 +122,12 @@ testKinds z =
     ∷ (10, byRow (cond (z .hypothesis) (z .coefficients) 0))
     ∷ []
 
--- The files have numbers: 0 is a Kenward and Roger series, 1 a Satterthwaite test, 2 an archive, any other the second file that is lent with an archive.
-unfoldable pub kindsOf : ℕ → Sizes → Table
-kindsOf call z = cond (eqb call 0) (kenwardRogerKinds z) (cond (eqb call 1) (satterthwaiteKinds z) (cond (eqb call 2) (archiveKinds z) (testKinds z)))
+-- the table of each file
+abbrev pub kindsOf : Shape → Sizes → Table
+kindsOf Series z = kenwardRogerKinds z
+kindsOf Test z = satterthwaiteKinds z
+kindsOf Archived z = archiveKinds z
+kindsOf Second z = testKinds z
 
 -- Document 01, "Limits": "specimens n 1–24; coefficients p 1–6; random columns 0–24; blocks 0–3 .. block parameters at most 3 over all blocks; contrast rows 1–6; Satterthwaite parameters
 -- 1–4". The limit of specimens and of random columns is w, 24 at the panel. Limits are sizes: the largest that a file may have.
@@ -135,10 +140,10 @@ kenwardRoger w = kenwardRogerKinds (limits w)
 
 -- no kind of these names specimens, so that their limit is of no account
 abbrev pub satterthwaite : Table
-satterthwaite = satterthwaiteKinds (limits 0)
+satterthwaite = satterthwaiteKinds (limits 1)
 
 abbrev pub archiveTable : Table
-archiveTable = archiveKinds (limits 0)
+archiveTable = archiveKinds (limits 1)
 
 abbrev pub testTable : Table
-testTable = testKinds (limits 0)
+testTable = testKinds (limits 1)

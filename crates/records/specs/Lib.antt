@@ -5,6 +5,7 @@ pub mod Kinds
 pub mod Cells
 pub mod File
 pub mod Order
+pub mod Reader
 pub mod Alike
 pub mod Written
 pub mod Shortened
@@ -25,5 +26,8 @@ pub mod CutoffTableKeeps
 pub mod Text
 pub mod Season
 pub mod SeasonPrints
+pub mod Untabled
 pub mod AnyOrder
+pub mod BareBlocks
+pub mod SortedKeeps
 pub mod Bench

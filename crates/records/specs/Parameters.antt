@@ -11,9 +11,9 @@ use Rattle.algebra.specs.Table.{row, table, blank}
 use Rattle.algebra.specs.Reasons.{first}
 use Rattle.records.specs.declared.Sizes.{Sizes}
 use Rattle.records.specs.Scan.{any}
-use Rattle.records.specs.Kinds.{Table, satterthwaiteKinds, satterthwaite}
-use Rattle.records.specs.File.{count, cell, rows, columns, present, notFinite, lengthReasons, formReasons}
-use Rattle.records.specs.Order.{orderReasons}
+use Rattle.records.specs.Kinds.{Table, satterthwaiteKinds}
+use Rattle.records.specs.File.{count, cell, rows, columns, present, notFinite}
+use Rattle.records.specs.Reader.{Reader, readerReasons}
 use Rattle.tests.specs.Satterthwaite.{Inputs}
 
 -- There is a coefficient, a contrast row and a parameter: a file without misses its first cell.
@@ -48,17 +48,12 @@ kinds s = satterthwaiteKinds (sizes s)
 unfoldable pub valueReasons : List ℕ → List (ℕ × Bool)
 valueReasons s = (4, any (count s) (notFinite s)) ∷ []
 
--- all but the length: what the records say
-abbrev pub contentReasons : List ℕ → List (ℕ × Bool)
-contentReasons s = formReasons satterthwaite (kinds s) s ++ valueReasons s
+-- no kind of these names specimens, so that their limit is of no account
+abbrev pub reader : Reader
+reader = record { kinds = satterthwaiteKinds; limit = 1; sizes = sizes; own = valueReasons }
 
--- document 01's list, for records "in any order": "length not a multiple of 16", then the rest
-unfoldable pub anyOrderReasons : List ℕ → List (ℕ × Bool)
-anyOrderReasons s = lengthReasons s ++ contentReasons s
-
--- document 02's, "Req 01": the order is "checked directly after the multiple-of-16 test of 2 and before 2's other reasons"
 unfoldable pub reasons : List ℕ → List (ℕ × Bool)
-reasons s = lengthReasons s ++ (orderReasons s ++ contentReasons s)
+reasons s = readerReasons reader s
 
 unfoldable pub refusal : List ℕ → ℕ
 refusal s = first (reasons s)

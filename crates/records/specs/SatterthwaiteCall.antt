@@ -1,6 +1,6 @@
 -- Document 01: the whole Satterthwaite call, from the bytes of a file and the lab's table to its number, its entry and the lent bytes.
 use Prim.Native.Nat.{ℕ}
-use mathlib.Core.Bool.{Bool, cond}
+use mathlib.Core.Bool.{Bool, true, cond}
 use mathlib.Core.List.{List, [], _∷_, _++_}
 use lib.Dec.{eqb}
 use Rattle.arithmetic_cutoffs.specs.declared.Cutoffs.{Cutoffs}
@@ -34,7 +34,7 @@ module _ (c : Cutoffs) (s : List ℕ) where
 
 -- ---- the call: "The Satterthwaite call fills one such entry, 24 bytes"
 abbrev pub testCall : List ℕ → Call
-testCall s = record { stated = 24; reasons = λ c. allReasons c s; full = λ c answer. entryBytes (entry c s) }
+testCall s = record { stated = 24; besides = true; reasons = λ c. allReasons c s; full = λ c answer. entryBytes (entry c s) }
 
 module _ (lab s : List ℕ) where
   abbrev pub returned : List ℕ → ℕ

@@ -11,9 +11,9 @@ use Rattle.algebra.specs.Small.{Rows}
 use Rattle.algebra.specs.Reasons.{first}
 use Rattle.records.specs.declared.Sizes.{Sizes}
 use Rattle.records.specs.Scan.{any}
-use Rattle.records.specs.Kinds.{Table, testKinds, testTable}
-use Rattle.records.specs.File.{count, cell, rows, present, notFinite, lengthReasons, formReasons}
-use Rattle.records.specs.Order.{orderReasons}
+use Rattle.records.specs.Kinds.{Table, testKinds}
+use Rattle.records.specs.File.{count, cell, rows, present, notFinite}
+use Rattle.records.specs.Reader.{Reader, readerReasons}
 use Rattle.records.specs.Written.{recordsOf}
 
 -- its coefficients are those of β: a file without misses the first
@@ -53,8 +53,11 @@ formedFor p t = (2, not (eqb (coefficients t) p)) ∷ []
 unfoldable pub valueReasons : List ℕ → List (ℕ × Bool)
 valueReasons t = (4, any (count t) (notFinite t)) ∷ (8, zeroContrast t) ∷ []
 
+abbrev pub reader : ℕ → Reader
+reader p = record { kinds = testKinds; limit = 1; sizes = sizes; own = λ t. formedFor p t ++ valueReasons t }
+
 unfoldable pub reasons : ℕ → List ℕ → List (ℕ × Bool)
-reasons p t = lengthReasons t ++ (orderReasons t ++ (formReasons testTable (kinds t) t ++ (formedFor p t ++ valueReasons t)))
+reasons p t = readerReasons (reader p) t
 
 unfoldable pub refusal : ℕ → List ℕ → ℕ
 refusal p t = first (reasons p t)

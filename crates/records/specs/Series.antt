@@ -14,9 +14,9 @@ use Rattle.adjustment.specs.Covariance.{Design}
 use Rattle.algebra.specs.Reasons.{first}
 use Rattle.records.specs.declared.Sizes.{Sizes}
 use Rattle.records.specs.Scan.{any, last, total}
-use Rattle.records.specs.Kinds.{Table, kenwardRogerKinds, kenwardRoger}
-use Rattle.records.specs.File.{count, kindOf, columnOf, countOf, firstValueOf, isCell, cell, rows, columns, present, notFinite, lengthReasons, formReasons}
-use Rattle.records.specs.Order.{orderReasons}
+use Rattle.records.specs.Kinds.{Table, kenwardRogerKinds}
+use Rattle.records.specs.File.{count, kindOf, columnOf, countOf, firstValueOf, isCell, cell, rows, columns, present, notFinite}
+use Rattle.records.specs.Reader.{Reader, readerReasons}
 use Rattle.records.specs.Shortened.{allTorn, shortened}
 
 -- "n and p come from the largest X indices; Z columns, blocks, thetas and contrast rows from their own kind." A series has a specimen and a coefficient: a file with no X misses its
@@ -137,17 +137,11 @@ valueReasons s =
     ∷ (8, zeroContrast s)
     ∷ []
 
--- all but the length: what the records say
-abbrev pub contentReasons : ℕ → List ℕ → List (ℕ × Bool)
-contentReasons w s = formReasons (kenwardRoger w) (kinds s) s ++ (blockReasons s ++ (sizeReasons s ++ valueReasons s))
+abbrev pub reader : ℕ → Reader
+reader w = record { kinds = kenwardRogerKinds; limit = w; sizes = sizes; own = λ s. blockReasons s ++ (sizeReasons s ++ valueReasons s) }
 
--- document 01's list, with 3 and 6 as "Req 03" has them and "Req 04"'s 13, for records "in any order": "length not a multiple of 16", then the rest
-unfoldable pub anyOrderReasons : ℕ → List ℕ → List (ℕ × Bool)
-anyOrderReasons w s = lengthReasons s ++ contentReasons w s
-
--- document 02's, "Req 01": the order is "checked directly after the multiple-of-16 test of 2 and before 2's other reasons"
 unfoldable pub reasons : ℕ → List ℕ → List (ℕ × Bool)
-reasons w s = lengthReasons s ++ (orderReasons s ++ contentReasons w s)
+reasons w s = readerReasons (reader w) s
 
 unfoldable pub refusal : ℕ → List ℕ → ℕ
 refusal w s = first (reasons w s)

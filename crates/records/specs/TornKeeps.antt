@@ -1,7 +1,7 @@
 -- Document 02, "Req 03": what is promised of series with torn specimens, on the bytes of files, for every limit of specimens, table and lent bytes.
 use Prim.Native.Nat.{ℕ}
 use mathlib.Core.Path.{_≡_}
-use mathlib.Core.Bool.{Bool, false, not, _&&_, _||_, cond}
+use mathlib.Core.Bool.{Bool, true, false, not, _&&_, _||_, cond}
 use mathlib.Core.List.{List, [], _∷_, _++_}
 use lib.Dec.{eqb}
 use lib.ListN.{length, set}
@@ -33,7 +33,7 @@ module _ (c : Cutoffs) (d : Design) (s : List ℕ) where
 
 -- what the call returns for the lent bytes and what they hold then, if the design is d: the table's reason is its own, and the reader's are the file's
 abbrev pub designCall : ℕ → Design → List ℕ → Call
-designCall w d s = record { stated = 168; reasons = λ c. reasons w s ++ designReasons c d s; full = λ c answer. answerBytes (designRun c d s .entries) }
+designCall w d s = record { stated = 168; besides = true; reasons = λ c. reasons w s ++ designReasons c d s; full = λ c answer. answerBytes (designRun c d s .entries) }
 
 module _ (w : ℕ) (lab : List ℕ) (d : Design) (s answer : List ℕ) where
   abbrev pub designReturned : ℕ

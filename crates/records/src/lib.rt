@@ -1,5 +1,13 @@
 // The record files: their definitions (specs/), and what the table of kinds says of one kind.
 
+// Which file it is: a Kenward and Roger series, a Satterthwaite test, an archive, or the second file that is lent with one.
+pub enum Shape {
+    Series,
+    Test,
+    Archived,
+    Second,
+}
+
 // What a field of a record is: an index below a limit, a number of its own, or unused.
 pub enum Field {
     Index(usize),

@@ -9,6 +9,7 @@ ghost use Rattle.records.specs.Written.{recordOf};
 ghost use Rattle.records.specs.Archive.{sizesAt, archived, archiveBytes};
 ghost use Rattle.records_archive_bytes.specs.joints.Parts.{archiveFrom, cellBytes, lineBytes, sheetBytes, matricesBytes};
 use records::Kind;
+use records::Shape;
 use records::Sizes;
 use records_kinds::index_of;
 use records_kinds::kind_of;
@@ -236,7 +237,17 @@ pub fn put_archive(
     let mut at: usize = 0;
     let mut k: u8 = 0;
     while k < 33 {
-        at = put_kind(out, at, kind_of(2, z, k), k, phi, phi_a, ps, w, sigma2);
+        at = put_kind(
+            out,
+            at,
+            kind_of(Shape::Archived, z, k),
+            k,
+            phi,
+            phi_a,
+            ps,
+            w,
+            sigma2,
+        );
         k += 1;
     }
     at

@@ -8,7 +8,6 @@ use mathlib.Core.List.{List, [], _++_}
 use lib.Dec.{eqb, lit<, lit≤}
 use lib.ListN.{length, getD, replicate, length-replicate}
 use lib.Ieee.{Float, nan, binary64, mul, div, le}
-use borrow.Author.Tests.{ne-eqb}
 use Rattle.arithmetic.specs.Numbers.{plusZero}
 use Rattle.algebra.specs.Kind.{floats}
 use Rattle.algebra.specs.Product.{at}
@@ -17,31 +16,25 @@ use Rattle.algebra.specs.Small.{Rows}
 use Rattle.algebra.specs.Reasons.{first}
 use Rattle.algebra.proofs.FoldLaws.{span-at}
 use Rattle.algebra.proofs.TableLaws.{table-at}
-use Rattle.algebra.proofs.ReasonLaws.{Line, NoneHolds, first-none, first-append, first-front}
 use Rattle.adjustment.specs.Adjusted.{matrixAt, stack}
 use Rattle.records.specs.declared.Kind.{Kind}
 use Rattle.records.specs.declared.Sizes.{Sizes}
-use Rattle.records.specs.Scan.{any, total}
-use Rattle.records.specs.Kinds.{width, Table, kindAt, kindNumbers, kindsOf, archiveKinds, archiveTable, limits}
+use Rattle.records.specs.Scan.{any}
+use Rattle.records.specs.Kinds.{width, Table, kindAt, kindNumbers, kindsOf, archiveKinds, archiveTable}
 use Rattle.records.specs.Cells.{slots, firstSlot, slotCount, offset, slot}
-use Rattle.records.specs.File.{count, beyond, notFinite, lengthReasons, formReasons}
-use Rattle.records.specs.Order.{orderReasons}
-use Rattle.records.specs.Archive.{sizesAt, archived, coefficients, parameters, sizes, kinds, cellValue, archiveOf, misscaled, valueReasons, scaledReasons, reasons, refusal}
+use Rattle.records.specs.File.{count, beyond, notFinite}
+use Rattle.records.specs.Reader.{formedNumber}
+use Rattle.records.specs.Archive.{reader, sizesAt, archived, coefficients, parameters, sizes, kinds, cellValue, archiveOf, misscaled, valueReasons, scaledReasons, reasons, refusal}
 use Rattle.records.proofs.ScanLaws.{any-same}
 use Rattle.records.proofs.Slots.{Inside, any-cells}
-use Rattle.records.proofs.Limits.{Below, archive-below, fewer-slots}
-use Rattle.records_sizes.specs.joints.Gathered.{sizesOf, tableOf}
-use Rattle.records_sheet.specs.joints.Sheet.{Small, firstSlots, sheetAfter}
-use Rattle.records_sheet.proofs.Sheets.{cell-value, length-sheet, below-small}
+use Rattle.records.proofs.ReaderLaws.{own-decides, accepted-formed}
+use Rattle.records_sheet.specs.joints.Sheet.{firstSlots, sheetAfter}
+use Rattle.records_sheet.proofs.Sheets.{cell-value, length-sheet}
 use Rattle.records_sheet_parts.specs.joints.Parts.{cellsAt, stackAt}
 use Rattle.records_sheet_parts.proofs.Read.{Flat, Stack, flat-slots, stack-slots, alone-cell, cells-read, stack-read, kind-starts, kind-on, kind-fits}
-use Rattle.records_form.proofs.FormLaws.{rawNumberBy}
+use Rattle.records_form.proofs.FormLaws.{FormedSizes, formed-sizes, sheet-from}
 use Rattle.records_archive_reader.specs.joints.Checks.{differs, inUnits, notScaled, misscaledIn, numbersRefusal}
-
--- the limits leave the kinds this many cells
-pub slot-count : slotCount archiveTable ≡ 449
-unfolding firstSlot total slots kindAt archiveKinds limits width
-slot-count = refl
+use Rattle.records.specs.declared.Shape.the-variants.{Archived}
 
 -- ---- what the sizes leave each kind: the scaled Φ, Φ_A and P are the kinds 11 to 13, W is 14, then come Φ, Φ_A, P and sigma2
 module _ (z : Sizes) where
@@ -153,22 +146,22 @@ module _ (s : List ℕ) (within : any (count s) (beyond (kinds s) s) ≡ false) 
 
   -- the number in a cell's slot
   slot-value : (k n r c : ℕ) → Inside (kindAt (kinds s) k) n r c → getD sheet (firstSlot (kinds s) k + offset (kindAt (kinds s) k) n r c) nan ≡ cellValue s k n r c
-  unfolding slot kindsOf
-  slot-value k n r c i = cell-value 2 (sizes s) s within L room k n r c nan i
+  unfolding slot
+  slot-value k n r c i = cell-value Archived (sizes s) s within L room k n r c nan i
 
   variance-read : getD sheet (firstSlot (kinds s) 18) nan ≡ archiveOf s .sigma2
-  unfolding kindsOf archiveOf
-  variance-read = alone-cell 2 (sizes s) s within L room 18 (variance-flat (sizes s))
+  unfolding archiveOf
+  variance-read = alone-cell Archived (sizes s) s within L room 18 (variance-flat (sizes s))
 
   archive-read : GivesArchive s sheet
-  unfolding kindsOf archiveOf sizes sizesAt stack
+  unfolding archiveOf sizes sizesAt stack
   archive-read =
       let z : Sizes = sizes s in
       record {
-        phi = cells-read 2 z s within L room 15 (coefficients s) (coefficients s) (phi-flat z);
-        phiA = cells-read 2 z s within L room 16 (coefficients s) (coefficients s) (phi-a-flat z);
-        w = cells-read 2 z s within L room 14 (parameters s) (parameters s) (w-flat z);
-        ps = stack-read 2 z s within L room 17 (parameters s) (coefficients s) (ps-stack z);
+        phi = cells-read Archived z s within L room 15 (coefficients s) (coefficients s) (phi-flat z);
+        phiA = cells-read Archived z s within L room 16 (coefficients s) (coefficients s) (phi-a-flat z);
+        w = cells-read Archived z s within L room 14 (parameters s) (parameters s) (w-flat z);
+        ps = stack-read Archived z s within L room 17 (parameters s) (coefficients s) (ps-stack z);
         sigma2 = variance-read;
       }
 
@@ -237,68 +230,36 @@ module _ (s : List ℕ) (within : any (count s) (beyond (kinds s) s) ≡ false) 
     unfolding numbersRefusal scaledReasons first
     numbers-judged = rw (variance-read, misscaled-read) (ap (λ (x : ℕ). cond (le (archiveOf s .sigma2) plusZero) 5 x) (one-number (misscaled s 11) (misscaled s 12) (misscaled s 13) 2))
 
--- ---- the number of an archive, by its length, order and form, and by what comes after them: this is file 2, in which specimens are of no account
-abbrev pub rawNumber : List ℕ → ℕ
-rawNumber s = rawNumberBy (kindsOf 2 (limits 1)) (tableOf 2 s) s
-
-refusal-is : (s : List ℕ) → refusal s ≡ cond (eqb (rawNumber s) 0) (cond (any (count s) (notFinite s)) 4 (cond (le (archiveOf s .sigma2) plusZero) 5 (first (scaledReasons s)))) (rawNumber s)
-unfolding refusal reasons lengthReasons orderReasons formReasons valueReasons scaledReasons first kindsOf archiveKinds limits sizesOf
-refusal-is s = first-append (lengthReasons s ++ (orderReasons s ++ formReasons archiveTable (kinds s) s)) (valueReasons s ++ scaledReasons s) refl
-
--- ---- what holds of an archive that is not refused, and of its sizes: coefficients 1 to 6, variance parameters 1 to 4. z: the sizes at hand
-pub record ArchiveSizes (s : List ℕ) (z : Sizes) : Type 0 where
-  pub few : (z .coefficients ≤ 6) × (z .parameters ≤ 4)
-  pub small : Small z
-  pub fit : slotCount (archiveKinds z) ≤ slotCount archiveTable
-  pub within : any (count s) (beyond (archiveKinds z) s) ≡ false
-
--- its form alone says so
-file-sizes : (s : List ℕ) → rawNumber s ≡ 0 → ArchiveSizes s (sizes s)
-unfolding lengthReasons orderReasons formReasons sizesOf kindsOf limits archiveKinds
-file-sizes s e =
-    let l : List Line = lengthReasons s ++ (orderReasons s ++ formReasons (kindsOf 2 (limits 1)) (tableOf 2 s) s) in
-    let n : NoneHolds l = first-none l refl e in
-    let b : Below (sizes s) (limits 0) = archive-below s (n 2 (lit≤ tt)) in
-    record { few = (b .coefficients, b .parameters); small = below-small (sizes s) 0 (omega arith) b; fit = fewer-slots (sizes s) (limits 0) b 2 kindNumbers; within = n 5 (lit≤ tt) }
-
-pub formed-sizes : (s : List ℕ) (z : Sizes) → rawNumber s ≡ 0 → z ≡ sizes s → ArchiveSizes s z
-formed-sizes s z h e = subst (ArchiveSizes s) (sym e) (file-sizes s h)
-
-accepted-formed : (s : List ℕ) → refusal s ≡ 0 → rawNumber s ≡ 0
-unfolding refusal reasons lengthReasons orderReasons formReasons kindsOf archiveKinds limits sizesOf
-accepted-formed s h = first-front (lengthReasons s ++ (orderReasons s ++ formReasons archiveTable (kinds s) s)) (valueReasons s ++ scaledReasons s) h
-
-pub archive-sizes-taken : (s : List ℕ) (z : Sizes) → refusal s ≡ 0 → z ≡ sizes s → ArchiveSizes s z
-archive-sizes-taken s z h e = formed-sizes s z (accepted-formed s h) e
+-- ---- an archive that is not refused: its sizes; z are those at hand
+pub archive-sizes-taken : (s : List ℕ) (z : Sizes) → refusal s ≡ 0 → z ≡ sizes s → FormedSizes Archived 1 s z
+unfolding refusal reasons
+archive-sizes-taken s z h e = formed-sizes Archived 1 (omega arith) (omega arith) s z (accepted-formed reader s h) e
 
 -- the sheet at hand, of L numbers
 pub gives-archive : (s : List ℕ) → refusal s ≡ 0 → (L : ℕ) → slotCount (kinds s) ≤ L → (xs : List Float) → xs ≡ sheetAfter L (kinds s) s (count s) → GivesArchive s xs
 gives-archive s h L room xs e = subst (GivesArchive s) (sym e) (archive-read s (archive-sizes-taken s (sizes s) h refl .within) L room)
 
--- ---- the number by who gives it
-module _ (s : List ℕ) where
-  pub file-refused : (n : ℕ) → n ≡ rawNumber s → (n ≡ 0 → ⊥) → n ≡ refusal s
-  file-refused n e h = sym (refusal-is s ∙ rw (← e, ne-eqb n 0 h))
+-- ---- the number of an archive of good form, by who gives it
+module _ (s : List ℕ) (formed : formedNumber reader s ≡ 0) where
+  own-reasons : refusal s ≡ first (valueReasons s ++ scaledReasons s)
+  unfolding refusal reasons
+  own-reasons = own-decides reader s formed
 
-  pub value-refused : rawNumber s ≡ 0 → any (count s) (notFinite s) ≡ true → 4 ≡ refusal s
-  value-refused e h = sym (refusal-is s ∙ rw (e, h))
+  pub value-refused : any (count s) (notFinite s) ≡ true → 4 ≡ refusal s
+  unfolding valueReasons first
+  value-refused h = sym (own-reasons ∙ rw h)
 
-  -- the sheet by the sizes at hand is the file's
-  pub sheet-from : (L : ℕ) (z : Sizes) (xs : List Float) → z ≡ sizes s → xs ≡ sheetAfter L (kindsOf 2 z) s (count s) → xs ≡ sheetAfter L (kinds s) s (count s)
-  unfolding kindsOf
-  sheet-from L z xs e f = f ∙ ap (λ (y : Sizes). sheetAfter L (archiveKinds y) s (count s)) e
-
-  -- and has room for what they leave each kind
-  pub sheet-room : (L : ℕ) (z : Sizes) (xs : List Float) → ArchiveSizes s z → slotCount archiveTable ≤ L → xs ≡ sheetAfter L (kindsOf 2 z) s (count s) → slotCount (archiveKinds z) ≤ length xs
-  sheet-room L z xs h l e = let f = h .fit in let n = ap length e ∙ length-sheet L (kindsOf 2 z) s (count s) in omega arith
-
-  pub numbers-refused : rawNumber s ≡ 0 → any (count s) (notFinite s) ≡ false → (L : ℕ) (z : Sizes) (xs : List Float) (n : ℕ) → slotCount archiveTable ≤ L → z ≡ sizes s → xs ≡ sheetAfter L (kindsOf 2 z) s (count s)
+  pub numbers-refused : any (count s) (notFinite s) ≡ false → (L : ℕ) (z : Sizes) (xs : List Float) (n : ℕ) → slotCount archiveTable ≤ L → z ≡ sizes s → xs ≡ sheetAfter L (kindsOf Archived z) s (count s)
       → n ≡ numbersRefusal z xs → n ≡ refusal s
-  unfolding sizes sizesAt
-  numbers-refused e v L z xs n l ez ex en =
-      let a = file-sizes s e in
+  unfolding sizes sizesAt valueReasons first
+  numbers-refused v L z xs n l ez ex en =
+      let a = formed-sizes Archived 1 (omega arith) (omega arith) s (sizes s) formed refl in
       let f = a .fit in
       en
-      ∙ ap₂ numbersRefusal ez (sheet-from L z xs ez ex)
-      ∙ numbers-judged s (a .within) L (omega arith) (a .few)
-      ∙ sym (refusal-is s ∙ rw (e, v))
+      ∙ ap₂ numbersRefusal ez (sheet-from Archived L s z xs ez ex)
+      ∙ numbers-judged s (a .within) L (omega arith) (a .coefficients, a .parameters)
+      ∙ sym (own-reasons ∙ rw v)
+
+-- the sheet has room for what the sizes leave each kind
+pub sheet-room : (s : List ℕ) (L : ℕ) (z : Sizes) (xs : List Float) → FormedSizes Archived 1 s z → slotCount archiveTable ≤ L → xs ≡ sheetAfter L (kindsOf Archived z) s (count s) → slotCount (archiveKinds z) ≤ length xs
+sheet-room s L z xs h l e = let f = h .fit in let n = ap length e ∙ length-sheet L (kindsOf Archived z) s (count s) in omega arith

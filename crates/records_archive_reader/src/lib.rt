@@ -10,6 +10,7 @@ ghost use Rattle.records.specs.File.{count};
 ghost use Rattle.records.specs.Archive.{kinds, refusal};
 ghost use Rattle.records_sheet.specs.joints.Sheet.{firstSlots, sheetAfter};
 ghost use Rattle.records_archive_reader.specs.joints.Checks.{differs, inUnits, notScaled, misscaledIn, numbersRefusal};
+use records::Shape;
 use records::Sizes;
 
 // The bits of two numbers differ: +0 and -0 do.
@@ -89,7 +90,7 @@ pub fn refusal(s: &[u8], flags: &mut [bool], sheet: &mut [f64]) -> u32
     ensures { λ r. ⌜ r ≡ refusal (now (s .entry)) ⌝ }
     ensures { λ r. ⌜ (r ≡ 0 → now (sheet .exit) ≡ sheetAfter (length (now (sheet .entry))) (kinds (now (s .entry))) (now (s .entry)) (count (now (s .entry)))) ⌝ }
 {
-    let formed = records_form::file_refusal(2, 1, s, flags);
+    let formed = records_form::file_refusal(Shape::Archived, 1, s, flags);
     if formed != 0 {
         return formed;
     }
@@ -97,7 +98,7 @@ pub fn refusal(s: &[u8], flags: &mut [bool], sheet: &mut [f64]) -> u32
         return 4;
     }
     let z = records_sizes::archive_sizes(s);
-    let firsts = records_sheet::first_slots(2, z);
-    records_sheet::fill_sheet(2, z, &firsts, s, sheet);
+    let firsts = records_sheet::first_slots(Shape::Archived, z);
+    records_sheet::fill_sheet(Shape::Archived, z, &firsts, s, sheet);
     numbers_refusal(z, &firsts, &sheet[..])
 }

@@ -20,30 +20,33 @@ use Rattle.records.specs.File.{count, present}
 use Rattle.records.specs.Archive as archive
 use Rattle.records.specs.SecondFile as second
 use Rattle.records.specs.ArchiveCall.{inResponseUnits, archiveRun}
+use Rattle.records.proofs.Limits.{slot-count}
 use Rattle.records_sheet.specs.joints.Sheet.{firstSlots, sheetAfter}
 use Rattle.records_sheet.proofs.Sheets.{length-sheet}
 use Rattle.records_sheet.proofs.Bounds.{cond-le}
 use Rattle.records_sheet_parts.specs.joints.Parts.{numbersAt, cellsAt, stackAt}
 use Rattle.records_sheet_parts.proofs.Read.{Flat, kind-starts, kind-fits, numbers-read, given-read, cells-read}
-use Rattle.records_archive_reader.proofs.ReaderLaws.{GivesArchive, archive-sizes-taken, gives-archive, w-fits, phi-fits, phi-a-fits, ps-fit, variance-fits, slot-count}
-use Rattle.records_second_file.proofs.SecondLaws.{slot-count as second-slots, SecondSizes, second-sizes, same-coefficients, second-formed, as-many, contrast-flat}
+use Rattle.records_form.proofs.FormLaws.{FormedSizes}
+use Rattle.records_archive_reader.proofs.ReaderLaws.{GivesArchive, archive-sizes-taken, gives-archive, w-fits, phi-fits, phi-a-fits, ps-fit, variance-fits}
+use Rattle.records_second_file.proofs.SecondLaws.{second-sizes, same-coefficients, as-many, contrast-flat}
 use Rattle.records_archive_test.specs.joints.Read.{ArchiveRead, SecondRead}
+use Rattle.records.specs.declared.Shape.the-variants.{Archived, Second}
 
 -- the sheets of the call have room for every cell that the limits allow
 pub archive-sheet : slotCount archiveTable ≤ 512
-archive-sheet = let e = slot-count in omega arith
+archive-sheet = let e = slot-count 1 Archived in omega arith
 
 pub tests-sheet : slotCount testTable ≤ 64
-tests-sheet = let e = second-slots in omega arith
+tests-sheet = let e = slot-count 1 Second in omega arith
 
 -- ---- what the sizes leave the second file's other kinds
 module _ (z : Sizes) where
-  beta-flat : Flat (kindAt (kindsOf 3 z) 8) (z .coefficients) 1
-  unfolding kindsOf kindAt testKinds width
+  beta-flat : Flat (kindAt (kindsOf Second z) 8) (z .coefficients) 1
+  unfolding kindAt testKinds width
   beta-flat = record { number = refl; row = refl; column = refl }
 
-  hypothesis-flat : Flat (kindAt (kindsOf 3 z) 10) (cond (z .hypothesis) (z .coefficients) 0) 1
-  unfolding kindsOf kindAt testKinds width
+  hypothesis-flat : Flat (kindAt (kindsOf Second z) 10) (cond (z .hypothesis) (z .coefficients) 0) 1
+  unfolding kindAt testKinds width
   hypothesis-flat = record { number = refl; row = refl; column = refl }
 
 -- ---- what the sheet xs of a second file gives. "(β_H is then 0)": where the file has none, or no contrast, no record names a cell of it
@@ -54,34 +57,33 @@ record GivesTests (t : List ℕ) (xs : List Float) : Type 0 where
 
 -- ---- a second file that its reader takes, on its sheet
 module _ (p : ℕ) (t : List ℕ) (xs : List Float) (h : SecondRead p t xs) where
-  own-tests : SecondSizes t (second.sizes t)
-  own-tests = second-sizes t (second.sizes t) (second-formed p t (h .taken)) refl
+  own-tests : FormedSizes Second 1 t (second.sizes t)
+  own-tests = second-sizes p t (h .taken) (second.sizes t) refl
 
   tests-given : GivesTests t xs
-  unfolding second.sizes second.beta second.betaH second.contrast kindsOf
+  unfolding second.sizes second.beta second.betaH second.contrast
   tests-given =
       let z : Sizes = second.sizes t in
       let w = own-tests .within in
       let room : slotCount (second.kinds t) ≤ length xs = let a = own-tests .fit in let b = h .room in omega arith in
       subst (GivesTests t) (sym (h .numbers))
       (record {
-        beta = numbers-read 3 z t w (length xs) room 6 8 (second.coefficients t) (beta-flat z);
-        betaH = given-read 3 z t w (length xs) room 6 10 (second.coefficients t) (present t 10 && present t 9) (hypothesis-flat z);
-        contrast = cells-read 3 z t w (length xs) room 9 (second.contrastRows t) (second.coefficients t) (contrast-flat z);
+        beta = numbers-read Second z t w (length xs) room 6 8 (second.coefficients t) (beta-flat z);
+        betaH = given-read Second z t w (length xs) room 6 10 (second.coefficients t) (present t 10 && present t 9) (hypothesis-flat z);
+        contrast = cells-read Second z t w (length xs) room 9 (second.contrastRows t) (second.coefficients t) (contrast-flat z);
       })
 
   -- with the sizes and the first slots that the code has at hand
   module _ (z : Sizes) (ez : z ≡ second.sizes t) where
-    pub tests-sizes : SecondSizes t z
-    tests-sizes = second-sizes t z (second-formed p t (h .taken)) ez
+    pub tests-sizes : FormedSizes Second 1 t z
+    tests-sizes = second-sizes p t (h .taken) z ez
 
     of-beta : z .coefficients ≡ p
     of-beta = sym (same-coefficients t z ez) ∙ as-many p t (h .taken)
 
-    module _ (fs : List ℕ) (ef : fs ≡ firstSlots (kindsOf 3 z)) where
-      on-sheet-of : (k r c : ℕ) → k < kindNumbers → Flat (kindAt (kindsOf 3 z) k) r c → getD fs k 0 + r * c ≤ length xs
-      unfolding kindsOf
-      on-sheet-of k r c l f = let a = tests-sizes .fit in let b = h .room in kind-fits (kindsOf 3 z) fs ef (length xs) (omega arith) k l r c f
+    module _ (fs : List ℕ) (ef : fs ≡ firstSlots (kindsOf Second z)) where
+      on-sheet-of : (k r c : ℕ) → k < kindNumbers → Flat (kindAt (kindsOf Second z) k) r c → getD fs k 0 + r * c ≤ length xs
+      on-sheet-of k r c l f = let a = tests-sizes .fit in let b = h .room in kind-fits (kindsOf Second z) fs ef (length xs) (omega arith) k l r c f
 
       pub estimates-fit : getD fs 8 0 + p ≤ length xs
       estimates-fit = let e = of-beta in let a = on-sheet-of 8 (z .coefficients) 1 (lit< tt) (beta-flat z) in omega arith
@@ -94,17 +96,17 @@ module _ (p : ℕ) (t : List ℕ) (xs : List Float) (h : SecondRead p t xs) wher
       hypothesis-fits g e =
           let q : g ≡ cond (z .hypothesis) (z .coefficients) 0 = e ∙ ap (λ (n : ℕ). cond (z .hypothesis) n 0) (sym of-beta) in
           let a = on-sheet-of 10 (cond (z .hypothesis) (z .coefficients) 0) 1 (lit< tt) (hypothesis-flat z) in
-          let b = cond-le (z .hypothesis) (z .coefficients) 6 (tests-sizes .few .0) in
+          let b = cond-le (z .hypothesis) (z .coefficients) 6 (tests-sizes .coefficients) in
           (omega arith, omega arith)
 
       -- the run is that of what the file says
       pub tests-run-is : (c : Cutoffs) (m : Scaled Marked) (b bh : List Float) (l : Rows) (g : ℕ) → b ≡ numbersAt xs 6 (getD fs 8 0) p → g ≡ cond (z .hypothesis) p 0 → bh ≡ numbersAt xs 6 (getD fs 10 0) g
           → l ≡ cellsAt xs (getD fs 9 0) (z .contrasts) p
           → runOf marks c m b bh (z .contrasts) l ≡ runOf marks c m (second.beta t) (second.betaH t) (second.contrastRows t) (second.contrast t)
-      unfolding kindsOf second.sizes
+      unfolding second.sizes
       tests-run-is c m b bh l g eb eg eh el =
           let y = tests-given in
-          rw (eb, eh, eg, el, kind-starts (kindsOf 3 z) fs ef 8 (lit< tt), kind-starts (kindsOf 3 z) fs ef 9 (lit< tt), kind-starts (kindsOf 3 z) fs ef 10 (lit< tt), ← of-beta, ez, y .beta, y .betaH, y .contrast)
+          rw (eb, eh, eg, el, kind-starts (kindsOf Second z) fs ef 8 (lit< tt), kind-starts (kindsOf Second z) fs ef 9 (lit< tt), kind-starts (kindsOf Second z) fs ef 10 (lit< tt), ← of-beta, ez, y .beta, y .betaH, y .contrast)
 
 -- what is lent holds the second file once its reader takes it
 pub second-taken : (p : ℕ) (t : List ℕ) (L : ℕ) (ys : List Float) → slotCount testTable ≤ L → second.refusal p t ≡ 0 → ys ≡ sheetAfter L (second.kinds t) t (count t) → SecondRead p t ys
@@ -134,9 +136,8 @@ module _ (s : List ℕ) (xs : List Float) (h : ArchiveRead s xs) (z : Sizes) (ez
       let b = h .room in
       gives-archive s (h .taken) (length xs) (omega arith) xs (h .numbers)
 
-  module _ (fs : List ℕ) (ef : fs ≡ firstSlots (kindsOf 2 z)) where
+  module _ (fs : List ℕ) (ef : fs ≡ firstSlots (kindsOf Archived z)) where
     firsts-are : fs ≡ firstSlots (archiveKinds z)
-    unfolding kindsOf
     firsts-are = ef
 
     pub inverse-fits : getD fs 14 0 + z .parameters * z .parameters ≤ length xs
@@ -155,7 +156,7 @@ module _ (s : List ℕ) (xs : List Float) (h : ArchiveRead s xs) (z : Sizes) (ez
     pub sigma2-stands : (getD fs 18 0 < length xs) × (getD fs 18 0 < 449)
     sigma2-stands =
         let a = archive-sizes-taken s z (h .taken) ez .fit in
-        let b = slot-count in
+        let b = slot-count 1 Archived in
         (variance-fits z fs firsts-are (length xs) own-room, variance-fits z fs firsts-are 449 (omega arith))
 
     -- the run is that of what the two files say

@@ -15,6 +15,7 @@ ghost use Rattle.records.specs.ArchiveCall.{archiveRun, fromArchiveNumber, from
 ghost use Rattle.records_archive_test.specs.joints.Read.{ArchiveRead, SecondRead};
 use arithmetic_cutoffs::Cutoffs;
 use arithmetic_cutoffs::document_cutoffs;
+use records::Shape;
 use records_answer_bytes::put_answer;
 use records_sheet_parts::cells_at;
 use records_sheet_parts::six_at;
@@ -42,7 +43,7 @@ fn tests_with(
     ensures { λ r. ⌜ now (refused .exit) ≡ runOf marks c (responseUnits p n phi «phi_a» ps w sigma2) (beta (now (t .entry))) (betaH (now (t .entry))) (contrastRows (now (t .entry))) (contrast (now (t .entry))) .refused ⌝ }
 {
     let z = records_sizes::second_sizes(t);
-    let firsts = records_sheet::first_slots(3, z);
+    let firsts = records_sheet::first_slots(Shape::Second, z);
     // β, the contrast and β_H start here.
     let estimates = firsts[8];
     let contrast = firsts[9];
@@ -81,7 +82,7 @@ fn tests_from(
     ensures { λ r. ⌜ now (refused .exit) ≡ archiveRun c (now (s .entry)) (now (t .entry)) .refused ⌝ }
 {
     let z = records_sizes::archive_sizes(s);
-    let firsts = records_sheet::first_slots(2, z);
+    let firsts = records_sheet::first_slots(Shape::Archived, z);
     let p = z.coefficients;
     let n = z.parameters;
     // W, Φ, Φ_A, each P and sigma2 start here.

@@ -90,11 +90,11 @@ module _ (lab s lent : List ℕ) where
   other-lent h = tells 1 lent (λ e. omega arith) (other-length call lab lent h)
 
   pub refused-table : length lent ≡ 7184 → badTable lab ≡ true → (14 ≡ archivingReturned 24 lab s lent) × (lent ≡ archivingWritten 24 lab s lent)
-  refused-table l bad = tells 14 lent (λ e. omega arith) (other-table call lab lent l bad)
+  refused-table l bad = tells 14 lent (λ e. omega arith) (other-table call lab lent refl l bad)
 
   pub own-call : length lent ≡ 7184 → badTable lab ≡ false → (c : Cutoffs) → c ≡ cutoffsIn lab → (n : ℕ) (bytes : List ℕ) → n ≡ seriesTold 24 c s → bytes ≡ seriesPut 24 c s lent
       → (n ≡ archivingReturned 24 lab s lent) × (bytes ≡ archivingWritten 24 lab s lent)
   unfolding told seriesRefusal
   own-call l ok c e n bytes q b =
-      let p = own-answer call lab lent l ok c e (seriesRefusal 24 c s) bytes refl b in
+      let p = own-answer call lab lent refl l ok c e (seriesRefusal 24 c s) bytes refl b in
       (q ∙ ap (λ (x : Cutoffs). cond (eqb (seriesRefusal 24 c s) 0) (length (archiveBytes (seriesArchive x s))) (seriesRefusal 24 c s)) e ∙ rw (p .0), p .1)

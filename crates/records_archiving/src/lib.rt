@@ -14,6 +14,7 @@ ghost use Rattle.records_sheet.specs.joints.Sheet.{firstSlots};
 ghost use Rattle.records_refusals.specs.joints.Room.{Room, SeriesRead, SeriesShort};
 use arithmetic_cutoffs::Cutoffs;
 use arithmetic_cutoffs::document_cutoffs;
+use records::Shape;
 use records::Sizes;
 use records_archive_bytes::put_archive;
 
@@ -70,7 +71,7 @@ fn adjust_and_put(
     ensures { λ _. ⌜ now (archive .exit) ≡ cond (eqb (seriesRefusal limit c (now (s .entry))) 0) (sets (now (archive .entry)) 0 (archiveBytes (seriesArchive c (now (s .entry))))) (now (archive .entry)) ⌝ }
 {
     let z = records_sizes::series_sizes(s);
-    let firsts = records_sheet::first_slots(0, z);
+    let firsts = records_sheet::first_slots(Shape::Series, z);
     let n = records_torn::shorten(z, &firsts, sheet);
     let blank = algebra_products::zeros();
     let mut phi_a = blank;

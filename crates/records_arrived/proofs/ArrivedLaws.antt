@@ -19,7 +19,8 @@ use Rattle.records.specs.File.{count, lengthReasons}
 use Rattle.records.specs.Order.{falls, orderReasons}
 use Rattle.records.specs.Series.{reasons, refusal}
 use Rattle.records.specs.KenwardRogerCall.{number, entries}
-use Rattle.records.proofs.Limits.{panel-slots}
+use Rattle.records.specs.declared.Shape.the-variants.{Series}
+use Rattle.records.proofs.Limits.{slot-count}
 use Rattle.records_order.proofs.KeyLaws.{falls-each}
 use Rattle.records_refusals.proofs.Length.{too-long}
 use Rattle.records_kenward_roger.proofs.Numbers.{early-number, no-entries}
@@ -42,7 +43,7 @@ fallen-refusal s h f = rw (h, f)
 
 -- one of more records than the panel's limits allow cells
 long-refusal : (s : List ℕ) → 16384 ≤ length s → falls s ≡ false → refusal 24 s ≡ 2
-long-refusal s h f = let e = panel-slots in too-long 24 (omega arith) s (omega arith) f
+long-refusal s h f = let e = slot-count 24 Series in too-long 24 (omega arith) s (omega arith) f
 
 -- ---- its number and its entries, by whether something need be kept
 module _ (c : Cutoffs) (a : Arrival) (kept : List ℕ) (n : ℕ) (q : n ≡ unkeptNumber a) where

@@ -18,9 +18,10 @@ use Rattle.records.proofs.Slots.{any-flat}
 use Rattle.records_sheet.specs.joints.Sheet.{sheetAfter}
 use Rattle.records_sheet_parts.proofs.Read.{Flat, flat-cell}
 use Rattle.records_contrast.specs.joints.Contrast.{nonzeros, zeroContrastIn}
+use Rattle.records.specs.declared.Shape.{Shape}
 
 -- call is the file's number, z its sizes
-module _ (call : ℕ) (z : Sizes) (s : List ℕ) (within : any (count s) (beyond (kindsOf call z) s) ≡ false) (N : ℕ) (room : slotCount (kindsOf call z) ≤ N) (flat : Flat (kindAt (kindsOf call z) 9) (z .contrasts) (z .coefficients)) where
+module _ (call : Shape) (z : Sizes) (s : List ℕ) (within : any (count s) (beyond (kindsOf call z) s) ≡ false) (N : ℕ) (room : slotCount (kindsOf call z) ≤ N) (flat : Flat (kindAt (kindsOf call z) 9) (z .contrasts) (z .coefficients)) where
   abbrev sheet : List Float
   sheet = sheetAfter N (kindsOf call z) s (count s)
 

@@ -26,6 +26,7 @@ use Rattle.records_sheet.proofs.Sheets.{firsts-at, ends-within}
 use Rattle.records_sheet_parts.specs.joints.Parts.{numbersAt, cellsAt, stackAt}
 use Rattle.records_sheet_parts.proofs.Read.{Flat, Stack, flat-slots, stack-slots, numbers-read, given-read, cells-read, stack-read}
 use Rattle.records_ddf.specs.joints.Gathered.{inputsFrom}
+use Rattle.records.specs.declared.Shape.the-variants.{Test}
 
 inputs-same : (p q n : ℕ) {l l' v v' a a' : Rows} {b b' h h' : List Float} {js js' : List Rows} → l ≡ l' → b ≡ b' → h ≡ h' → v ≡ v' → js ≡ js' → a ≡ a' → inputsOf p q n l b h v js a ≡ inputsOf p q n l' b' h' v' js' a'
 inputs-same p q n el eb eh ev ej ea = rw (el, eb, eh, ev, ej, ea)
@@ -116,16 +117,16 @@ module _ (z : Sizes) where
 -- ---- a file within its sizes, on a sheet of N numbers
 module _ (s : List ℕ) (within : any (count s) (beyond (kinds s) s) ≡ false) (N : ℕ) (room : slotCount (kinds s) ≤ N) where
   pub inputs-is : inputsFrom (sheetAfter N (kinds s) s (count s)) (sizes s) ≡ inputs s
-  unfolding inputsFrom inputs jacobians sizes kindsOf
+  unfolding inputsFrom inputs jacobians sizes
   inputs-is =
       let z : Sizes = sizes s in
       inputs-same (coefficients s) (contrastRows s) (parameters s)
-      (cells-read 1 z s within N room 9 (contrastRows s) (coefficients s) (contrast-flat z))
-      (numbers-read 1 z s within N room 6 8 (coefficients s) (estimates-flat z))
-      (given-read 1 z s within N room 6 10 (coefficients s) (z .hypothesis) (hypotheses-flat z))
-      (cells-read 1 z s within N room 30 (coefficients s) (coefficients s) (variance-flat z))
-      (stack-read 1 z s within N room 31 (parameters s) (coefficients s) (jacobians-stack z))
-      (cells-read 1 z s within N room 32 (parameters s) (parameters s) (parameters-flat z))
+      (cells-read Test z s within N room 9 (contrastRows s) (coefficients s) (contrast-flat z))
+      (numbers-read Test z s within N room 6 8 (coefficients s) (estimates-flat z))
+      (given-read Test z s within N room 6 10 (coefficients s) (z .hypothesis) (hypotheses-flat z))
+      (cells-read Test z s within N room 30 (coefficients s) (coefficients s) (variance-flat z))
+      (stack-read Test z s within N room 31 (parameters s) (coefficients s) (jacobians-stack z))
+      (cells-read Test z s within N room 32 (parameters s) (parameters s) (parameters-flat z))
 
   -- the test of the sheet and the sizes at hand
   pub outcome-is : (c : Cutoffs) (z : Sizes) (xs : List Float) → z ≡ sizes s → xs ≡ sheetAfter N (kinds s) s (count s) → test marks c (inputsFrom xs z) ≡ outcome c s

@@ -26,6 +26,7 @@ use tests::Entry;
 use tests_ddf::satterthwaite::satterthwaite_contrast_f_test;
 use tests_entries::no_entry;
 ghost use Rattle.algebra.specs.Kind.{marks};
+use records::Shape;
 
 // The number with which a file is refused before anything is computed; 0 where it is not, and then the lent sheet holds the file's numbers. The flags are all clear at first and the sheet is all +0, with a
 // slot for every cell that the limits allow.
@@ -35,7 +36,7 @@ fn refusal(s: &[u8], flags: &mut [bool], sheet: &mut [f64]) -> u32
     ensures { λ r. ⌜ r ≡ refusal (now (s .entry)) ⌝ }
     ensures { λ r. ⌜ (r ≡ 0 → now (sheet .exit) ≡ sheetAfter (length (now (sheet .entry))) (kinds (now (s .entry))) (now (s .entry)) (count (now (s .entry)))) ⌝ }
 {
-    let formed = records_form::file_refusal(1, 1, s, flags);
+    let formed = records_form::file_refusal(Shape::Test, 1, s, flags);
     if formed != 0 {
         return formed;
     }
@@ -43,8 +44,8 @@ fn refusal(s: &[u8], flags: &mut [bool], sheet: &mut [f64]) -> u32
         return 4;
     }
     let z = records_sizes::parameter_sizes(s);
-    let firsts = records_sheet::first_slots(1, z);
-    records_sheet::fill_sheet(1, z, &firsts, s, sheet);
+    let firsts = records_sheet::first_slots(Shape::Test, z);
+    records_sheet::fill_sheet(Shape::Test, z, &firsts, s, sheet);
     0
 }
 
@@ -87,7 +88,7 @@ pub fn judge(c: Cutoffs, s: &[u8], number: &mut u32) -> Entry
         return no_entry();
     }
     let z = records_sizes::parameter_sizes(s);
-    let firsts = records_sheet::first_slots(1, z);
+    let firsts = records_sheet::first_slots(Shape::Test, z);
     let mut refused = false;
     let e = test(c, &sheet, &firsts, z, &mut refused);
     if refused {

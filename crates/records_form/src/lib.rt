@@ -1,16 +1,15 @@
-// Whether a file is a rising list of records that its call reads: a length, the order, a kind, an unused field, an index, a cell twice, missing or beyond the sizes. File 0 is a Kenward and Roger series, 1 a
-// Satterthwaite test, 2 an archive, any other the second file that is lent with one.
+// Whether a file is a rising list of records that its call reads: a length, the order, a kind, an unused field, an index, a cell twice, missing or beyond the sizes. It may be any of the four files (`Shape`).
 ghost use mathlib.Core.Path.{_≡_};
 ghost use mathlib.Core.Bool.{false};
-ghost use mathlib.Core.List.{_++_};
 ghost use Prim.Native.Nat.{_≤_};
 ghost use lib.ListN.{length, replicate};
 ghost use Rattle.algebra.specs.Reasons.{first};
 ghost use Rattle.records.specs.Kinds.{kindsOf, limits};
 ghost use Rattle.records.specs.Cells.{slotCount};
-ghost use Rattle.records.specs.File.{lengthReasons, formReasons};
-ghost use Rattle.records.specs.Order.{orderReasons};
-ghost use Rattle.records_sizes.specs.joints.Gathered.{tableOf};
+ghost use Rattle.records.specs.File.{formReasons};
+ghost use Rattle.records.specs.Reader.{limitKinds, fileKinds, formedNumber};
+ghost use Rattle.records_sizes.specs.joints.Gathered.{readerOf};
+use records::Shape;
 use records_limits::any_bad;
 use records_limits::any_beyond;
 use records_sheet::any_missing;
@@ -18,9 +17,9 @@ use records_sheet::first_slots;
 use records_sheet::mark_cells;
 
 // The number 2 of records that its call does not read, whatever their order, with the limit of specimens w; 0 of any other. The lent flags are all clear at first.
-fn form_refusal(call: usize, w: usize, s: &[u8], flags: &mut [bool]) -> u32
+fn form_refusal(call: Shape, w: usize, s: &[u8], flags: &mut [bool]) -> u32
     requires { ⌜ (1 ≤ w) × (w ≤ 256) × (now flags ≡ replicate (length (now flags)) false) × (slotCount (kindsOf call (limits w)) ≤ length (now flags)) ⌝ }
-    ensures { λ r. ⌜ r ≡ first (formReasons (kindsOf call (limits w)) (tableOf call (now (s .entry))) (now (s .entry))) ⌝ }
+    ensures { λ r. ⌜ r ≡ first (formReasons (limitKinds (readerOf call w)) (fileKinds (readerOf call w) (now (s .entry))) (now (s .entry))) ⌝ }
 {
     if any_bad(call, records_kinds::limits(w), s) {
         return 2;
@@ -40,9 +39,9 @@ fn form_refusal(call: usize, w: usize, s: &[u8], flags: &mut [bool]) -> u32
 }
 
 // The number of a file by its length, its order and its form: 2, 12 and 2; 0 where none of them refuses it.
-pub fn file_refusal(call: usize, w: usize, s: &[u8], flags: &mut [bool]) -> u32
+pub fn file_refusal(call: Shape, w: usize, s: &[u8], flags: &mut [bool]) -> u32
     requires { ⌜ (1 ≤ w) × (w ≤ 256) × (now flags ≡ replicate (length (now flags)) false) × (slotCount (kindsOf call (limits w)) ≤ length (now flags)) ⌝ }
-    ensures { λ r. ⌜ r ≡ first (lengthReasons (now (s .entry)) ++ (orderReasons (now (s .entry)) ++ formReasons (kindsOf call (limits w)) (tableOf call (now (s .entry))) (now (s .entry)))) ⌝ }
+    ensures { λ r. ⌜ r ≡ formedNumber (readerOf call w) (now (s .entry)) ⌝ }
 {
     if s.len() % 16 != 0 {
         return 2;

@@ -44,6 +44,7 @@ use Rattle.records_series.proofs.Accepted.{limits as limits-of, sound-blocks}
 use Rattle.records_refusals.specs.joints.Room.{SeriesShort}
 use Rattle.records_refusals.proofs.RoomLaws.{accepted-below, accepted-room}
 use Rattle.records_kenward_roger.proofs.ShortRead.{flat-x, flat-z, flat-weight, kept-most, weightsKept, weights-most, firsts-rise, shortRead, x-rows, z-rows, weights-line, numbers-left, given-left, cells-left, alone-left}
+use Rattle.records.specs.declared.Shape.the-variants.{Series}
 
 -- ---- the kinds of a series that stay as they are, by their rows and columns
 module _ (s : List ℕ) where
@@ -122,27 +123,27 @@ module _ (w : ℕ) (s : List ℕ) (fs : List ℕ) (xs : List Float) (h : SeriesS
 
   theta-are : numbersAt sheet 3 (firstSlot (kinds s) 4) (thetas s) ≡ design s .theta
   unfolding design shortened asSent
-  theta-are = numbers-left s (facts .within) (length xs) room 3 4 (thetas s) (inl (omega arith, omega arith)) (flat-theta s)
+  theta-are = numbers-left s (facts .formed .within) (length xs) room 3 4 (thetas s) (inl (omega arith, omega arith)) (flat-theta s)
 
   phi-are : cellsAt sheet (firstSlot (kinds s) 6) (coefficients s) (coefficients s) ≡ phi s
   unfolding phi
-  phi-are = cells-left s (facts .within) (length xs) room 6 (coefficients s) (coefficients s) (inr (omega arith)) (flat-phi s)
+  phi-are = cells-left s (facts .formed .within) (length xs) room 6 (coefficients s) (coefficients s) (inr (omega arith)) (flat-phi s)
 
   sigma2-is : getD sheet (firstSlot (kinds s) 7) nan ≡ sigma2 s
-  sigma2-is = alone-left s (facts .within) (length xs) room 7 (inr (omega arith)) (flat-sigma2 s)
+  sigma2-is = alone-left s (facts .formed .within) (length xs) room 7 (inr (omega arith)) (flat-sigma2 s)
 
   beta-are : numbersAt sheet 6 (firstSlot (kinds s) 8) (coefficients s) ≡ beta s
   unfolding beta
-  beta-are = numbers-left s (facts .within) (length xs) room 6 8 (coefficients s) (inr (omega arith)) (flat-beta s)
+  beta-are = numbers-left s (facts .formed .within) (length xs) room 6 8 (coefficients s) (inr (omega arith)) (flat-beta s)
 
   contrast-are : cellsAt sheet (firstSlot (kinds s) 9) (contrastRows s) (coefficients s) ≡ contrast s
   unfolding contrast
-  contrast-are = cells-left s (facts .within) (length xs) room 9 (contrastRows s) (coefficients s) (inr (omega arith)) (flat-contrast s)
+  contrast-are = cells-left s (facts .formed .within) (length xs) room 9 (contrastRows s) (coefficients s) (inr (omega arith)) (flat-contrast s)
 
   -- "(β_H is then 0)": where the file has none, or no contrast, no record names a cell of it
   hypothesis-are : numbersAt sheet 6 (firstSlot (kinds s) 10) (hypotheses s) ≡ betaH s
   unfolding betaH
-  hypothesis-are = given-left s (facts .within) (length xs) room 6 10 (coefficients s) (present s 10 && present s 9) (inr (omega arith)) (flat-hypothesis s)
+  hypothesis-are = given-left s (facts .formed .within) (length xs) room 6 10 (coefficients s) (present s 10 && present s 9) (inr (omega arith)) (flat-hypothesis s)
 
   -- ---- the adjustment and the run from the parts
   part-is : (k r c : ℕ) → k < kindNumbers → Flat (kindAt (kinds s) k) r c → partOf fs xs k ≡ take (r * c) (drop (firstSlot (kinds s) k) sheet)
@@ -181,7 +182,7 @@ module _ (w : ℕ) (s : List ℕ) (fs : List ℕ) (xs : List Float) (h : SeriesS
   weights-lent =
       ap (λ (m : ℕ). take m (drop (getD fs 5 0) xs)) (just (getD fs 5 0) (weightsKept s))
       ∙ ap₂ (λ (q : List Float) (j : ℕ). take (weightsKept s) (drop j q)) (h .numbers) (starts-at 5 (omega arith))
-      ∙ weights-line s (facts .within) (length xs) room
+      ∙ weights-line s (facts .formed .within) (length xs) room
     where
       just : (a m : ℕ) → a + m - a ≡ m
       just a m = omega arith
@@ -205,8 +206,8 @@ module _ (w : ℕ) (s : List ℕ) (fs : List ℕ) (xs : List Float) (h : SeriesS
       let ws : List Float = weightsOf fs xs (weightsKept s) in
       let z : Rows = rowsAt (zColumns s) 0 left (zColumns s) (partOf fs xs 2) in
       let t : List Float = numbersAt xs 3 (getD fs 4 0) (thetas s) in
-      ap (λ (y : Rows). made y z ws t) (ap (λ (q : List Float). rowsAt (coefficients s) 0 left (coefficients s) q) ex ∙ x-rows s (facts .within) (length xs) room)
-      ∙ ap (λ (y : Rows). made (design s .x) y ws t) (ap (λ (q : List Float). rowsAt (zColumns s) 0 left (zColumns s) q) ez ∙ z-rows s (facts .within) (length xs) room)
+      ap (λ (y : Rows). made y z ws t) (ap (λ (q : List Float). rowsAt (coefficients s) 0 left (coefficients s) q) ex ∙ x-rows s (facts .formed .within) (length xs) room)
+      ∙ ap (λ (y : Rows). made (design s .x) y ws t) (ap (λ (q : List Float). rowsAt (zColumns s) 0 left (zColumns s) q) ez ∙ z-rows s (facts .formed .within) (length xs) room)
       ∙ ap (λ (y : List Float). made (design s .x) (design s .z) y t) weights-lent
       ∙ ap (λ (y : List Float). made (design s .x) (design s .z) (design s .weights) y) theta-lent
 
@@ -295,12 +296,11 @@ module _ (w : ℕ) (s : List ℕ) (z : Sizes) (fs : List ℕ) (xs : List Float) 
       omega arith
 
   pub start-within : (k : ℕ) → k ≤ 33 → (getD fs k 0 ≤ length xs) × (getD fs k 0 ≤ 553648128)
-  unfolding kindsOf
   start-within k l =
       let a = starts-at w s fs xs read k (omega arith) in
       let b : firstSlot (kinds s) k ≤ slotCount (kinds s) = firsts-rise (kinds s) k kindNumbers l in
       let d = room w s fs xs read in
-      let e : firstSlot (kinds s) k ≤ 553648128 = all-bound 0 (sizes s) (below-small (sizes s) w (h .most) (below w s fs xs read)) k l in
+      let e : firstSlot (kinds s) k ≤ 553648128 = all-bound Series (sizes s) (below-small (sizes s) w (h .most) (below w s fs xs read)) k l in
       (omega arith, omega arith)
 
   pub sigma2-place : getD fs 7 0 < length xs

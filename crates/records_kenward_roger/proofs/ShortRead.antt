@@ -32,6 +32,7 @@ use Rattle.records_sheet_parts.proofs.Read.{Flat, flat-slots, flat-cell, line-c
 use Rattle.records_torn.specs.joints.Packed.{keptIn, shortSheet}
 use Rattle.records_torn.proofs.ShortSheet.{length-short, short-other, short-x-cell, short-z-cell, short-weight-cell}
 use Rattle.records_refusals.proofs.RefusalLaws.{kept-on-sheet}
+use Rattle.records.specs.declared.Shape.the-variants.{Series}
 
 -- ---- a lent part of a list is a row, and the rows in its first places are a table, by what stands in each place
 lent-line : (a m : ℕ) (xs : List Float) (f : ℕ → Float) → a + m ≤ length xs → ((i : ℕ) → i < m → getD xs (a + i) nan ≡ f i) → take m (drop a xs) ≡ row plusZero m m f
@@ -119,7 +120,6 @@ module _ (s : List ℕ) (within : any (count s) (beyond (kinds s) s) ≡ false) 
 
   -- the specimens that stay by the sheet are those that stay by the file
   kept-are : keptIn (sizes s) whole ≡ ks
-  unfolding kindsOf
   kept-are = kept-on-sheet s within N room
 
   -- ---- X and Z: a kind k of c columns, of which row i is now that of the specimen that is kept at i
@@ -128,7 +128,7 @@ module _ (s : List ℕ) (within : any (count s) (beyond (kinds s) s) ≡ false) 
 
   rows-read : (k c : ℕ) → Flat (kindAt (kinds s) k) (specimens s) c → RowsKept k c
       → rowsAt c 0 (length ks) c (take (specimens s * c) (drop (firstSlot (kinds s) k) sheet)) ≡ table plusZero (length ks) c (length ks) c (λ i. cellValue s k (getD ks i 0))
-  unfolding RowsKept kindsOf
+  unfolding RowsKept
   rows-read k c f short = lent-rows (firstSlot (kinds s) k) (specimens s) (length ks) c sheet (λ i. cellValue s k (getD ks i 0)) (kept-most s) here
     where
       here : (i j : ℕ) → i < length ks → j < c → getD sheet (firstSlot (kinds s) k + i * c + j) nan ≡ cellValue s k (getD ks i 0) j
@@ -136,27 +136,27 @@ module _ (s : List ℕ) (within : any (count s) (beyond (kinds s) s) ≡ false) 
           let e = ap length kept-are in
           short i j (omega arith) hj
           ∙ ap (λ (q : List ℕ). getD whole (firstSlot (kinds s) k + getD q i 0 * c + j) nan) kept-are
-          ∙ flat-cell 0 (sizes s) s within N room k (specimens s) c (getD ks i 0) j f (kept-below s i hi) hj
+          ∙ flat-cell Series (sizes s) s within N room k (specimens s) c (getD ks i 0) j f (kept-below s i hi) hj
 
   pub x-rows : rowsAt (coefficients s) 0 (length (keptSpecimens (asSent s))) (coefficients s) (take (specimens s * coefficients s) (drop (firstSlot (kinds s) 1) (shortRead s N))) ≡ design s .x
-  unfolding RowsKept kindsOf sizes
+  unfolding RowsKept sizes
   x-rows = rows-read 1 (coefficients s) (flat-x s) (short-x-cell (sizes s) whole whole-room) ∙ sym (short-x s)
 
   pub z-rows : rowsAt (zColumns s) 0 (length (keptSpecimens (asSent s))) (zColumns s) (take (specimens s * zColumns s) (drop (firstSlot (kinds s) 2) (shortRead s N))) ≡ design s .z
-  unfolding RowsKept kindsOf sizes
+  unfolding RowsKept sizes
   z-rows = rows-read 2 (zColumns s) (flat-z s) (short-z-cell (sizes s) whole whole-room) ∙ sym (short-z s)
 
   -- ---- the weights
   -- weight i is now that of the specimen that is kept at i, and as many as are kept lie on the sheet
   weight-at : present s 5 ≡ true → (i : ℕ) → i < length ks → getD sheet (firstSlot (kinds s) 5 + i) nan ≡ cellValue s 5 (getD ks i 0) 0
-  unfolding kindsOf sizes
+  unfolding sizes
   weight-at e i l =
       let m = ap length kept-are in
       let b = kept-below s i l in
       let n : weightCount s ≡ specimens s = ap (λ (b : Bool). cond b (specimens s) 0) e in
       short-weight-cell (sizes s) whole whole-room e i (omega arith)
       ∙ ap (λ (q : List ℕ). getD whole (firstSlot (kinds s) 5 + getD q i 0) nan) kept-are
-      ∙ line-cell 0 (sizes s) s within N room 5 (weightCount s) (getD ks i 0) (flat-weight s) (omega arith)
+      ∙ line-cell Series (sizes s) s within N room 5 (weightCount s) (getD ks i 0) (flat-weight s) (omega arith)
 
   weights-fit : firstSlot (kinds s) 5 + weightsKept s ≤ length sheet
   weights-fit =
@@ -176,7 +176,6 @@ module _ (s : List ℕ) (within : any (count s) (beyond (kinds s) s) ≡ false) 
 
   -- ---- every other kind is as it was read
   unmoved : (k r c q : ℕ) → Unmoved k → Flat (kindAt (kinds s) k) r c → q < r * c → getD sheet (firstSlot (kinds s) k + q) nan ≡ getD whole (firstSlot (kinds s) k + q) nan
-  unfolding kindsOf
   unmoved k r c q o f l = short-other (sizes s) whole (firstSlot (kinds s) k + q) (⊎-elim (λ u. inl (between u)) (λ u. inr (after u)) o)
     where
       between : (3 ≤ k) × (k < 5) → (firstSlot (kinds s) 3 ≤ firstSlot (kinds s) k + q) × (firstSlot (kinds s) k + q < firstSlot (kinds s) 5)
@@ -207,19 +206,15 @@ module _ (s : List ℕ) (within : any (count s) (beyond (kinds s) s) ≡ false) 
 
   -- and they are what the file has: numbers in a row, those of a kind that may be absent wholly, cells in a table, and a number alone
   pub numbers-left : (C k m : ℕ) → Unmoved k → Flat (kindAt (kinds s) k) m 1 → numbersAt (shortRead s N) C (firstSlot (kinds s) k) m ≡ row plusZero C m (λ i. cellValue s k i 0)
-  unfolding kindsOf
-  numbers-left C k m o f = numbers-stay C k m o f ∙ numbers-read 0 (sizes s) s within N room C k m f
+  numbers-left C k m o f = numbers-stay C k m o f ∙ numbers-read Series (sizes s) s within N room C k m f
 
   pub given-left : (C k m : ℕ) (b : Bool) → Unmoved k → Flat (kindAt (kinds s) k) (cond b m 0) 1 → numbersAt (shortRead s N) C (firstSlot (kinds s) k) (cond b m 0) ≡ row plusZero C m (λ i. cellValue s k i 0)
-  unfolding kindsOf
-  given-left C k m b o f = numbers-stay C k (cond b m 0) o f ∙ given-read 0 (sizes s) s within N room C k m b f
+  given-left C k m b o f = numbers-stay C k (cond b m 0) o f ∙ given-read Series (sizes s) s within N room C k m b f
 
   pub cells-left : (k r c : ℕ) → Unmoved k → Flat (kindAt (kinds s) k) r c → cellsAt (shortRead s N) (firstSlot (kinds s) k) r c ≡ table plusZero 6 6 r c (cellValue s k)
-  unfolding kindsOf
-  cells-left k r c o f = cells-stay k r c o f ∙ cells-read 0 (sizes s) s within N room k r c f
+  cells-left k r c o f = cells-stay k r c o f ∙ cells-read Series (sizes s) s within N room k r c f
 
   pub alone-left : (k : ℕ) → Unmoved k → Flat (kindAt (kinds s) k) 1 1 → getD (shortRead s N) (firstSlot (kinds s) k) nan ≡ cellValue s k 0 0
-  unfolding kindsOf
   alone-left k o f =
       let e : firstSlot (kinds s) k ≡ firstSlot (kinds s) k + 0 = omega arith in
-      ap (λ (q : ℕ). getD sheet q nan) e ∙ unmoved k 1 1 0 o f (omega arith) ∙ ap (λ (q : ℕ). getD whole q nan) (sym e) ∙ alone-cell 0 (sizes s) s within N room k f
+      ap (λ (q : ℕ). getD sheet q nan) e ∙ unmoved k 1 1 0 o f (omega arith) ∙ ap (λ (q : ℕ). getD whole q nan) (sym e) ∙ alone-cell Series (sizes s) s within N room k f

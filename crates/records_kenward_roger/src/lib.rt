@@ -18,6 +18,7 @@ ghost use Rattle.records.specs.KenwardRogerCall.{adjusted, run, number, entries
 use adjustment_kr_vcov_adj::vcov_adj16_with_pw;
 use arithmetic_cutoffs::Cutoffs;
 use arithmetic_cutoffs::document_cutoffs;
+use records::Shape;
 use records::Sizes;
 use records_answer_bytes::put_answer;
 use records_answer_text::put_run;
@@ -169,7 +170,7 @@ fn run_of(
     ensures { λ r. ⌜ now (pulled .exit) ≡ specimensRun limit c (now (s .entry)) ⌝ }
 {
     let z = records_sizes::series_sizes(s);
-    let firsts = records_sheet::first_slots(0, z);
+    let firsts = records_sheet::first_slots(Shape::Series, z);
     let n = records_torn::shorten(z, &firsts, sheet);
     let blank = algebra_products::zeros();
     let mut phi_a = blank;

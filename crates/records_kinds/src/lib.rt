@@ -4,6 +4,7 @@ ghost use mathlib.Core.Bool.{cond};
 ghost use Rattle.records.specs.Kinds.{holds, width, indexOf, valueHolds, byRowAndColumn, byRow, byCount, alone, absentIsZero, blockKind, unread, kindAt, kenwardRogerKinds, satterthwaiteKinds, archiveKinds, testKinds, kindsOf, limits};
 use records::Field;
 use records::Kind;
+use records::Shape;
 use records::Sizes;
 use records::Value;
 
@@ -218,19 +219,15 @@ fn test_kind(z: Sizes, kind: u8) -> Kind
 }
 
 // What the sizes leave a kind of the file.
-pub fn kind_of(call: usize, z: Sizes, kind: u8) -> Kind
+pub fn kind_of(call: Shape, z: Sizes, kind: u8) -> Kind
     ensures { λ r. ⌜ r ≡ kindAt (kindsOf call z) kind ⌝ }
 {
-    if call == 0 {
-        return kenward_roger_kind(z, kind);
+    match call {
+        Shape::Series => kenward_roger_kind(z, kind),
+        Shape::Test => satterthwaite_kind(z, kind),
+        Shape::Archived => archive_kind(z, kind),
+        Shape::Second => test_kind(z, kind),
     }
-    if call == 1 {
-        return satterthwaite_kind(z, kind);
-    }
-    if call == 2 {
-        return archive_kind(z, kind);
-    }
-    test_kind(z, kind)
 }
 
 // The largest sizes that a file may have, w being the limit of specimens and of random columns.

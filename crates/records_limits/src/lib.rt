@@ -7,6 +7,7 @@ ghost use Rattle.records.specs.Scan.{any};
 ghost use Rattle.records.specs.Kinds.{kindsOf, valueHolds};
 ghost use Rattle.records.specs.File.{count, paddingOf, bitsOf, outOf, badRecord, beyond};
 use records::Kind;
+use records::Shape;
 use records::Sizes;
 use records_file::bits_at;
 use records_file::column_at;
@@ -51,7 +52,7 @@ fn bad_record(k: Kind, s: &[u8], i: usize) -> bool
 
 // Some record is bad: of a kind that the call does not read, with a nonzero unused field, or past a limit; the limits are sizes. Records rise by kind, so what the table says of the last one's kind is kept, and it is asked
 // again where the kind changes.
-pub fn any_bad(call: usize, limit: Sizes, s: &[u8]) -> bool
+pub fn any_bad(call: Shape, limit: Sizes, s: &[u8]) -> bool
     ensures { λ r. ⌜ r ≡ any (count (now (s .entry))) (badRecord (kindsOf call limit) (now (s .entry))) ⌝ }
 {
     let n = s.len() / 16;
@@ -73,7 +74,7 @@ pub fn any_bad(call: usize, limit: Sizes, s: &[u8]) -> bool
 }
 
 // Some record names a cell that the sizes do not leave its kind.
-pub fn any_beyond(call: usize, z: Sizes, s: &[u8]) -> bool
+pub fn any_beyond(call: Shape, z: Sizes, s: &[u8]) -> bool
     ensures { λ r. ⌜ r ≡ any (count (now (s .entry))) (beyond (kindsOf call z) (now (s .entry))) ⌝ }
 {
     let n = s.len() / 16;

@@ -11,22 +11,25 @@ use Rattle.algebra.specs.Reasons.{first}
 use Rattle.algebra.proofs.ReasonLaws.{Line, first-only}
 use Rattle.records.specs.declared.Sizes.{Sizes}
 use Rattle.records.specs.Scan.{any}
-use Rattle.records.specs.Kinds.{Table, kindsOf, limits, kenwardRoger}
+use Rattle.records.specs.Kinds.{Table, kindsOf, kenwardRoger}
 use Rattle.records.specs.Cells.{slotCount}
 use Rattle.records.specs.File.{count, kindOf, cellRow, cellColumn, cellCount, isCell, again, beyond, lengthReasons, formReasons}
 use Rattle.records.specs.Order.{falls, orderReasons}
-use Rattle.records.specs.Series.{sizes, refusal}
+use Rattle.records.specs.Reader.{limitKinds, fileKinds, formedNumber}
+use Rattle.records.specs.Series.{reader, sizes, refusal}
+use Rattle.records.proofs.ReaderLaws.{well-formed}
 use Rattle.records.proofs.ScanLaws.{any-none}
 use Rattle.records.proofs.Slots.{sized-inside, slot-cell}
-use Rattle.records_sizes.specs.joints.Gathered.{sizesOf, tableOf}
 use Rattle.records_sheet.specs.joints.Sheet.{slotOf}
 use Rattle.records_sheet.proofs.Sheets.{slot-of-fits}
 use Rattle.records_form.proofs.FormLaws.{sizes-fit}
 use Rattle.records_series.proofs.Pigeons.{pigeons}
-use Rattle.records_refusals.proofs.RefusalLaws.{rawNumber, formed, refusal-cases}
+use Rattle.records_refusals.proofs.RefusalLaws.{refusal-cases}
+use Rattle.records.specs.declared.Shape.{Shape}
+use Rattle.records.specs.declared.Shape.the-variants.{Series}
 
 -- no record beyond the sizes z of a call and no cell twice: as many records as cells at most
-pub few-records : (call : ℕ) (z : Sizes) (s : List ℕ) → any (count s) (beyond (kindsOf call z) s) ≡ false → any (count s) (again (kindsOf call z) s) ≡ false → count s ≤ slotCount (kindsOf call z)
+pub few-records : (call : Shape) (z : Sizes) (s : List ℕ) → any (count s) (beyond (kindsOf call z) s) ≡ false → any (count s) (again (kindsOf call z) s) ≡ false → count s ≤ slotCount (kindsOf call z)
 unfolding again
 few-records call z s within once = pigeons (slotCount t) (count s) (slotOf t s) below apart
   where
@@ -51,26 +54,25 @@ few-records call z s within once = pigeons (slotCount t) (count s) (slotOf t s) 
         false≢true (sym (none i j l h) ∙ sym c ∙ eq-eqb (slotOf t s i) (slotOf t s j) e)
 
 -- what refuses a rising file by its length or its form refuses it with 2
-raw-two : (w : ℕ) (s : List ℕ) → falls s ≡ false → (rawNumber w s ≡ 0 → ⊥) → rawNumber w s ≡ 2
+formed-two : (w : ℕ) (s : List ℕ) → falls s ≡ false → (formedNumber (reader w) s ≡ 0 → ⊥) → formedNumber (reader w) s ≡ 2
 unfolding lengthReasons orderReasons formReasons first
-raw-two w s r h = without ∙ first-only 2 asked refl (λ e. h (without ∙ e))
+formed-two w s r h = without ∙ first-only 2 asked refl (λ e. h (without ∙ e))
   where
     -- its list but for the order
     asked : List Line
-    asked = lengthReasons s ++ formReasons (kindsOf 0 (limits w)) (tableOf 0 s) s
+    asked = lengthReasons s ++ formReasons (limitKinds (reader w)) (fileKinds (reader w) s) s
 
-    without : rawNumber w s ≡ first asked
+    without : formedNumber (reader w) s ≡ first asked
     without = rw r
 
 pub too-long : (w : ℕ) → 1 ≤ w → (s : List ℕ) → 16 * slotCount (kenwardRoger w) < length s → falls s ≡ false → refusal w s ≡ 2
-unfolding kindsOf sizesOf
-too-long w some s l rises = refusal-cases w s ∙ go (eqb (rawNumber w s) 0) refl _
+too-long w some s l rises = refusal-cases w s ∙ go (eqb (formedNumber (reader w) s) 0) refl _
   where
-    go : (b : Bool) → eqb (rawNumber w s) 0 ≡ b → (n : ℕ) → cond b n (rawNumber w s) ≡ 2
+    go : (b : Bool) → eqb (formedNumber (reader w) s) 0 ≡ b → (n : ℕ) → cond b n (formedNumber (reader w) s) ≡ 2
     go true e n =
-        let f = formed w s (eqb-true (rawNumber w s) 0 e) in
-        let a = few-records 0 (sizes s) s (f .within) (f .once) in
-        let b = sizes-fit 0 w some s (f .good) in
+        let f = well-formed (reader w) s (eqb-true (formedNumber (reader w) s) 0 e) in
+        let a = few-records Series (sizes s) s (f .within) (f .once) in
+        let b = sizes-fit Series w some s (f .good) in
         let m = f .whole in
         absurd (omega arith)
-    go false e n = raw-two w s rises (eqb-false (rawNumber w s) 0 e)
+    go false e n = formed-two w s rises (eqb-false (formedNumber (reader w) s) 0 e)

@@ -11,6 +11,8 @@ ghost use Rattle.records.specs.Series.{kinds, refusal};
 ghost use Rattle.records_sheet.specs.joints.Sheet.{Small, firstSlots, sheetAfter};
 ghost use Rattle.records_refusals.specs.joints.Checks.{recordsRefusal, negatives, badWeightIn, allTornIn, sheetRefusal};
 ghost use Rattle.records_refusals.specs.joints.Room.{Room};
+ghost use Rattle.records.specs.declared.Shape.the-variants.{Series};
+use records::Shape;
 use records::Sizes;
 use records_block_limits::bad_size;
 use records_block_limits::misfit;
@@ -61,7 +63,7 @@ fn sheet_refusal(
     firsts: &[usize; 34],
     sheet: &[f64],
 ) -> u32
-    requires { ⌜ Small z × (z .blocks ≤ 3) × (now firsts ≡ firstSlots (kindsOf 0 z)) × (slotCount (kindsOf 0 z) ≤ length (now sheet)) ⌝ }
+    requires { ⌜ Small z × (z .blocks ≤ 3) × (now firsts ≡ firstSlots (kindsOf Series z)) × (slotCount (kindsOf Series z) ≤ length (now sheet)) ⌝ }
     requires { ⌜ ((b : ℕ) → (blockAt blocks b .effects ≤ 255) × (blockAt blocks b .groups ≤ 4294967295)) ⌝ }
     ensures { λ r. ⌜ r ≡ sheetRefusal z blocks (now (sheet .entry)) ⌝ }
 {
@@ -85,10 +87,10 @@ fn sheet_refusal(
 
 // Numbers 2, 12 and 13: by the file's length, its order and form, and its blocks' parameter counts. The lent flags are all clear at first.
 fn records_refusal(w: usize, s: &[u8], flags: &mut [bool]) -> u32
-    requires { ⌜ (1 ≤ w) × (w ≤ 256) × (now flags ≡ replicate (length (now flags)) false) × (slotCount (kindsOf 0 (limits w)) ≤ length (now flags)) ⌝ }
+    requires { ⌜ (1 ≤ w) × (w ≤ 256) × (now flags ≡ replicate (length (now flags)) false) × (slotCount (kindsOf Series (limits w)) ≤ length (now flags)) ⌝ }
     ensures { λ r. ⌜ r ≡ recordsRefusal w (now (s .entry)) ⌝ }
 {
-    let formed = records_form::file_refusal(0, w, s, flags);
+    let formed = records_form::file_refusal(Shape::Series, w, s, flags);
     if formed != 0 {
         return formed;
     }
@@ -113,8 +115,8 @@ pub fn refusal(w: usize, s: &[u8], flags: &mut [bool], sheet: &mut [f64]) -> u32
     if bad_size(blocks, z.blocks) {
         return 3;
     }
-    let firsts = records_sheet::first_slots(0, z);
-    records_sheet::fill_sheet(0, z, &firsts, s, sheet);
+    let firsts = records_sheet::first_slots(Shape::Series, z);
+    records_sheet::fill_sheet(Shape::Series, z, &firsts, s, sheet);
     let weights = firsts[5];
     if all_torn(z, &sheet[..], weights) {
         return 3;

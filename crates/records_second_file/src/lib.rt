@@ -9,6 +9,7 @@ ghost use Rattle.records.specs.Cells.{slotCount};
 ghost use Rattle.records.specs.File.{count};
 ghost use Rattle.records.specs.SecondFile.{kinds, refusal};
 ghost use Rattle.records_sheet.specs.joints.Sheet.{sheetAfter};
+use records::Shape;
 
 // The number with which it is refused, p being the archive's coefficients; 0 where it is not, and then the lent sheet holds its numbers. The flags are all clear at first and the sheet is all +0, with a slot
 // for every cell that the limits allow.
@@ -18,7 +19,7 @@ pub fn refusal(p: usize, t: &[u8], flags: &mut [bool], sheet: &mut [f64]) -> u32
     ensures { λ r. ⌜ r ≡ refusal p (now (t .entry)) ⌝ }
     ensures { λ r. ⌜ (r ≡ 0 → now (sheet .exit) ≡ sheetAfter (length (now (sheet .entry))) (kinds (now (t .entry))) (now (t .entry)) (count (now (t .entry)))) ⌝ }
 {
-    let formed = records_form::file_refusal(3, 1, t, flags);
+    let formed = records_form::file_refusal(Shape::Second, 1, t, flags);
     if formed != 0 {
         return formed;
     }
@@ -29,8 +30,8 @@ pub fn refusal(p: usize, t: &[u8], flags: &mut [bool], sheet: &mut [f64]) -> u32
     if records_file::any_not_finite(t) {
         return 4;
     }
-    let firsts = records_sheet::first_slots(3, z);
-    records_sheet::fill_sheet(3, z, &firsts, t, sheet);
+    let firsts = records_sheet::first_slots(Shape::Second, z);
+    records_sheet::fill_sheet(Shape::Second, z, &firsts, t, sheet);
     let contrast = firsts[9];
     if records_contrast::zero_contrast(z, &sheet[..], contrast) {
         return 8;

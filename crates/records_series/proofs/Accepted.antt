@@ -34,7 +34,7 @@ pub record Limits (w : ℕ) (s : List ℕ) : Type 0 where
 pub limits : (w : ℕ) → 1 ≤ w → (s : List ℕ) → AcceptedSeries w s → Limits w s
 unfolding sizes table.limits
 limits w l s a =
-    let h = series-below w l s (a .good) in
+    let h = series-below w l s (a .formed .good) in
     record {
       specimen = omega arith;
       specimens = h .specimens;

@@ -17,6 +17,7 @@ use Rattle.records.specs.Cells.{slots, firstSlot}
 use Rattle.records.proofs.ScanLaws.{total-more}
 use Rattle.records.proofs.Limits.{AllNumbered, each-numbered, each-file}
 use Rattle.records_sheet.specs.joints.Sheet.{Small}
+use Rattle.records.specs.declared.Shape.{Shape}
 
 pub record Widths (y : Kind) : Type 0 where
   pub number : width (y .count) ≤ 256
@@ -115,7 +116,7 @@ module _ (z : Sizes) (h : Small z) where
     ),
   )
 
-  pub widths : (call k : ℕ) → Widths (kindAt (kindsOf call z) k)
+  pub widths : (call : Shape) (k : ℕ) → Widths (kindAt (kindsOf call z) k)
   widths call k =
       each-file (λ T. Widths (kindAt (T z) k)) (widths-at (kenwardRogerKinds z) series-widths k) (widths-at (satterthwaiteKinds z) parameter-widths k) (widths-at (archiveKinds z) archive-widths k) (widths-at (testKinds z) second-widths k) call
 
@@ -128,7 +129,7 @@ unfolding slots
 slots-bound y w = let a : width (y .count) * width (y .row) ≤ 65536 = mul-le-mul (w .number) (w .row) in mul-le-mul a (w .column)
 
 -- ---- the first slots
-module _ (call : ℕ) (z : Sizes) (h : Small z) where
+module _ (call : Shape) (z : Sizes) (h : Small z) where
   pub first-bound : (k : ℕ) → firstSlot (kindsOf call z) k ≤ k * 16777216
   unfolding firstSlot total
   first-bound zero = omega arith

@@ -16,16 +16,17 @@ use Rattle.records_kinds.proofs.KnownKind.{Known}
 use Rattle.records_sheet.specs.joints.Sheet.{Small, firstSlots, slotOf}
 use Rattle.records_sheet.proofs.Sheets.{firsts-at}
 use Rattle.records_sheet.proofs.Bounds.{Widths, widths, all-bound}
+use Rattle.records.specs.declared.Shape.{Shape}
 
 -- what a loop has when it asks for the slot of record i: the first slots, a record within the sizes, its kind as read, and what the table says of that kind
-pub record AtRecord (call : ℕ) (z : Sizes) (fs s : List ℕ) (i kind l : ℕ) (k : Kind) : Type 0 where
+pub record AtRecord (call : Shape) (z : Sizes) (fs s : List ℕ) (i kind l : ℕ) (k : Kind) : Type 0 where
   pub small : Small z
   pub firsts : fs ≡ firstSlots (kindsOf call z)
   pub sized : beyond (kindsOf call z) s i ≡ false
   pub read : kind ≡ kindOf s i
   pub table : Known (kindsOf call z) (kindOf s i) l k
 
-module _ {call : ℕ} {z : Sizes} {fs s : List ℕ} {i kind l : ℕ} {k : Kind} (h : AtRecord call z fs s i kind l k) where
+module _ {call : Shape} {z : Sizes} {fs s : List ℕ} {i kind l : ℕ} {k : Kind} (h : AtRecord call z fs s i kind l k) where
   abbrev t : Table
   t = kindsOf call z
 

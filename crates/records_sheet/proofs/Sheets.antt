@@ -25,6 +25,7 @@ use Rattle.records_sheet.specs.joints.Sheet.{Small, firstSlots, slotOf, 
 use Rattle.records.proofs.ScanLaws.{or-true, any-none, any-same, last-more, last-same, total-more, total-le}
 use Rattle.records.proofs.Slots.{Inside, sized-inside, slot-below, slot-cell, any-cells}
 use Rattle.records.proofs.Limits.{Below, kind-below}
+use Rattle.records.specs.declared.Shape.{Shape}
 
 -- ---- a list into which each record stores a value at a place: what the last that stored at j stored there
 module _ {A : Type 0} (at : ℕ → ℕ) (v : ℕ → A) (z : A) (N : ℕ) where
@@ -96,7 +97,7 @@ module _ (N : ℕ) (t : Table) (s : List ℕ) where
       ∙ sym (fold-more 0 i (λ i xs. set xs (slotOf t s i) (valueOf s i)) (replicate N plusZero) (omega arith))
 
 -- ---- a file within the sizes z of a call: the flag of a cell says whether the file has it, and the sheet has its number
-module _ (call : ℕ) (z : Sizes) (s : List ℕ) (sized : any (count s) (beyond (kindsOf call z) s) ≡ false) (N : ℕ) (room : slotCount (kindsOf call z) ≤ N) where
+module _ (call : Shape) (z : Sizes) (s : List ℕ) (sized : any (count s) (beyond (kindsOf call z) s) ≡ false) (N : ℕ) (room : slotCount (kindsOf call z) ≤ N) where
   abbrev t : Table
   t = kindsOf call z
 

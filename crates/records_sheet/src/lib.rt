@@ -11,6 +11,7 @@ ghost use Rattle.records.specs.Cells.{slots, slotCount, offset};
 ghost use Rattle.records.specs.File.{count, rowOf, columnOf, countOf, outOf, beyond, again};
 ghost use Rattle.records_sheet.specs.joints.Sheet.{Small, firstSlots, flagsAfter, sheetAfter, gap, missingIn};
 use records::Kind;
+use records::Shape;
 use records::Sizes;
 use records_file::column_at;
 use records_file::count_at;
@@ -33,7 +34,7 @@ fn slots_of(k: Kind) -> usize
 }
 
 // The first slot of each kind, and the number of all slots after them.
-pub fn first_slots(call: usize, z: Sizes) -> [usize; 34]
+pub fn first_slots(call: Shape, z: Sizes) -> [usize; 34]
     requires { ⌜ Small z ⌝ }
     ensures { λ r. ⌜ r ≡ firstSlots (kindsOf call z) ⌝ }
 {
@@ -74,7 +75,7 @@ fn slot_at(k: Kind, first: usize, s: &[u8], i: usize) -> usize
 
 // Sets the flag of each cell that a record names, until one names a cell that an earlier one names. The lent flags are all clear at first; a file of more records than cells stops at the first that is
 // there already. Records rise by kind, so what the table says of the last one's kind is kept, and it is asked again where the kind changes.
-pub fn mark_cells(call: usize, z: Sizes, firsts: &[usize; 34], s: &[u8], flags: &mut [bool]) -> bool
+pub fn mark_cells(call: Shape, z: Sizes, firsts: &[usize; 34], s: &[u8], flags: &mut [bool]) -> bool
     requires { ⌜ Small z × (now firsts ≡ firstSlots (kindsOf call z)) × (any (count (now s)) (beyond (kindsOf call z) (now s)) ≡ false) ⌝ }
     requires { ⌜ (now flags ≡ replicate (length (now flags)) false) × (slotCount (kindsOf call z) ≤ length (now flags)) ⌝ }
     ensures { λ r. ⌜ r ≡ any (count (now (s .entry))) (again (kindsOf call z) (now (s .entry))) ⌝ }
@@ -101,7 +102,7 @@ pub fn mark_cells(call: usize, z: Sizes, firsts: &[usize; 34], s: &[u8], flags: 
 }
 
 // The number in each cell, +0 where no record names it. The lent sheet is all +0 at first. The table is asked only where the kind changes, as in `mark_cells`.
-pub fn fill_sheet(call: usize, z: Sizes, firsts: &[usize; 34], s: &[u8], sheet: &mut [f64])
+pub fn fill_sheet(call: Shape, z: Sizes, firsts: &[usize; 34], s: &[u8], sheet: &mut [f64])
     requires { ⌜ Small z × (now firsts ≡ firstSlots (kindsOf call z)) × (any (count (now s)) (beyond (kindsOf call z) (now s)) ≡ false) ⌝ }
     requires { ⌜ (now sheet ≡ replicate (length (now sheet)) plusZero) × (slotCount (kindsOf call z) ≤ length (now sheet)) ⌝ }
     ensures { λ _. ⌜ now (sheet .exit) ≡ sheetAfter (length (now (sheet .entry))) (kindsOf call z) (now (s .entry)) (count (now (s .entry))) ⌝ }
@@ -138,7 +139,7 @@ fn gap_in(flags: &[bool], at: usize, m: usize) -> bool
 }
 
 // Kind k misses a cell; where absent cells are zero it misses none.
-fn missing_in(call: usize, z: Sizes, firsts: &[usize; 34], flags: &[bool], k: u8) -> bool
+fn missing_in(call: Shape, z: Sizes, firsts: &[usize; 34], flags: &[bool], k: u8) -> bool
     requires { ⌜ Small z × (now firsts ≡ firstSlots (kindsOf call z)) × (slotCount (kindsOf call z) ≤ length (now flags)) × (k < kindNumbers) ⌝ }
     ensures { λ b. ⌜ b ≡ missingIn (kindsOf call z) (now (flags .entry)) k ⌝ }
 {
@@ -149,7 +150,7 @@ fn missing_in(call: usize, z: Sizes, firsts: &[usize; 34], flags: &[bool], k: u8
     gap_in(flags, firsts[k as usize], slots_of(kind))
 }
 
-pub fn any_missing(call: usize, z: Sizes, firsts: &[usize; 34], flags: &[bool]) -> bool
+pub fn any_missing(call: Shape, z: Sizes, firsts: &[usize; 34], flags: &[bool]) -> bool
     requires { ⌜ Small z × (now firsts ≡ firstSlots (kindsOf call z)) × (slotCount (kindsOf call z) ≤ length (now flags)) ⌝ }
     ensures { λ b. ⌜ b ≡ any kindNumbers (missingIn (kindsOf call z) (now (flags .entry))) ⌝ }
 {

@@ -23,6 +23,7 @@ use Rattle.records.proofs.ShortLaws.{row-ext}
 use Rattle.records_sheet.specs.joints.Sheet.{firstSlots, sheetAfter}
 use Rattle.records_sheet.proofs.Sheets.{cell-value, firsts-at, ends-within}
 use Rattle.records_sheet_parts.specs.joints.Parts.{numbersAt, cellsAt, stackAt}
+use Rattle.records.specs.declared.Shape.{Shape}
 
 -- ---- rows and tables
 -- a row of which nothing is filled, and one that is filled with what stands there
@@ -78,7 +79,7 @@ module _ (y : Table) (fs : List ℕ) (e : fs ≡ firstSlots y) where
     kind-fits r c f = kind-on (r * c) (flat-slots (kindAt y k) r c f)
 
 -- ---- a file within the sizes z of a call, on a sheet of N numbers
-module _ (call : ℕ) (z : Sizes) (s : List ℕ) (sized : any (count s) (beyond (kindsOf call z) s) ≡ false) (N : ℕ) (room : slotCount (kindsOf call z) ≤ N) where
+module _ (call : Shape) (z : Sizes) (s : List ℕ) (sized : any (count s) (beyond (kindsOf call z) s) ≡ false) (N : ℕ) (room : slotCount (kindsOf call z) ≤ N) where
   abbrev t : Table
   t = kindsOf call z
 

@@ -9,6 +9,7 @@ ghost use Rattle.records.specs.Parameters.{sizes as parameterSizes};
 ghost use Rattle.records.specs.Archive.{sizes as archiveSizes};
 ghost use Rattle.records.specs.SecondFile.{sizes as secondSizes};
 ghost use Rattle.records_sizes.specs.joints.Gathered.{sizesOf};
+use records::Shape;
 use records::Sizes;
 use records_file::column_at;
 use records_file::index;
@@ -142,17 +143,13 @@ pub fn second_sizes(s: &[u8]) -> Sizes
     }
 }
 
-pub fn sizes_of(call: usize, s: &[u8]) -> Sizes
+pub fn sizes_of(call: Shape, s: &[u8]) -> Sizes
     ensures { λ r. ⌜ r ≡ sizesOf call (now (s .entry)) ⌝ }
 {
-    if call == 0 {
-        return series_sizes(s);
+    match call {
+        Shape::Series => series_sizes(s),
+        Shape::Test => parameter_sizes(s),
+        Shape::Archived => archive_sizes(s),
+        Shape::Second => second_sizes(s),
     }
-    if call == 1 {
-        return parameter_sizes(s);
-    }
-    if call == 2 {
-        return archive_sizes(s);
-    }
-    second_sizes(s)
 }

@@ -17,40 +17,41 @@ use Rattle.records.proofs.KeptLaws.{kept-few, kept-all, kept-self}
 use Rattle.records_sheet.proofs.Sheets.{next-start, ends-within}
 use Rattle.records_torn.specs.joints.Packed.{tornAt, packedRows, keptIn, shortSheet}
 use Rattle.records_torn.proofs.PackedRows.{length-packed, packed-at, packed-other}
+use Rattle.records.specs.declared.Shape.the-variants.{Series}
 
 -- ---- where X, Z and the weights stand
 module _ (z : Sizes) where
   -- where kind k starts on the sheet
   abbrev start : ℕ → ℕ
-  start k = firstSlot (kindsOf 0 z) k
+  start k = firstSlot (kindsOf Series z) k
 
   -- Z follows X, and the blocks follow Z
   pub x-ends : start 1 + z .specimens * z .coefficients ≡ start 2
-  unfolding slots kindsOf kindAt kenwardRogerKinds width
-  x-ends = let a = next-start (kindsOf 0 z) 1 in omega arith
+  unfolding slots kindAt kenwardRogerKinds width
+  x-ends = let a = next-start (kindsOf Series z) 1 in omega arith
 
   pub z-ends : start 2 + z .specimens * z .columns ≡ start 3
-  unfolding slots kindsOf kindAt kenwardRogerKinds width
-  z-ends = let a = next-start (kindsOf 0 z) 2 in omega arith
+  unfolding slots kindAt kenwardRogerKinds width
+  z-ends = let a = next-start (kindsOf Series z) 2 in omega arith
 
   -- the weights follow the blocks and the thetas, and end within the sheet
   pub record WeightsStand : Type 0 where
     pub after : start 3 ≤ start 5
     pub onward : start 5 ≤ start 6
-    pub within : start 6 ≤ slotCount (kindsOf 0 z)
+    pub within : start 6 ≤ slotCount (kindsOf Series z)
 
   pub weights-stand : WeightsStand
   weights-stand =
-      let a = next-start (kindsOf 0 z) 3 in
-      let b = next-start (kindsOf 0 z) 4 in
-      let c = next-start (kindsOf 0 z) 5 in
-      let d = ends-within (kindsOf 0 z) 5 (omega arith) in
+      let a = next-start (kindsOf Series z) 3 in
+      let b = next-start (kindsOf Series z) 4 in
+      let c = next-start (kindsOf Series z) 5 in
+      let d = ends-within (kindsOf Series z) 5 (omega arith) in
       record { after = omega arith; onward = omega arith; within = omega arith }
 
   -- where there are weights there is one for each specimen
   pub weights-end : z .weighted ≡ true → start 5 + z .specimens ≡ start 6
-  unfolding slots kindsOf kindAt kenwardRogerKinds width
-  weights-end e = let a = next-start (kindsOf 0 z) 5 in let b = ap (λ (v : Bool). cond v (z .specimens) 0) e in omega arith
+  unfolding slots kindAt kenwardRogerKinds width
+  weights-end e = let a = next-start (kindsOf Series z) 5 in let b = ap (λ (v : Bool). cond v (z .specimens) 0) e in omega arith
 
   -- ---- the sheet xs of a series of sizes z
   module _ (xs : List Float) where
@@ -154,7 +155,7 @@ module _ (z : Sizes) where
     row-unweighted e a c i j l =
         ap (λ (l : List Float). getD l (a + i * c + j) nan) (short-unweighted e) ∙ ap (λ (k : ℕ). getD xs (a + k * c + j) nan) (sym (kept-in-self e i l))
 
-    module _ (room : slotCount (kindsOf 0 z) ≤ length xs) where
+    module _ (room : slotCount (kindsOf Series z) ≤ length xs) where
       -- row i of X is that of the specimen that is kept at i
       pub short-x-cell : (i j : ℕ) → i < length (keptIn z xs) → j < z .coefficients
           → getD (shortSheet z xs) (start 1 + i * z .coefficients + j) nan ≡ getD xs (start 1 + getD (keptIn z xs) i 0 * z .coefficients + j) nan

@@ -17,6 +17,7 @@ use Rattle.records_sheet.proofs.Sheets.{firsts-at}
 use Rattle.records_torn.specs.joints.Packed.{Packs, tornAt, packedRows, keptIn, shortSheet}
 use Rattle.records_torn.proofs.PackedRows.{packed-kept}
 use Rattle.records_torn.proofs.ShortSheet.{x-ends, z-ends, weights-stand, weights-end, kept-in-weighted, short-weighted}
+use Rattle.records.specs.declared.Shape.the-variants.{Series}
 
 -- rows that start no later than the weights, and end no later, can be packed: none of them starts after its specimen's weight
 pub packs-fit : {a c w n len : ℕ} → a ≤ w → a + n * c ≤ w + n → w + n ≤ len → Packs a c w n len
@@ -27,15 +28,15 @@ packs-fit {a} {c} {w} {n} {len} f l m = record { rows = omega arith; weighed = m
     go i h (suc d) l = let k : i * d ≤ n * d = mul-le-mul-right d (omega arith) in omega arith
 
 -- ---- a series with weights, whose kinds start at fs
-module _ (z : Sizes) (weighted : z .weighted ≡ true) (fs : List ℕ) (firsts : fs ≡ firstSlots (kindsOf 0 z)) where
-  starts-at : (k : ℕ) → k < 34 → getD fs k 0 ≡ firstSlot (kindsOf 0 z) k
-  starts-at k l = ap (λ (x : List ℕ). getD x k 0) firsts ∙ firsts-at (kindsOf 0 z) k l
+module _ (z : Sizes) (weighted : z .weighted ≡ true) (fs : List ℕ) (firsts : fs ≡ firstSlots (kindsOf Series z)) where
+  starts-at : (k : ℕ) → k < 34 → getD fs k 0 ≡ firstSlot (kindsOf Series z) k
+  starts-at k l = ap (λ (x : List ℕ). getD x k 0) firsts ∙ firsts-at (kindsOf Series z) k l
 
   -- X and Z end before the weights, and these within the sheet
   pub record SheetOrder : Type 0 where
     pub x : getD fs 1 0 + z .specimens * z .coefficients ≤ getD fs 5 0
     pub random : getD fs 2 0 + z .specimens * z .columns ≤ getD fs 5 0
-    pub weights : getD fs 5 0 + z .specimens ≤ slotCount (kindsOf 0 z)
+    pub weights : getD fs 5 0 + z .specimens ≤ slotCount (kindsOf Series z)
 
   pub sheet-order : SheetOrder
   sheet-order =

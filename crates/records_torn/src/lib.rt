@@ -9,6 +9,7 @@ ghost use Rattle.records.specs.Cells.{slotCount};
 ghost use Rattle.records.specs.Shortened.{keptBelow};
 ghost use Rattle.records_sheet.specs.joints.Sheet.{Small, firstSlots};
 ghost use Rattle.records_torn.specs.joints.Packed.{Packs, tornAt, packedRows, keptIn, shortSheet};
+ghost use Rattle.records.specs.declared.Shape.the-variants.{Series};
 use records::Sizes;
 
 // The `stride` numbers from `from` on are copied to `to`, which is not after them.
@@ -47,7 +48,7 @@ pub fn pack_rows(sheet: &mut [f64], at: usize, stride: usize, weights: usize, n:
 
 // The shortened series on its sheet, whose kinds start at `firsts`; returns how many specimens it has.
 pub fn shorten(z: Sizes, firsts: &[usize; 34], sheet: &mut [f64]) -> usize
-    requires { ⌜ Small z × (now firsts ≡ firstSlots (kindsOf 0 z)) × (slotCount (kindsOf 0 z) ≤ length (now sheet)) ⌝ }
+    requires { ⌜ Small z × (now firsts ≡ firstSlots (kindsOf Series z)) × (slotCount (kindsOf Series z) ≤ length (now sheet)) ⌝ }
     ensures { λ r. ⌜ (r ≡ length (keptIn z (now (sheet .entry)))) × (r ≤ z .specimens) ⌝ }
     ensures { λ _. ⌜ now (sheet .exit) ≡ shortSheet z (now (sheet .entry)) ⌝ }
 {

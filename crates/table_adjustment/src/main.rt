@@ -7,6 +7,7 @@ ghost use Rattle.records.specs.Series.{sizes, kinds};
 ghost use Rattle.records_sheet.specs.joints.Sheet.{firstSlots};
 ghost use Rattle.records_refusals.specs.joints.Room.{SeriesRead};
 use arithmetic_cutoffs::document_cutoffs;
+use records::Shape;
 
 // No series has more than m.
 fn at_most(n: usize, m: usize) -> usize
@@ -20,7 +21,7 @@ fn print_adjustment(file: &[u8], sheet: &mut [f64])
     requires { ⌜ SeriesRead 24 (now file) (sizes (now file)) (firstSlots (kinds (now file))) (now sheet) ⌝ }
 {
     let z = records_sizes::series_sizes(file);
-    let firsts = records_sheet::first_slots(0, z);
+    let firsts = records_sheet::first_slots(Shape::Series, z);
     let kept = records_torn::shorten(z, &firsts, sheet);
     let p = at_most(z.coefficients, 6);
     let n = at_most(z.thetas, 3) + 1;

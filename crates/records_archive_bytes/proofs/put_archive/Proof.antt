@@ -11,6 +11,7 @@ use Rattle.records.specs.Archive.{sizesAt}
 use Rattle.records_archive_bytes.proofs.FrontLaws.{narrow, kind-room, Front, front-none, front-more, front-all}
 use Rattle.records_archive_bytes.proofs.put_archive.Statement.{statement}
 use Rattle.records_archive_bytes.proofs.put_archive.Tie as tie
+use Rattle.records.specs.declared.Shape.the-variants.{Archived}
 
 abbrev Inv-loop : tie.InvT-loop
 Inv-loop out₀ p n phi phi-a ps w sigma2 z at₀ k₀ out at k = (k ≤ 33) × (z ≡ sizesAt p n) × (length out ≡ length out₀) × Front p n phi phi-a ps w sigma2 out₀ out k at
@@ -28,11 +29,10 @@ kind-of-requires : tie.Need-kind-of-requires Inv-loop μ-loop
 kind-of-requires c κs = tt
 
 put-kind-requires : tie.Need-put-kind-requires Inv-loop μ-loop
-unfolding kindsOf
 put-kind-requires c κs =
     let l = c .before .before .before in
     let b = l .before .before .before in
-    let e : c .kind-of .result ≡ kindAt (archiveKinds (sizesAt (b .args .p) (b .args .n))) (l .loop .k) = c .kind-of .ensures ∙ ap (λ (y : Sizes). kindAt (kindsOf 2 y) (l .loop .k)) (l .loop .inv .1) in
+    let e : c .kind-of .result ≡ kindAt (archiveKinds (sizesAt (b .args .p) (b .args .n))) (l .loop .k) = c .kind-of .ensures ∙ ap (λ (y : Sizes). kindAt (kindsOf Archived y) (l .loop .k)) (l .loop .inv .1) in
     let m = narrow (b .args .p) (b .args .n) (b .pre .0) (b .pre .1) (l .loop .k) in
     let r = kind-room (b .args .p) (b .args .n) (b .pre .0) (b .pre .1) (l .loop .k) (omega arith) in
     let q : slots (c .kind-of .result) ≡ slots (kindAt (archiveKinds (sizesAt (b .args .p) (b .args .n))) (l .loop .k)) = ap slots e in
@@ -46,13 +46,12 @@ loop-less : tie.Need-loop-less Inv-loop μ-loop
 loop-less c = omega arith
 
 loop-again : tie.Need-loop-again Inv-loop μ-loop
-unfolding kindsOf
 loop-again c =
     let p = c .before .before .put-kind in
     let d = c .before .before .before in
     let l = d .before .before .before in
     let g = l .before .before .before .args in
-    let e : d .kind-of .result ≡ kindAt (archiveKinds (sizesAt (g .p) (g .n))) (l .loop .k) = d .kind-of .ensures ∙ ap (λ (y : Sizes). kindAt (kindsOf 2 y) (l .loop .k)) (l .loop .inv .1) in
+    let e : d .kind-of .result ≡ kindAt (archiveKinds (sizesAt (g .p) (g .n))) (l .loop .k) = d .kind-of .ensures ∙ ap (λ (y : Sizes). kindAt (kindsOf Archived y) (l .loop .k)) (l .loop .inv .1) in
     let k : length (p .last .0) ≡ length (l .loop .out) = p .kept .0 in (
       omega arith,
       l .loop .inv .1,

@@ -1,5 +1,5 @@
 -- `records_archive_test::test` meets its contract.
-use mathlib.Core.Path.{sym, _∙_}
+use mathlib.Core.Path.{refl, sym, _∙_}
 use denote.Ref.{now}
 use Rattle.records.specs.CutoffTable.{builtInTable}
 use Rattle.records.proofs.CutoffLaws.{built-in-accepted, built-in-numbers}
@@ -32,7 +32,7 @@ unfolding fromArchiveNumber
 returns-2 c =
     let a = c .before .before .before .before .before .before .before .before .before .args in
     let f = c .before .before .fill-tests .ensures in
-    own-answer (testingCall (now (a .archive)) (now (a .tests))) builtInTable (now (a .answer)) (c .before .before .before .before .before .if1 .left) built-in-accepted _ (c .before .before .before .before .document-cutoffs .ensures ∙ sym built-in-numbers) _ _ (f .0) (f .1)
+    own-answer (testingCall (now (a .archive)) (now (a .tests))) builtInTable (now (a .answer)) refl (c .before .before .before .before .before .if1 .left) built-in-accepted _ (c .before .before .before .before .document-cutoffs .ensures ∙ sym built-in-numbers) _ _ (f .0) (f .1)
 
 pub test-spec : {M : Type 1} → statement M
 test-spec =

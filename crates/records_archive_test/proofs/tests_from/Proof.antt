@@ -39,29 +39,29 @@ cells-at-requires : tie.Need-cells-at-requires
 cells-at-requires c κs =
     let a = c .before .before .before .before .before .before .args in
     let g = c .before .before .before .before .before .before .pre in
-    let f = archive-sizes-taken (now (a .s)) _ (g .0 .taken) (c .before .archive-sizes .ensures) .few .1 in
+    let f = archive-sizes-taken (now (a .s)) _ (g .0 .taken) (c .before .archive-sizes .ensures) .parameters in
     (omega arith, omega arith, inverse-fits (now (a .s)) (now (a .sheet)) (g .0) _ (c .before .archive-sizes .ensures) _ (c .first-slots .ensures))
 
 cells-at-requires-2 : tie.Need-cells-at-requires-2
 cells-at-requires-2 c κs =
     let a = c .before .before .before .before .before .before .before .args in
     let g = c .before .before .before .before .before .before .before .pre in
-    let f = archive-sizes-taken (now (a .s)) _ (g .0 .taken) (c .before .before .archive-sizes .ensures) .few .0 in
+    let f = archive-sizes-taken (now (a .s)) _ (g .0 .taken) (c .before .before .archive-sizes .ensures) .coefficients in
     (f, f, square-fits (now (a .s)) (now (a .sheet)) (g .0) _ (c .before .before .archive-sizes .ensures) _ (c .before .first-slots .ensures))
 
 cells-at-requires-3 : tie.Need-cells-at-requires-3
 cells-at-requires-3 c κs =
     let a = c .before .before .before .before .before .before .before .before .args in
     let g = c .before .before .before .before .before .before .before .before .pre in
-    let f = archive-sizes-taken (now (a .s)) _ (g .0 .taken) (c .before .before .before .archive-sizes .ensures) .few .0 in
+    let f = archive-sizes-taken (now (a .s)) _ (g .0 .taken) (c .before .before .before .archive-sizes .ensures) .coefficients in
     (f, f, adjusted-fits (now (a .s)) (now (a .sheet)) (g .0) _ (c .before .before .before .archive-sizes .ensures) _ (c .before .before .first-slots .ensures))
 
 stack-at-requires : tie.Need-stack-at-requires
 stack-at-requires c κs =
     let a = c .before .before .before .before .before .before .before .before .before .args in
     let g = c .before .before .before .before .before .before .before .before .before .pre in
-    let f = archive-sizes-taken (now (a .s)) _ (g .0 .taken) (c .before .before .before .before .archive-sizes .ensures) .few in
-    (f .1, f .0, squares-fit (now (a .s)) (now (a .sheet)) (g .0) _ (c .before .before .before .before .archive-sizes .ensures) _ (c .before .before .before .first-slots .ensures))
+    let f = archive-sizes-taken (now (a .s)) _ (g .0 .taken) (c .before .before .before .before .archive-sizes .ensures) in
+    (f .parameters, f .coefficients, squares-fit (now (a .s)) (now (a .sheet)) (g .0) _ (c .before .before .before .before .archive-sizes .ensures) _ (c .before .before .before .first-slots .ensures))
 
 mul-sigma2 : tie.Need-mul-sigma2
 mul-sigma2 c =
@@ -80,8 +80,8 @@ tests-with-requires : tie.Need-tests-with-requires
 tests-with-requires c κs =
     let a = c .before .before .before .before .before .before .before .before .before .before .before .before .args in
     let g = c .before .before .before .before .before .before .before .before .before .before .before .before .pre in
-    let f = archive-sizes-taken (now (a .s)) _ (g .0 .taken) (c .before .before .before .before .before .before .before .archive-sizes .ensures) .few in
-    (f .1, f .0, subst (λ (p : ℕ). SecondRead p (now (a .t)) (now (a .numbers))) (sym (archive-p (now (a .s)) _ (c .before .before .before .before .before .before .before .archive-sizes .ensures))) (g .1))
+    let f = archive-sizes-taken (now (a .s)) _ (g .0 .taken) (c .before .before .before .before .before .before .before .archive-sizes .ensures) in
+    (f .parameters, f .coefficients, subst (λ (p : ℕ). SecondRead p (now (a .t)) (now (a .numbers))) (sym (archive-p (now (a .s)) _ (c .before .before .before .before .before .before .before .archive-sizes .ensures))) (g .1))
 
 returns : tie.Need-returns
 returns c =

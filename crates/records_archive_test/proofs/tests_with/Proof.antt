@@ -44,13 +44,13 @@ cells-at-requires : tie.Need-cells-at-requires
 cells-at-requires c κs =
     let a = c .before .before .before .before .before .before .before .args in
     let g = c .before .before .before .before .before .before .before .pre in
-    (tests-sizes (a .p) (now (a .t)) (now (a .numbers)) (g .2) _ (c .before .before .before .before .second-sizes .ensures) .few .1, g .1, contrast-rows-fit (a .p) (now (a .t)) (now (a .numbers)) (g .2) _ (c .before .before .before .before .second-sizes .ensures) _ (c .before .before .before .first-slots .ensures))
+    (tests-sizes (a .p) (now (a .t)) (now (a .numbers)) (g .2) _ (c .before .before .before .before .second-sizes .ensures) .contrasts, g .1, contrast-rows-fit (a .p) (now (a .t)) (now (a .numbers)) (g .2) _ (c .before .before .before .before .second-sizes .ensures) _ (c .before .before .before .first-slots .ensures))
 
 compute-kenward-roger-requires : tie.Need-compute-kenward-roger-requires
 compute-kenward-roger-requires c κs =
     let a = c .before .before .before .before .before .before .before .before .before .args in
     let g = c .before .before .before .before .before .before .before .before .before .pre in
-    (g .0, g .1, tests-sizes (a .p) (now (a .t)) (now (a .numbers)) (g .2) _ (c .before .before .before .before .before .before .second-sizes .ensures) .few .1)
+    (g .0, g .1, tests-sizes (a .p) (now (a .t)) (now (a .numbers)) (g .2) _ (c .before .before .before .before .before .before .second-sizes .ensures) .contrasts)
 
 returns : tie.Need-returns
 returns c =

@@ -11,36 +11,63 @@ use borrow.Author.Needs.{needs}
 use Rattle.records_archiving.proofs.adjust_and_put.Statement.{statement}
 use Rattle.records_archiving.proofs.adjust_and_put.Tie as tie
 
+-- ---- the stages of the code, each from the next that is named here: where a line is put in, one of these moves
+abbrev start : tie.After-series-sizes → tie.Start
+start c = c .before .before .before .before .before .before
+
+abbrev slots : tie.After-shorten → tie.After-first-slots
+slots c = c .before .before .before
+
+abbrev short : tie.After-count → tie.After-shorten
+short c = c .before .before .before .before .before .before .before .before .before .before .before
+
+abbrev run : tie.After-slice-known7 → tie.After-kenward-roger-modcomp-data
+run c = c .before .before .before .before
+
+abbrev accepted : tie.After-put-series-arg2 → tie.Else1
+accepted c = c .before .before .before .before .before .before
+
+abbrev put : tie.After-slice-known8 → tie.After-put-series
+put c = c .before .before
+
+-- the first of them, from further on
+abbrev start-of-slots : tie.After-first-slots → tie.Start
+start-of-slots c = start (c .before)
+
+abbrev start-of-run : tie.After-count → tie.Start
+start-of-run c = start-of-slots (slots (short c))
+
+-- ---- what holds at them
 series-sizes-requires : tie.Need-series-sizes-requires
 series-sizes-requires c κs = search needs
 
 first-slots-requires : tie.Need-first-slots-requires
 first-slots-requires c κs =
-    let a = c .before .before .before .before .before .before .args in
-    let g = c .before .before .before .before .before .before .pre .0 .0 in
+    let a = start c .args in
+    let g = start c .pre .0 .0 in
     subst Small (sym (c .series-sizes .ensures)) (accepted-small (a .limit) (g .some) (now (a .s)) (g .taken) (g .most))
 
 -- the series is read, and then its torn specimens are left out
-as-read : (c : tie.After-first-slots) → SeriesRead (c .before .before .before .before .before .before .before .args .limit) (now (c .before .before .before .before .before .before .before .args .s)) (c .before .series-sizes .result) (c .first-slots .result) (now (c .before .before .before .before .before .before .before .args .sheet))
+as-read : (c : tie.After-first-slots) → let a = start-of-slots c .args in SeriesRead (a .limit) (now (a .s)) (c .before .series-sizes .result) (c .first-slots .result) (now (a .sheet))
 as-read c =
-    let a = c .before .before .before .before .before .before .before .args in
-    at-hand (a .limit) (now (a .s)) _ _ (now (a .sheet)) (c .before .before .before .before .before .before .before .pre .0 .0) (c .before .series-sizes .ensures) (c .first-slots .ensures)
+    let a = start-of-slots c .args in
+    at-hand (a .limit) (now (a .s)) _ _ (now (a .sheet)) (start-of-slots c .pre .0 .0) (c .before .series-sizes .ensures) (c .first-slots .ensures)
 
 shorten-requires : tie.Need-shorten-requires
 shorten-requires c κs = can-shorten _ _ _ _ _ (as-read (c .before .before))
 
-as-short : (c : tie.After-shorten) → SeriesShort (c .before .before .before .before .before .before .before .before .before .before .args .limit) (now (c .before .before .before .before .before .before .before .before .before .before .args .s)) (c .before .before .before .before .series-sizes .result) (c .before .before .before .first-slots .result) (c .shorten .last .1 .1 .0)
-as-short c = series-short _ _ _ _ _ (as-read (c .before .before .before)) _ (c .shorten .ensures .1)
+as-short : (c : tie.After-shorten) → let b = slots c in let a = start-of-slots b .args in SeriesShort (a .limit) (now (a .s)) (b .before .series-sizes .result) (b .first-slots .result) (c .shorten .last .1 .1 .0)
+as-short c = series-short _ _ _ _ _ (as-read (slots c)) _ (c .shorten .ensures .1)
 
 -- as many specimens are left as are run
-left-run : (c : tie.After-shorten) → c .shorten .result ≡ design (now (c .before .before .before .before .before .before .before .before .before .before .args .s)) .n
-left-run c = kept-run _ _ _ _ _ (as-read (c .before .before .before)) _ (c .shorten .ensures .0 .0)
+left-run : (c : tie.After-shorten) → c .shorten .result ≡ design (now (start-of-slots (slots c) .args .s)) .n
+left-run c = kept-run _ _ _ _ _ (as-read (slots c)) _ (c .shorten .ensures .0 .0)
 
 zeros-requires : tie.Need-zeros-requires
 zeros-requires c κs = search needs
 
 kenward-roger-modcomp-data-requires : tie.Need-kenward-roger-modcomp-data-requires
-kenward-roger-modcomp-data-requires c κs = let g = c .before .before .before .before .before .before .before .before .before .before .before .before .before .before .before .before .before .before .before .before .before .pre in (as-short (c .before .before .before .before .before .before .before .before .before .before .before), left-run (c .before .before .before .before .before .before .before .before .before .before .before), g .1 .0, g .1 .1)
+kenward-roger-modcomp-data-requires c κs = let g = start-of-run c .pre in (as-short (short c), left-run (short c), g .1 .0, g .1 .1)
 
 same-length : tie.Need-same-length
 same-length c = search needs
@@ -53,15 +80,18 @@ same-length-3 c = search needs
 
 returns : tie.Need-returns
 returns c =
-    let a = c .before .before .before .before .before .before .before .before .before .before .before .before .before .before .before .before .before .before .before .before .before .before .before .before .before .before .before .args in
-    let g = c .before .before .before .before .before .before .before .before .before .before .before .before .before .before .before .before .before .before .before .before .before .before .before .before .before .before .before .pre in
-    adjustment-refuses (a .limit) (a .c) (now (a .s)) (now (a .archive)) (g .0 .0 .taken) _ (c .before .before .before .before .before .kenward-roger-modcomp-data .ensures .0) (c .if1 .taken)
+    let r = run (c .before) in
+    let b = start-of-run (r .before) in
+    let a = b .args in
+    adjustment-refuses (a .limit) (a .c) (now (a .s)) (now (a .archive)) (b .pre .0 .0 .taken) _ (r .kenward-roger-modcomp-data .ensures .0) (c .if1 .taken)
 
 put-series-requires : tie.Need-put-series-requires
 put-series-requires c κs =
-    let r = c .before .before .before .before .before .before .before .before .before .before .before .kenward-roger-modcomp-data .ensures in
-    let h = c .before .before .before .before .before .before .if1 .left in
-    ((as-short (c .before .before .before .before .before .before .before .before .before .before .before .before .before .before .before .before .before .before .before .before .before .before .before), c .before .before .before .before .before .before .before .before .before .before .before .before .before .before .before .before .before .before .before .before .before .before .before .before .before .before .before .before .before .before .before .before .before .pre .0 .1), (r .1 .0 ∙ accepted-yes _ _ _ h, r .1 .1 .0 ∙ accepted-yes _ _ _ h, r .1 .1 .1 .0 ∙ accepted-yes _ _ _ h))
+    let e = accepted c in
+    let r = run (e .before) in
+    let q = r .kenward-roger-modcomp-data .ensures in
+    let h = e .if1 .left in
+    ((as-short (short (r .before)), start-of-run (r .before) .pre .0 .1), (q .1 .0 ∙ accepted-yes _ _ _ h, q .1 .1 .0 ∙ accepted-yes _ _ _ h, q .1 .1 .1 .0 ∙ accepted-yes _ _ _ h))
 
 same-length-4 : tie.Need-same-length-4
 same-length-4 c = search needs
@@ -77,11 +107,14 @@ same-length-7 c = search needs
 
 returns-2 : tie.Need-returns-2
 returns-2 c =
-    let a = c .before .before .before .before .before .before .before .before .before .before .before .before .before .before .before .before .before .before .before .before .before .before .before .before .before .before .before .before .before .before .before .before .before .before .before .before .args in
-    let g = c .before .before .before .before .before .before .before .before .before .before .before .before .before .before .before .before .before .before .before .before .before .before .before .before .before .before .before .before .before .before .before .before .before .before .before .before .pre in
-    let z = sym (c .before .before .before .before .before .before .before .before .before .before .before .before .before .before .kenward-roger-modcomp-data .ensures .0) ∙ c .before .before .before .before .before .before .before .before .before .if1 .left in
-    let q = c .before .before .put-series .ensures in
-    archives (a .limit) (a .c) (now (a .s)) (now (a .archive)) (g .0 .0 .taken) _ _ z (q .0) (q .1)
+    let p = put c in
+    let e = accepted (p .before) in
+    let r = run (e .before) in
+    let b = start-of-run (r .before) in
+    let a = b .args in
+    let z = sym (r .kenward-roger-modcomp-data .ensures .0) ∙ e .if1 .left in
+    let q = p .put-series .ensures in
+    archives (a .limit) (a .c) (now (a .s)) (now (a .archive)) (b .pre .0 .0 .taken) _ _ z (q .0) (q .1)
 
 pub adjust-and-put-spec : {M : Type 1} → statement M
 adjust-and-put-spec =

@@ -2,7 +2,8 @@
 use native.Mathlib.Omega.{arith}
 use mathlib.Core.Path.{refl}
 use lib.Ieee.{ofBits}
-use Rattle.records.proofs.Limits.{panel-slots}
+use Rattle.records.specs.declared.Shape.the-variants.{Series}
+use Rattle.records.proofs.Limits.{slot-count}
 use borrow.Author.Needs.{needs}
 use Rattle.records_archiving.proofs.archive_panel.Statement.{statement}
 use Rattle.records_archiving.proofs.archive_panel.Tie as tie
@@ -22,7 +23,7 @@ slice-aggregate-archive-series-4 c = search needs
 archive-series-requires : tie.Need-archive-series-requires
 unfolding ofBits
 archive-series-requires c κs =
-    let e = panel-slots in
+    let e = slot-count 24 Series in
     (record { some = omega arith; most = omega arith; clear = refl; blank = refl; flagged = omega arith; written = omega arith }, omega arith, omega arith, c .before .before .before .before .before .before .before .pre)
 
 same-length : tie.Need-same-length

@@ -10,14 +10,17 @@ use Rattle.records.specs.File.{count}
 use Rattle.records.specs.Parameters.{kinds, refusal}
 use Rattle.records.specs.SatterthwaiteCall.{outcome as fileOutcome}
 use Rattle.records_sheet.specs.joints.Sheet.{sheetAfter}
+use Rattle.records.proofs.Limits.{slot-count}
 use Rattle.records_sheet.proofs.Sheets.{length-sheet}
+use Rattle.records_form.proofs.FormLaws.{FormedSizes}
 use Rattle.records_ddf.specs.joints.Gathered.{inputsFrom}
 use Rattle.records_ddf.proofs.Inputs.{outcome-is}
-use Rattle.records_ddf.proofs.Judged.{slot-count, AcceptedSizes, accepted-sizes, judged-early, judged-late, judged-taken}
+use Rattle.records_ddf.proofs.Judged.{accepted-sizes, judged-early, judged-late, judged-taken}
 use borrow.Author.Needs.{needs}
 use Rattle.records_ddf.proofs.judge.Statement.{statement}
 use Rattle.records_ddf.proofs.judge.Tie as tie
 use Rattle.algebra.specs.Kind.{marks}
+use Rattle.records.specs.declared.Shape.the-variants.{Test}
 
 -- src/lib.rt:81:28
 slice-aggregate-refusal : tie.Need-slice-aggregate-refusal
@@ -31,7 +34,7 @@ slice-aggregate-refusal-2 c = search needs
 refusal-requires : tie.Need-refusal-requires
 unfolding ofBits
 refusal-requires c κs =
-    let h = slot-count in
+    let h = slot-count 1 Test in
     ((refl, omega arith), (refl, omega arith))
 
 -- src/lib.rt:84:9
@@ -50,7 +53,7 @@ parameter-sizes-requires c κs = search needs
 accepted : (c : tie.Else1) → refusal (now (c .before .before .before .before .before .before .before .args .s)) ≡ 0
 accepted c = sym (c .before .before .before .refusal .ensures .0) ∙ c .if1 .left
 
-sizes-at-hand : (c : tie.After-parameter-sizes) → AcceptedSizes (now (c .before .before .before .before .before .before .before .before .args .s)) (c .parameter-sizes .result)
+sizes-at-hand : (c : tie.After-parameter-sizes) → FormedSizes Test 1 (now (c .before .before .before .before .before .before .before .before .args .s)) (c .parameter-sizes .result)
 sizes-at-hand c = accepted-sizes _ _ (accepted (c .before)) (c .parameter-sizes .ensures)
 
 -- src/lib.rt:87:18
@@ -66,14 +69,13 @@ sheet-at-hand c = c .before .before .before .refusal .ensures .1 (c .if1 .left)
 
 -- src/lib.rt:89:9
 test-requires : tie.Need-test-requires
-unfolding kindsOf
 test-requires c κs =
     let d = c .before .before .before .before in
     let t = sizes-at-hand d in
     let f = t .fit in
-    let h = slot-count in
+    let h = slot-count 1 Test in
     let e = ap length (sheet-at-hand (d .before)) ∙ length-sheet 256 (kinds (now (d .before .before .before .before .before .before .before .before .args .s))) (now (d .before .before .before .before .before .before .before .before .args .s)) (count (now (d .before .before .before .before .before .before .before .before .args .s))) in
-    (t .few, (c .before .before .before .first-slots .ensures, omega arith))
+    ((t .coefficients, t .contrasts, t .parameters), (c .before .before .before .first-slots .ensures, omega arith))
 
 -- what was tested is what the file sends
 outcome-at-hand : (c : tie.After-test) → test marks (c .before .before .before .before .before .before .before .before .before .before .before .before .before .args .c) (inputsFrom (c .before .before .before .before .before .before .before .before .before .refusal .last .1 .1 .0) (c .before .before .before .before .before .parameter-sizes .result)) ≡ fileOutcome (c .before .before .before .before .before .before .before .before .before .before .before .before .before .args .c) (now (c .before .before .before .before .before .before .before .before .before .before .before .before .before .args .s))
@@ -81,7 +83,7 @@ outcome-at-hand c =
     let s = now (c .before .before .before .before .before .before .before .before .before .before .before .before .before .args .s) in
     let t = accepted-sizes s _ (accepted (c .before .before .before .before .before .before)) refl in
     let f = t .fit in
-    let h = slot-count in
+    let h = slot-count 1 Test in
     outcome-is s (t .within) 256 (omega arith) (c .before .before .before .before .before .before .before .before .before .before .before .before .before .args .c) _ _ (c .before .before .before .before .before .parameter-sizes .ensures) (sheet-at-hand (c .before .before .before .before .before .before))
 
 -- src/lib.rt:92:9

@@ -1,23 +1,18 @@
 -- `records_ddf::refusal` meets its contract.
-use Prim.Native.Nat.{ℕ}
 use native.Mathlib.Omega.{arith}
-use mathlib.Core.Path.{_≡_, sym, ap, _∙_}
-use mathlib.Core.List.{List}
+use mathlib.Core.Path.{_≡_, sym, _∙_}
 use denote.Ref.{now}
-use lib.Ieee.{Float}
-use Rattle.records.specs.declared.Sizes.{Sizes}
-use Rattle.records.specs.Kinds.{kindsOf, satterthwaiteKinds, limits}
-use Rattle.records.specs.File.{count}
-use Rattle.records.specs.Parameters.{sizes, kinds, refusal}
-use Rattle.records_sheet.specs.joints.Sheet.{sheetAfter}
-use Rattle.records_ddf.proofs.Judged.{file-refused, value-refused, reader-accepts, AcceptedSizes, accepted-sizes}
+use Rattle.records.specs.Parameters.{reader, reasons, refusal}
+use Rattle.records.proofs.ReaderLaws.{form-refuses}
+use Rattle.records_form.proofs.FormLaws.{FormedSizes, sheet-from}
+use Rattle.records_ddf.proofs.Judged.{value-refused, reader-accepts, accepted-sizes}
 use borrow.Author.Needs.{needs}
 use Rattle.records_ddf.proofs.refusal.Statement.{statement}
 use Rattle.records_ddf.proofs.refusal.Tie as tie
+use Rattle.records.specs.declared.Shape.the-variants.{Test}
 
 -- src/lib.rt:35:9
 file-refusal-requires : tie.Need-file-refusal-requires
-unfolding kindsOf satterthwaiteKinds limits
 file-refusal-requires c κs =
     let p = c .before .before .before .before .pre in
     (omega arith, omega arith, p .0 .0, p .0 .1)
@@ -28,7 +23,8 @@ same-length c = search needs
 
 -- src/lib.rt:37:9
 returns : tie.Need-returns
-returns c = (file-refused _ _ (c .before .before .before .file-refusal .ensures) (c .if1 .taken), λ e. absurd (c .if1 .taken e))
+unfolding refusal reasons
+returns c = (form-refuses reader _ _ (c .before .before .before .file-refusal .ensures) (c .if1 .taken), λ e. absurd (c .if1 .taken e))
 
 -- src/lib.rt:39:8
 any-not-finite-requires : tie.Need-any-not-finite-requires
@@ -50,7 +46,7 @@ parameter-sizes-requires c κs = search needs
 accepted : (c : tie.Else2) → refusal (now (c .before .before .before .before .before .before .before .before .before .before .args .s)) ≡ 0
 accepted c = sym (reader-accepts _ (sym (c .before .before .before .before .before .file-refusal .ensures) ∙ c .before .before .if1 .left) (sym (c .before .any-not-finite .ensures) ∙ c .if2 .left))
 
-sizes-at-hand : (c : tie.After-parameter-sizes) → AcceptedSizes (now (c .before .before .before .before .before .before .before .before .before .before .before .args .s)) (c .parameter-sizes .result)
+sizes-at-hand : (c : tie.After-parameter-sizes) → FormedSizes Test 1 (now (c .before .before .before .before .before .before .before .before .before .before .before .args .s)) (c .parameter-sizes .result)
 sizes-at-hand c = accepted-sizes _ _ (accepted (c .before)) (c .parameter-sizes .ensures)
 
 -- src/lib.rt:43:18
@@ -59,7 +55,6 @@ first-slots-requires c κs = sizes-at-hand c .small
 
 -- src/lib.rt:44:5
 fill-sheet-requires : tie.Need-fill-sheet-requires
-unfolding kindsOf
 fill-sheet-requires c κs =
     let t = sizes-at-hand (c .before .before .before) in
     let p = c .before .before .before .before .before .before .before .before .before .before .before .before .before .before .pre in
@@ -74,14 +69,9 @@ same-length-3 c = search needs
 same-length-4 : tie.Need-same-length-4
 same-length-4 c = search needs
 
--- the sheet by the sizes at hand is the file's
-sheet-from : (N : ℕ) (s : List ℕ) (z : Sizes) (xs : List Float) → z ≡ sizes s → xs ≡ sheetAfter N (kindsOf 1 z) s (count s) → xs ≡ sheetAfter N (kinds s) s (count s)
-unfolding kindsOf
-sheet-from N s z xs e f = f ∙ ap (λ (y : Sizes). sheetAfter N (satterthwaiteKinds y) s (count s)) e
-
 -- src/lib.rt:29:1
 returns-3 : tie.Need-returns-3
-returns-3 c = (sym (accepted (c .before .before .before .before .before .before .before)), λ _. sheet-from _ _ _ _ (c .before .before .before .before .before .before .parameter-sizes .ensures) (c .before .before .fill-sheet .ensures))
+returns-3 c = (sym (accepted (c .before .before .before .before .before .before .before)), λ _. sheet-from Test _ _ _ _ (c .before .before .before .before .before .before .parameter-sizes .ensures) (c .before .before .fill-sheet .ensures))
 
 pub refusal-spec : {M : Type 1} → statement M
 refusal-spec =

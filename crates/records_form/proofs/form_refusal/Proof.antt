@@ -10,11 +10,11 @@ use Rattle.records.specs.declared.Sizes.{Sizes}
 use Rattle.records.specs.Scan.{any}
 use Rattle.records.specs.Kinds.{kindsOf, kindNumbers, limits}
 use Rattle.records.specs.File.{count, badRecord, again, missing, beyond}
-use Rattle.records_sizes.specs.joints.Gathered.{sizesOf, tableOf}
+use Rattle.records_sizes.specs.joints.Gathered.{sizesOf, readerOf}
 use Rattle.records.specs.Cells.{slotCount}
 use Rattle.records_sheet.specs.joints.Sheet.{Small, missingIn, flagsAfter}
 use Rattle.records_sheet.proofs.Sheets.{any-missing-read, length-flags}
-use Rattle.records_form.proofs.FormLaws.{bad-record, cell-again, cell-missing, cell-beyond, well-formed, sizes-small, sizes-fit}
+use Rattle.records_form.proofs.FormLaws.{bad-record, cell-again, cell-missing, cell-beyond, none-holds, sizes-small, sizes-fit}
 use borrow.Author.Needs.{needs}
 use Rattle.records_form.proofs.form_refusal.Statement.{statement}
 use Rattle.records_form.proofs.form_refusal.Tie as tie
@@ -27,6 +27,7 @@ use Rattle.records_sheet.proofs.any_missing.Reads as any-missing-reads
 use Rattle.records_sheet.proofs.first_slots.Reads as first-slots-reads
 use Rattle.records_sheet.proofs.mark_cells.Reads as mark-cells-reads
 use Rattle.records_sizes.proofs.sizes_of.Reads as sizes-of-reads
+use Rattle.records.specs.declared.Shape.{Shape}
 
 limits-requires : tie.Need-limits-requires
 limits-requires c κs = search needs
@@ -38,7 +39,7 @@ returns : tie.Need-returns
 returns c =
     let a = c .before .before .before .before .before .args in
     let e = c .before .before .limits .ensures in
-    bad-record (kindsOf (a .call) (limits (a .w))) (tableOf (a .call) (now (a .s))) (now (a .s)) (ap (λ (z : Sizes). any (count (now (a .s))) (badRecord (kindsOf (a .call) z) (now (a .s)))) (sym e) ∙ sym (c .before .any-bad .ensures) ∙ c .if1 .taken)
+    bad-record (readerOf (a .call) (a .w)) (now (a .s)) (ap (λ (z : Sizes). any (count (now (a .s))) (badRecord (kindsOf (a .call) z) (now (a .s)))) (sym e) ∙ sym (c .before .any-bad .ensures) ∙ c .if1 .taken)
 
 sizes-of-requires : tie.Need-sizes-of-requires
 sizes-of-requires c κs = search needs
@@ -50,17 +51,17 @@ returns-2 : tie.Need-returns-2
 returns-2 c =
     let a = c .before .before .before .before .before .before .before .before .args in
     let e = c .before .before .sizes-of .ensures in
-    cell-beyond (kindsOf (a .call) (limits (a .w))) (tableOf (a .call) (now (a .s))) (now (a .s)) (ap (λ (z : Sizes). any (count (now (a .s))) (beyond (kindsOf (a .call) z) (now (a .s)))) (sym e) ∙ sym (c .before .any-beyond .ensures) ∙ c .if2 .taken)
+    cell-beyond (readerOf (a .call) (a .w)) (now (a .s)) (ap (λ (z : Sizes). any (count (now (a .s))) (beyond (kindsOf (a .call) z) (now (a .s)))) (sym e) ∙ sym (c .before .any-beyond .ensures) ∙ c .if2 .taken)
 
 -- no record is bad, so that the sizes at hand are small and their cells have room
-record Sound (call : ℕ) (w : ℕ) (s : List ℕ) (z : Sizes) : Type 0 where
+record Sound (call : Shape) (w : ℕ) (s : List ℕ) (z : Sizes) : Type 0 where
   sized : z ≡ sizesOf call s
   good : any (count s) (badRecord (kindsOf call (limits w)) s) ≡ false
   within : any (count s) (beyond (kindsOf call z) s) ≡ false
   small : Small z
   fit : slotCount (kindsOf call z) ≤ slotCount (kindsOf call (limits w))
 
-sound-of : (call w : ℕ) (s : List ℕ) (z l : Sizes) (bad far : Bool) → 1 ≤ w → w ≤ 256 → l ≡ limits w → bad ≡ any (count s) (badRecord (kindsOf call l) s) → bad ≡ false → z ≡ sizesOf call s → far ≡ any (count s) (beyond (kindsOf call z) s) → far ≡ false → Sound call w s z
+sound-of : (call : Shape) (w : ℕ) (s : List ℕ) (z l : Sizes) (bad far : Bool) → 1 ≤ w → w ≤ 256 → l ≡ limits w → bad ≡ any (count s) (badRecord (kindsOf call l) s) → bad ≡ false → z ≡ sizesOf call s → far ≡ any (count s) (beyond (kindsOf call z) s) → far ≡ false → Sound call w s z
 sound-of call w s z l bad far h1 h2 el eb fb ez ef ff =
     let g : any (count s) (badRecord (kindsOf call (limits w)) s) ≡ false = ap (λ (y : Sizes). any (count s) (badRecord (kindsOf call y) s)) (sym el) ∙ sym eb ∙ fb in
     record {
@@ -96,7 +97,7 @@ returns-3 c =
     let h = sound d in
     let a = c .before .before .before .before .before .before .before .before .before .before .before .before .before .before .before .args in
     let e = h .sized in
-    cell-again (kindsOf (a .call) (limits (a .w))) (tableOf (a .call) (now (a .s))) (now (a .s)) (ap (λ (z : Sizes). any (count (now (a .s))) (again (kindsOf (a .call) z) (now (a .s)))) (sym e) ∙ sym (c .before .before .before .mark-cells .ensures .0) ∙ c .if3 .taken)
+    cell-again (readerOf (a .call) (a .w)) (now (a .s)) (ap (λ (z : Sizes). any (count (now (a .s))) (again (kindsOf (a .call) z) (now (a .s)))) (sym e) ∙ sym (c .before .before .before .mark-cells .ensures .0) ∙ c .if3 .taken)
 
 any-missing-requires : tie.Need-any-missing-requires
 any-missing-requires c κs =
@@ -109,7 +110,7 @@ any-missing-requires c κs =
     (h .small, c .before .before .before .before .before .before .before .before .first-slots .ensures, omega arith)
 
 -- what the flags say is missing is what the file misses
-absent : (call w : ℕ) (s : List ℕ) (z : Sizes) (r : Bool) (N : ℕ) (fs : List Bool) → Sound call w s z → slotCount (kindsOf call (limits w)) ≤ N → fs ≡ flagsAfter N (kindsOf call z) s (count s) → r ≡ any kindNumbers (missingIn (kindsOf call z) fs) → r ≡ any kindNumbers (missing (tableOf call s) s)
+absent : (call : Shape) (w : ℕ) (s : List ℕ) (z : Sizes) (r : Bool) (N : ℕ) (fs : List Bool) → Sound call w s z → slotCount (kindsOf call (limits w)) ≤ N → fs ≡ flagsAfter N (kindsOf call z) s (count s) → r ≡ any kindNumbers (missingIn (kindsOf call z) fs) → r ≡ any kindNumbers (missing (kindsOf call (sizesOf call s)) s)
 absent call w s z r N fs h l ef er =
     let f = h .fit in
     let m : slotCount (kindsOf call z) ≤ N = omega arith in
@@ -128,7 +129,7 @@ returns-4 c =
     let a = d .before .before .before .before .before .before .before .before .args in
     let p = d .before .before .before .before .before .before .before .before .pre in
     let m = absent (a .call) (a .w) (now (a .s)) _ _ (length (now (a .flags))) _ h (p .3) (c .before .before .before .before .before .before .before .mark-cells .ensures .1 (c .before .before .before .before .if3 .left)) (c .before .any-missing .ensures) in
-    cell-missing (kindsOf (a .call) (limits (a .w))) (tableOf (a .call) (now (a .s))) (now (a .s)) (sym m ∙ c .if4 .taken)
+    cell-missing (readerOf (a .call) (a .w)) (now (a .s)) (sym m ∙ c .if4 .taken)
 
 same-length-3 : tie.Need-same-length-3
 same-length-3 c = search needs
@@ -141,7 +142,7 @@ returns-5 c =
     let p = d .before .before .before .before .before .before .before .before .pre in
     let m = absent (a .call) (a .w) (now (a .s)) _ _ (length (now (a .flags))) _ h (p .3) (c .before .before .before .before .before .before .before .mark-cells .ensures .1 (c .before .before .before .before .if3 .left)) (c .before .any-missing .ensures) in
     let e = h .sized in
-    well-formed (kindsOf (a .call) (limits (a .w))) (tableOf (a .call) (now (a .s))) (now (a .s)) (h .good)
+    none-holds (readerOf (a .call) (a .w)) (now (a .s)) (h .good)
     (ap (λ (z : Sizes). any (count (now (a .s))) (again (kindsOf (a .call) z) (now (a .s)))) (sym e) ∙ sym (c .before .before .before .before .before .before .before .mark-cells .ensures .0) ∙ c .before .before .before .before .if3 .left)
     (sym m ∙ c .if4 .left)
     (ap (λ (z : Sizes). any (count (now (a .s))) (beyond (kindsOf (a .call) z) (now (a .s)))) (sym e) ∙ h .within)

@@ -1,5 +1,5 @@
 -- `records_kenward_roger::call_with` meets its contract.
-use mathlib.Core.Path.{sym, _∙_}
+use mathlib.Core.Path.{refl, sym, _∙_}
 use denote.Ref.{now}
 use Rattle.records.proofs.CutoffLaws.{table-length}
 use Rattle.records.specs.KenwardRogerCall.{number, seriesCall}
@@ -24,7 +24,7 @@ bad-table-requires c κs = search needs
 returns-2 : tie.Need-returns-2
 returns-2 c =
     let a = c .before .before .before .before .before .before .args in
-    other-table (seriesCall 24 (now (a .records))) (now (a .table)) (now (a .answer)) (c .before .before .if1 .left) (sym (c .before .bad-table .ensures) ∙ c .if2 .taken)
+    other-table (seriesCall 24 (now (a .records))) (now (a .table)) (now (a .answer)) refl (c .before .before .if1 .left) (sym (c .before .bad-table .ensures) ∙ c .if2 .taken)
 
 cutoffs-in-requires : tie.Need-cutoffs-in-requires
 cutoffs-in-requires c κs = table-length (now (c .before .before .before .before .before .before .args .table)) (sym (c .before .bad-table .ensures) ∙ c .if2 .left)
@@ -40,7 +40,7 @@ unfolding number
 returns-3 c =
     let a = c .before .before .before .before .before .before .before .before .before .before .before .args in
     let f = c .before .before .fill-answer .ensures in
-    own-answer (seriesCall 24 (now (a .records))) (now (a .table)) (now (a .answer)) (c .before .before .before .before .before .before .before .if1 .left) (sym (c .before .before .before .before .before .before .bad-table .ensures) ∙ c .before .before .before .before .before .if2 .left) _ (c .before .before .before .before .cutoffs-in .ensures) _ _ (f .0) (f .1)
+    own-answer (seriesCall 24 (now (a .records))) (now (a .table)) (now (a .answer)) refl (c .before .before .before .before .before .before .before .if1 .left) (sym (c .before .before .before .before .before .before .bad-table .ensures) ∙ c .before .before .before .before .before .if2 .left) _ (c .before .before .before .before .cutoffs-in .ensures) _ _ (f .0) (f .1)
 
 pub call-with-spec : {M : Type 1} → statement M
 call-with-spec =

@@ -2,7 +2,8 @@
 use mathlib.Core.Path.{refl}
 use native.Mathlib.Omega.{arith}
 use lib.Ieee.{ofBits}
-use Rattle.records.proofs.Limits.{panel-slots}
+use Rattle.records.specs.declared.Shape.the-variants.{Series}
+use Rattle.records.proofs.Limits.{slot-count}
 use borrow.Author.Needs.{needs}
 use Rattle.records_kenward_roger.proofs.judge_panel.Statement.{statement}
 use Rattle.records_kenward_roger.proofs.judge_panel.Tie as tie
@@ -25,7 +26,7 @@ slice-aggregate-judge-4 c = search needs
 judge-requires : tie.Need-judge-requires
 unfolding ofBits
 judge-requires c κs =
-    let e = panel-slots in
+    let e = slot-count 24 Series in
     (record { some = omega arith; most = omega arith; clear = refl; blank = refl; flagged = omega arith; written = omega arith }, omega arith, omega arith)
 
 returns : tie.Need-returns

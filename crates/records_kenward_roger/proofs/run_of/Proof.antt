@@ -24,36 +24,63 @@ use Rattle.records_torn.proofs.shorten.Reads as shorten-reads
 use Rattle.tests_entries.proofs.answer_of.Reads as answer-of-reads
 use Rattle.tests_entries.proofs.no_entry.Reads as no-entry-reads
 
+-- ---- the stages of the code, each from the next that is named here: where a line is put in, one of these moves
+abbrev start : tie.After-series-sizes → tie.Start
+start c = c .before .before .before .before .before
+
+abbrev slots : tie.After-shorten → tie.After-first-slots
+slots c = c .before .before .before
+
+abbrev short : tie.After-count → tie.After-shorten
+short c = c .before .before .before .before .before .before .before .before .before .before .before
+
+abbrev run : tie.After-slice-known6 → tie.After-kenward-roger-modcomp-data
+run c = c .before .before .before .before
+
+abbrev accepted : tie.After-refused → tie.Else1
+accepted c = c .before .before .before
+
+abbrev tested : tie.After-answer-of → tie.After-tests-of
+tested c = c .before .before .before .before
+
+-- the first of them, from further on
+abbrev start-of-slots : tie.After-first-slots → tie.Start
+start-of-slots c = start (c .before)
+
+abbrev start-of-run : tie.After-kenward-roger-modcomp-data → tie.Start
+start-of-run c = start-of-slots (slots (short (c .before)))
+
+-- ---- what holds at them
 series-sizes-requires : tie.Need-series-sizes-requires
 series-sizes-requires c κs = search needs
 
 first-slots-requires : tie.Need-first-slots-requires
 first-slots-requires c κs =
-    let a = c .before .before .before .before .before .args in
-    let g = c .before .before .before .before .before .pre .0 in
+    let a = start c .args in
+    let g = start c .pre .0 in
     subst Small (sym (c .series-sizes .ensures)) (accepted-small (a .limit) (g .some) (now (a .s)) (g .taken) (g .most))
 
 -- the series is read, and then its torn specimens are left out
-as-read : (c : tie.After-first-slots) → SeriesRead (c .before .before .before .before .before .before .args .limit) (now (c .before .before .before .before .before .before .args .s)) (c .before .series-sizes .result) (c .first-slots .result) (now (c .before .before .before .before .before .before .args .sheet))
+as-read : (c : tie.After-first-slots) → let a = start-of-slots c .args in SeriesRead (a .limit) (now (a .s)) (c .before .series-sizes .result) (c .first-slots .result) (now (a .sheet))
 as-read c =
-    let a = c .before .before .before .before .before .before .args in
-    at-hand (a .limit) (now (a .s)) _ _ (now (a .sheet)) (c .before .before .before .before .before .before .pre .0) (c .before .series-sizes .ensures) (c .first-slots .ensures)
+    let a = start-of-slots c .args in
+    at-hand (a .limit) (now (a .s)) _ _ (now (a .sheet)) (start-of-slots c .pre .0) (c .before .series-sizes .ensures) (c .first-slots .ensures)
 
 shorten-requires : tie.Need-shorten-requires
 shorten-requires c κs = can-shorten _ _ _ _ _ (as-read (c .before .before))
 
-as-short : (c : tie.After-shorten) → SeriesShort (c .before .before .before .before .before .before .before .before .before .args .limit) (now (c .before .before .before .before .before .before .before .before .before .args .s)) (c .before .before .before .before .series-sizes .result) (c .before .before .before .first-slots .result) (c .shorten .last .1 .1 .0)
-as-short c = series-short _ _ _ _ _ (as-read (c .before .before .before)) _ (c .shorten .ensures .1)
+as-short : (c : tie.After-shorten) → let b = slots c in let a = start-of-slots b .args in SeriesShort (a .limit) (now (a .s)) (b .before .series-sizes .result) (b .first-slots .result) (c .shorten .last .1 .1 .0)
+as-short c = series-short _ _ _ _ _ (as-read (slots c)) _ (c .shorten .ensures .1)
 
 -- as many specimens are left as are run
-left-run : (c : tie.After-shorten) → c .shorten .result ≡ design (now (c .before .before .before .before .before .before .before .before .before .args .s)) .n
-left-run c = kept-run _ _ _ _ _ (as-read (c .before .before .before)) _ (c .shorten .ensures .0 .0)
+left-run : (c : tie.After-shorten) → c .shorten .result ≡ design (now (start-of-slots (slots c) .args .s)) .n
+left-run c = kept-run _ _ _ _ _ (as-read (slots c)) _ (c .shorten .ensures .0 .0)
 
 zeros-requires : tie.Need-zeros-requires
 zeros-requires c κs = search needs
 
 kenward-roger-modcomp-data-requires : tie.Need-kenward-roger-modcomp-data-requires
-kenward-roger-modcomp-data-requires c κs = let g = c .before .before .before .before .before .before .before .before .before .before .before .before .before .before .before .before .before .before .before .before .pre in (as-short (c .before .before .before .before .before .before .before .before .before .before .before), left-run (c .before .before .before .before .before .before .before .before .before .before .before), g .1, g .2)
+kenward-roger-modcomp-data-requires c κs = let g = start-of-slots (slots (short c)) .pre in (as-short (short c), left-run (short c), g .1, g .2)
 
 no-entry-requires : tie.Need-no-entry-requires
 no-entry-requires c κs = search needs
@@ -69,17 +96,20 @@ same-length-3 c = search needs
 
 returns : tie.Need-returns
 returns c =
-    let a = c .before .before .before .before .before .before .before .before .before .before .before .before .before .before .before .before .before .before .before .before .before .before .before .before .before .before .before .args in
-    let g = c .before .before .before .before .before .before .before .before .before .before .before .before .before .before .before .before .before .before .before .before .before .before .before .before .before .before .before .pre in
+    let r = run (c .before .before) in
+    let b = start-of-run r in
+    let a = b .args in
     let h = c .before .if1 .taken in
-    let e = late-number (a .limit) (a .c) (now (a .s)) (g .0 .taken) _ (c .before .before .before .before .before .before .kenward-roger-modcomp-data .ensures .0) h in
+    let e = late-number (a .limit) (a .c) (now (a .s)) (b .pre .0 .taken) _ (r .kenward-roger-modcomp-data .ensures .0) h in
     (no-entries (a .limit) (a .c) (now (a .s)) _ (c .no-entry .ensures) _ e h, (e, (no-rotations (a .limit) (a .c) (now (a .s)) _ e h, no-specimens (a .limit) (a .c) (now (a .s)) _ e h)))
 
 tests-of-requires : tie.Need-tests-of-requires
 tests-of-requires c κs =
-    let r = c .before .before .before .before .before .before .before .before .kenward-roger-modcomp-data .ensures in
-    let h = c .before .before .before .if1 .left in
-    (as-short (c .before .before .before .before .before .before .before .before .before .before .before .before .before .before .before .before .before .before .before .before), (r .1 .0 ∙ accepted-yes _ _ _ h, r .1 .1 .0 ∙ accepted-yes _ _ _ h, r .1 .1 .1 .0 ∙ accepted-yes _ _ _ h))
+    let e = accepted c in
+    let r = run (e .before) in
+    let q = r .kenward-roger-modcomp-data .ensures in
+    let h = e .if1 .left in
+    (as-short (short (r .before)), (q .1 .0 ∙ accepted-yes _ _ _ h, q .1 .1 .0 ∙ accepted-yes _ _ _ h, q .1 .1 .1 .0 ∙ accepted-yes _ _ _ h))
 
 counted-requires : tie.Need-counted-requires
 counted-requires c κs = search needs
@@ -91,7 +121,7 @@ answer-of-requires : tie.Need-answer-of-requires
 answer-of-requires c κs = search needs
 
 same-length-4 : tie.Need-same-length-4
-same-length-4 c = ap length (c .before .before .before .before .before .before .before .before .before .before .before .before .before .before .before .before .before .before .before .before .before .before .before .before .before .shorten .ensures .1) ∙ length-short _ _
+same-length-4 c = ap length (short (run (accepted (tested c .before) .before) .before) .shorten .ensures .1) ∙ length-short _ _
 
 same-length-5 : tie.Need-same-length-5
 same-length-5 c = search needs
@@ -101,16 +131,19 @@ same-length-6 c = search needs
 
 returns-2 : tie.Need-returns-2
 returns-2 c =
-    let a = c .before .before .before .before .before .before .before .before .before .before .before .before .before .before .before .before .before .before .before .before .before .before .before .before .before .before .before .before .before .before .before .before .before .before .args in
-    let g = c .before .before .before .before .before .before .before .before .before .before .before .before .before .before .before .before .before .before .before .before .before .before .before .before .before .before .before .before .before .before .before .before .before .before .pre in
-    let d = c .before .before .before .before .before .before .before .before .before .before .before .before .before .kenward-roger-modcomp-data .ensures in
-    let h = c .before .before .before .before .before .before .before .before .if1 .left in
+    let t = tested c .tests-of .ensures in
+    let e = accepted (tested c .before) in
+    let r = run (e .before) in
+    let b = start-of-run r in
+    let a = b .args in
+    let d = r .kenward-roger-modcomp-data .ensures in
+    let h = e .if1 .left in
     let z = sym (d .0) ∙ h in
-    let t = c .before .before .before .before .tests-of .ensures in
-    let e = run-answer (a .limit) (a .c) (now (a .s)) (g .0 .taken) z _ _ _ _ (t .1) (t .0) (c .answer-of .ensures .0) (c .answer-of .ensures .1) in
-    let m = run-rotations (a .limit) (a .c) (now (a .s)) (g .0 .taken) z _ _ _ (t .1) (d .1 .1 .1 .1 ∙ accepted-yes _ _ _ h) (c .before .before .before .counted .ensures) in
-    let n = run-specimens (a .limit) (a .c) (now (a .s)) (g .0 .taken) z _ _ _ (t .1) (left-run (c .before .before .before .before .before .before .before .before .before .before .before .before .before .before .before .before .before .before .before .before .before .before .before .before .before)) (c .before .before .counted2 .ensures) in
-    (e .0, (e .1, (m, n)))
+    let g = b .pre .0 .taken in
+    let v = run-answer (a .limit) (a .c) (now (a .s)) g z _ _ _ _ (t .1) (t .0) (c .answer-of .ensures .0) (c .answer-of .ensures .1) in
+    let m = run-rotations (a .limit) (a .c) (now (a .s)) g z _ _ _ (t .1) (d .1 .1 .1 .1 ∙ accepted-yes _ _ _ h) (c .before .before .before .counted .ensures) in
+    let n = run-specimens (a .limit) (a .c) (now (a .s)) g z _ _ _ (t .1) (left-run (short (r .before))) (c .before .before .counted2 .ensures) in
+    (v .0, (v .1, (m, n)))
 
 pub run-of-spec : {M : Type 1} → statement M
 run-of-spec =

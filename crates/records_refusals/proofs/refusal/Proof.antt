@@ -29,9 +29,9 @@ use Rattle.records_series.proofs.blocks_of.Reads as blocks-of-reads
 use Rattle.records_sheet.proofs.fill_sheet.Reads as fill-sheet-reads
 use Rattle.records_sheet.proofs.first_slots.Reads as first-slots-reads
 use Rattle.records_sizes.proofs.series_sizes.Reads as series-sizes-reads
+use Rattle.records.specs.declared.Shape.the-variants.{Series}
 
 records-refusal-requires : tie.Need-records-refusal-requires
-unfolding kindsOf
 records-refusal-requires c κs = let p = c .before .before .before .before .pre in (p .some, p .most, p .clear, p .flagged)
 
 same-length : tie.Need-same-length
@@ -53,10 +53,10 @@ sound c z e =
     sound-of (a .w) (now (a .s)) z _ (p .some) (p .most) (c .before .before .before .records-refusal .ensures) (c .if1 .left) e
 
 blocks-of-requires : tie.Need-blocks-of-requires
-blocks-of-requires c κs = sound (c .before) _ (c .series-sizes .ensures) .few
+blocks-of-requires c κs = sound (c .before) _ (c .series-sizes .ensures) .formed .blocks
 
 bad-size-requires : tie.Need-bad-size-requires
-bad-size-requires c κs = (sound (c .before .before) _ (c .before .series-sizes .ensures) .few, c .blocks-of .ensures .1)
+bad-size-requires c κs = (sound (c .before .before) _ (c .before .series-sizes .ensures) .formed .blocks, c .blocks-of .ensures .1)
 
 same-length-2 : tie.Need-same-length-2
 same-length-2 c = search needs
@@ -76,29 +76,27 @@ good-size c =
     sym (size-is (a .w) (now (a .s)) _ h _ _ (c .before .before .blocks-of .ensures .0) (c .before .bad-size .ensures)) ∙ c .if2 .left
 
 first-slots-requires : tie.Need-first-slots-requires
-first-slots-requires c κs = sound (c .before .before .before .before) _ (c .before .before .before .series-sizes .ensures) .small
+first-slots-requires c κs = sound (c .before .before .before .before) _ (c .before .before .before .series-sizes .ensures) .formed .small
 
 fill-sheet-requires : tie.Need-fill-sheet-requires
-unfolding kindsOf
 fill-sheet-requires c κs =
     let h = sound (c .before .before .before .before .before .before .before) _ (c .before .before .before .before .before .before .series-sizes .ensures) in
     let p = c .before .before .before .before .before .before .before .before .before .before .before .before .before .before .before .pre in
-    let f = h .fit in
+    let f = h .formed .fit in
     let l = p .written in
-    ((h .small, c .before .before .first-slots .ensures, h .within), (p .blank, omega arith))
+    ((h .formed .small, c .before .before .first-slots .ensures, h .formed .within), (p .blank, omega arith))
 
 array-read-weights : tie.Need-array-read-weights
 array-read-weights c = search needs
 
 -- the filled sheet has room for the series
-filled-room : (c : tie.After-fill-sheet) → slotCount (kindsOf 0 (c .before .before .before .before .before .before .before .series-sizes .result)) ≤ length (c .fill-sheet .last .1 .1 .1 .1 .0)
-unfolding kindsOf
+filled-room : (c : tie.After-fill-sheet) → slotCount (kindsOf Series (c .before .before .before .before .before .before .before .series-sizes .result)) ≤ length (c .fill-sheet .last .1 .1 .1 .1 .0)
 filled-room c =
     let a = c .before .before .before .before .before .before .before .before .before .before .before .before .before .before .before .before .args in
     let h = sound (c .before .before .before .before .before .before .before .before) _ (c .before .before .before .before .before .before .before .series-sizes .ensures) in
-    let f = h .fit in
+    let f = h .formed .fit in
     let l = c .before .before .before .before .before .before .before .before .before .before .before .before .before .before .before .before .pre .written in
-    let e = ap length (c .fill-sheet .ensures) ∙ length-sheet (length (now (a .sheet))) (kindsOf 0 (c .before .before .before .before .before .before .before .series-sizes .result)) (now (a .s)) (count (now (a .s))) in
+    let e = ap length (c .fill-sheet .ensures) ∙ length-sheet (length (now (a .sheet))) (kindsOf Series (c .before .before .before .before .before .before .before .series-sizes .result)) (now (a .s)) (count (now (a .s))) in
     omega arith
 
 all-torn-requires : tie.Need-all-torn-requires
@@ -116,7 +114,6 @@ same-length-4 c = search needs
 
 -- what the code finds of the weights is what the file says of them
 torn-found : (c : tie.After-all-torn) → c .all-torn .result ≡ allTorn (asSent (now (c .before .before .before .before .before .before .before .before .before .before .before .before .before .before .before .before .before .before .before .before .args .s)))
-unfolding kindsOf
 torn-found c =
     let a = c .before .before .before .before .before .before .before .before .before .before .before .before .before .before .before .before .before .before .before .before .args in
     let h = sound (c .before .before .before .before .before .before .before .before .before .before .before .before) _ (c .before .before .before .before .before .before .before .before .before .before .before .series-sizes .ensures) in
@@ -146,7 +143,7 @@ returns-4 c =
 sheet-refusal-requires : tie.Need-sheet-refusal-requires
 sheet-refusal-requires c κs =
     let h = sound (c .before .before .before .before .before .before .before .before .before .before .before .before .before .before .before .before .before) _ (c .before .before .before .before .before .before .before .before .before .before .before .before .before .before .before .before .series-sizes .ensures) in
-    ((h .small, h .few, c .before .before .before .before .before .before .before .before .before .before .before .before .first-slots .ensures, filled-room (c .before .before .before .before .before .before .before .before .before)), c .before .before .before .before .before .before .before .before .before .before .before .before .before .before .before .blocks-of .ensures .1)
+    ((h .formed .small, h .formed .blocks, c .before .before .before .before .before .before .before .before .before .before .before .before .first-slots .ensures, filled-room (c .before .before .before .before .before .before .before .before .before)), c .before .before .before .before .before .before .before .before .before .before .before .before .before .before .before .blocks-of .ensures .1)
 
 same-length-7 : tie.Need-same-length-7
 same-length-7 c = search needs
@@ -155,13 +152,12 @@ same-length-8 : tie.Need-same-length-8
 same-length-8 c = search needs
 
 returns-5 : tie.Need-returns-5
-unfolding kindsOf
 returns-5 c =
     let a = c .before .before .before .before .before .before .before .before .before .before .before .before .before .before .before .before .before .before .before .before .before .before .before .before .before .before .args in
     let h = sound (c .before .before .before .before .before .before .before .before .before .before .before .before .before .before .before .before .before .before) _ (c .before .before .before .before .before .before .before .before .before .before .before .before .before .before .before .before .before .series-sizes .ensures) in
     let e = c .before .before .before .before .before .before .before .before .before .before .fill-sheet .ensures in (
       sheet-refuses (a .w) (now (a .s)) _ h (good-size (c .before .before .before .before .before .before .before .before .before .before .before .before .before .before)) (length (now (a .sheet))) _ _ _ (sym (torn-found (c .before .before .before .before .before .before)) ∙ c .before .before .before .before .before .if3 .left) (sym (c .before .before .before .before .any-not-finite .ensures) ∙ c .before .before .before .if4 .left) (c .before .before .before .before .before .before .before .before .before .before .before .before .before .before .before .before .before .before .before .before .before .before .before .before .before .before .pre .written) (c .before .before .before .before .before .before .before .before .before .before .before .before .before .before .before .before .blocks-of .ensures .0) e (c .sheet-refusal .ensures),
-      λ _. e ∙ ap (λ (z : Sizes). sheetAfter (length (now (a .sheet))) (kindsOf 0 z) (now (a .s)) (count (now (a .s)))) (h .sized),
+      λ _. e ∙ ap (λ (z : Sizes). sheetAfter (length (now (a .sheet))) (kindsOf Series z) (now (a .s)) (count (now (a .s)))) (h .sized),
     )
 
 pub refusal-spec : {M : Type 1} → statement M

@@ -15,6 +15,7 @@ use Rattle.records_refusals.proofs.sheet_refusal.Lts as lts
 use Rattle.records_block_limits.proofs.misfit.Reads as misfit-reads
 use Rattle.records_refusals.proofs.bad_weight.Reads as bad-weight-reads
 use Rattle.records_contrast.proofs.zero_contrast.Reads as zero-contrast-reads
+use Rattle.records.specs.declared.Shape.the-variants.{Series}
 
 element-copy-out-variance : tie.Need-element-copy-out-variance
 element-copy-out-variance c = search needs
@@ -30,7 +31,7 @@ mul-if1 c =
     let a = c .before .before .before .before .args in
     let p = c .before .before .before .before .pre .0 in
     let e = starts (a .z) 7 (now (a .firsts)) (lit≤ tt) (p .2) in
-    let b = all-bound 0 (a .z) (p .0) 7 (lit≤ tt) in
+    let b = all-bound Series (a .z) (p .0) 7 (lit≤ tt) in
     omega arith
 
 shared-slice-read-if1 : tie.Need-shared-slice-read-if1

@@ -2,7 +2,7 @@
 -- The refusals that the records give by themselves, and 3, of a series that is all torn, and 5 to 8 as the code makes them, on the sheet of crates/records_sheet/specs/joints/Sheet.antt and on an array of blocks.
 use Prim.Native.Nat.{ℕ, _+_}
 use mathlib.Core.Bool.{Bool, not, _&&_}
-use mathlib.Core.List.{List, [], _∷_, _++_}
+use mathlib.Core.List.{List, [], _∷_}
 use lib.ListN.{getD}
 use lib.Ieee.{Float, nan, lt, le}
 use Rattle.arithmetic.specs.Numbers.{plusZero}
@@ -10,17 +10,20 @@ use Rattle.adjustment.specs.declared.Block.{Block}
 use Rattle.algebra.specs.Reasons.{first}
 use Rattle.records.specs.declared.Sizes.{Sizes}
 use Rattle.records.specs.Scan.{any}
-use Rattle.records.specs.Kinds.{Table, kindsOf, kenwardRoger}
+use Rattle.records.specs.Kinds.{Table, kindsOf, kenwardRogerKinds}
 use Rattle.records.specs.Cells.{firstSlot}
-use Rattle.records.specs.File.{lengthReasons, formReasons}
-use Rattle.records.specs.Order.{orderReasons}
-use Rattle.records.specs.Series.{kinds, blockReasons}
+use Rattle.records.specs.Reader.{Reader, readerReasons}
+use Rattle.records.specs.Series.{sizes, blockReasons}
 use Rattle.records_block_limits.specs.joints.Checks.{misfitIn}
 use Rattle.records_contrast.specs.joints.Contrast.{nonzeros, zeroContrastIn}
+use Rattle.records.specs.declared.Shape.the-variants.{Series}
 
--- 2, 12, 2 and 13, the first that holds: the length, the order, the form and the blocks' parameter counts
+-- 2, 12, 2 and 13, the first that holds: the length, the order, the form and, of the series' own reasons, the blocks' parameter counts alone
+abbrev pub recordsReader : ℕ → Reader
+recordsReader w = record { kinds = kenwardRogerKinds; limit = w; sizes = sizes; own = blockReasons }
+
 unfoldable pub recordsRefusal : ℕ → List ℕ → ℕ
-recordsRefusal w s = first (lengthReasons s ++ (orderReasons s ++ (formReasons (kenwardRoger w) (kinds s) s ++ blockReasons s)))
+recordsRefusal w s = first (readerReasons (recordsReader w) s)
 
 -- one of the m numbers from a place on is below zero
 unfoldable pub negatives : List Float → ℕ → ℕ → Bool
@@ -37,7 +40,7 @@ allTornIn z sheet at = z .weighted && not (nonzeros sheet at (z .specimens))
 -- refusals 5 to 8, lowest number first: sigma2 is kind 7, the weights 5 and the contrast 9
 unfoldable pub sheetRefusal : Sizes → List Block → List Float → ℕ
 sheetRefusal z blocks sheet =
-    let t : Table = kindsOf 0 z in
+    let t : Table = kindsOf Series z in
     first
     ((5, le (getD sheet (firstSlot t 7) nan) plusZero)
     ∷ (6, badWeightIn z sheet (firstSlot t 5))

@@ -2,14 +2,16 @@
 use native.Mathlib.Omega.{arith}
 use mathlib.Core.Path.{sym, _∙_}
 use denote.Ref.{now}
-use Rattle.records.specs.Kinds.{kindsOf, testKinds, limits}
-use Rattle.records_second_file.proofs.SecondLaws.{file-refused, other-coefficients, value-refused, contrast-refused, reader-accepts, SecondSizes, second-sizes, same-coefficients, sheet-from, contrast-fits, zero-read}
+use Rattle.records.specs.declared.Shape.the-variants.{Second}
+use Rattle.records.specs.SecondFile.{reader, reasons, refusal}
+use Rattle.records.proofs.ReaderLaws.{form-refuses}
+use Rattle.records_form.proofs.FormLaws.{FormedSizes, formed-sizes, sheet-from}
+use Rattle.records_second_file.proofs.SecondLaws.{other-coefficients, value-refused, contrast-refused, reader-accepts, same-coefficients, contrast-fits, zero-read}
 use borrow.Author.Needs.{needs}
 use Rattle.records_second_file.proofs.refusal.Statement.{statement}
 use Rattle.records_second_file.proofs.refusal.Tie as tie
 
 file-refusal-requires : tie.Need-file-refusal-requires
-unfolding kindsOf testKinds limits
 file-refusal-requires c κs =
     let p = c .before .before .before .before .pre in
     (omega arith, omega arith, p .0 .0, p .0 .1)
@@ -18,7 +20,8 @@ same-length : tie.Need-same-length
 same-length c = search needs
 
 returns : tie.Need-returns
-returns c = (file-refused _ _ _ (c .before .before .before .file-refusal .ensures) (c .if1 .taken), λ e. absurd (c .if1 .taken e))
+unfolding refusal reasons
+returns c = (form-refuses (reader (c .before .before .before .before .before .before .before .before .args .p)) _ _ (c .before .before .before .file-refusal .ensures) (c .if1 .taken), λ e. absurd (c .if1 .taken e))
 
 second-sizes-requires : tie.Need-second-sizes-requires
 second-sizes-requires c κs = search needs
@@ -39,14 +42,13 @@ returns-3 : tie.Need-returns-3
 returns-3 c = (value-refused _ _ (sym (c .before .before .before .before .before .before .before .before .file-refusal .ensures) ∙ c .before .before .before .before .before .if1 .left) (same-coefficients _ _ (c .before .before .before .before .second-sizes .ensures) ∙ c .before .before .if2 .left) (sym (c .before .any-not-finite .ensures) ∙ c .if3 .taken), λ e. absurd (omega arith))
 
 -- the file is formed, so that its sizes are small and its cells have room
-formed : (c : tie.Else3) → SecondSizes (now (c .before .before .before .before .before .before .before .before .before .before .before .before .before .args .t)) (c .before .before .before .before .second-sizes .result)
-formed c = second-sizes _ _ (sym (c .before .before .before .before .before .before .before .before .file-refusal .ensures) ∙ c .before .before .before .before .before .if1 .left) (c .before .before .before .before .second-sizes .ensures)
+formed : (c : tie.Else3) → FormedSizes Second 1 (now (c .before .before .before .before .before .before .before .before .before .before .before .before .before .args .t)) (c .before .before .before .before .second-sizes .result)
+formed c = formed-sizes Second 1 (omega arith) (omega arith) _ _ (sym (c .before .before .before .before .before .before .before .before .file-refusal .ensures) ∙ c .before .before .before .before .before .if1 .left) (c .before .before .before .before .second-sizes .ensures)
 
 first-slots-requires : tie.Need-first-slots-requires
 first-slots-requires c κs = formed c .small
 
 fill-sheet-requires : tie.Need-fill-sheet-requires
-unfolding kindsOf
 fill-sheet-requires c κs =
     let h = formed (c .before .before .before) in
     let p = c .before .before .before .before .before .before .before .before .before .before .before .before .before .before .before .before .pre in
@@ -57,7 +59,6 @@ array-read-contrast : tie.Need-array-read-contrast
 array-read-contrast c = search needs
 
 zero-contrast-requires : tie.Need-zero-contrast-requires
-unfolding kindsOf
 zero-contrast-requires c κs =
     let h = formed (c .before .before .before .before .before .before .before) in
     let p = c .before .before .before .before .before .before .before .before .before .before .before .before .before .before .before .before .before .before .before .before .pre in
@@ -90,7 +91,7 @@ returns-5 c =
     let f = h .fit in
     let p = c .before .before .before .before .before .before .before .before .before .before .before .before .before .before .before .before .before .before .before .before .before .before .pre in
     let x = zero-read _ _ _ _ _ (c .before .before .before .before .before .before .before .before .before .before .before .before .before .second-sizes .ensures) (c .before .before .before .before .before .before .before .before .first-slots .ensures) (h .within) (omega arith) (c .before .before .before .before .before .fill-sheet .ensures) in
-    (reader-accepts _ _ (sym (c .before .before .before .before .before .before .before .before .before .before .before .before .before .before .before .before .before .file-refusal .ensures) ∙ c .before .before .before .before .before .before .before .before .before .before .before .before .before .before .if1 .left) (same-coefficients _ _ (c .before .before .before .before .before .before .before .before .before .before .before .before .before .second-sizes .ensures) ∙ c .before .before .before .before .before .before .before .before .before .before .before .if2 .left) (sym (c .before .before .before .before .before .before .before .before .before .before .any-not-finite .ensures) ∙ c .before .before .before .before .before .before .before .before .before .if3 .left) (sym x ∙ sym (c .before .zero-contrast .ensures) ∙ c .if4 .left), λ _. sheet-from _ _ _ _ (c .before .before .before .before .before .before .before .before .before .before .before .before .before .second-sizes .ensures) (c .before .before .before .before .before .fill-sheet .ensures))
+    (reader-accepts _ _ (sym (c .before .before .before .before .before .before .before .before .before .before .before .before .before .before .before .before .before .file-refusal .ensures) ∙ c .before .before .before .before .before .before .before .before .before .before .before .before .before .before .if1 .left) (same-coefficients _ _ (c .before .before .before .before .before .before .before .before .before .before .before .before .before .second-sizes .ensures) ∙ c .before .before .before .before .before .before .before .before .before .before .before .if2 .left) (sym (c .before .before .before .before .before .before .before .before .before .before .any-not-finite .ensures) ∙ c .before .before .before .before .before .before .before .before .before .if3 .left) (sym x ∙ sym (c .before .zero-contrast .ensures) ∙ c .if4 .left), λ _. sheet-from Second _ _ _ _ (c .before .before .before .before .before .before .before .before .before .before .before .before .before .second-sizes .ensures) (c .before .before .before .before .before .fill-sheet .ensures))
 
 pub refusal-spec : {M : Type 1} → statement M
 refusal-spec =

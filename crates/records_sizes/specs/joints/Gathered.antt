@@ -1,18 +1,23 @@
 -- Not needed to check document 01: names that join the code to its definitions.
--- The sizes of a file, by its number, and the table at them.
+-- The sizes of a file, and its reader as far as the file alone says it.
 use Prim.Native.Nat.{ℕ}
-use mathlib.Core.Bool.{cond}
-use mathlib.Core.List.{List}
-use lib.Dec.{eqb}
+use mathlib.Core.List.{List, []}
 use Rattle.records.specs.declared.Sizes.{Sizes}
-use Rattle.records.specs.Kinds.{Table, kindsOf}
+use Rattle.records.specs.declared.Shape.{Shape}
+use Rattle.records.specs.declared.Shape.the-variants.{Series, Test, Archived, Second}
+use Rattle.records.specs.Kinds.{kindsOf}
+use Rattle.records.specs.Reader.{Reader}
 use Rattle.records.specs.Series.{sizes as seriesSizes}
 use Rattle.records.specs.Parameters.{sizes as parameterSizes}
 use Rattle.records.specs.Archive.{sizes as archiveSizes}
 use Rattle.records.specs.SecondFile.{sizes as secondSizes}
 
-unfoldable pub sizesOf : ℕ → List ℕ → Sizes
-sizesOf call s = cond (eqb call 0) (seriesSizes s) (cond (eqb call 1) (parameterSizes s) (cond (eqb call 2) (archiveSizes s) (secondSizes s)))
+abbrev pub sizesOf : Shape → List ℕ → Sizes
+sizesOf Series s = seriesSizes s
+sizesOf Test s = parameterSizes s
+sizesOf Archived s = archiveSizes s
+sizesOf Second s = secondSizes s
 
-abbrev pub tableOf : ℕ → List ℕ → Table
-tableOf call s = kindsOf call (sizesOf call s)
+-- by its length, its order and its form: of each of these files it is what its own reader says before its own reasons
+abbrev pub readerOf : Shape → ℕ → Reader
+readerOf file w = record { kinds = λ z. kindsOf file z; limit = w; sizes = λ s. sizesOf file s; own = λ s. [] }

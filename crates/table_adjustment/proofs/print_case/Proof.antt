@@ -3,7 +3,8 @@ use native.Mathlib.Omega.{arith}
 use mathlib.Core.Path.{refl}
 use denote.Ref.{now}
 use lib.Ieee.{ofBits}
-use Rattle.records.proofs.Limits.{panel-slots}
+use Rattle.records.specs.declared.Shape.the-variants.{Series}
+use Rattle.records.proofs.Limits.{slot-count}
 use Rattle.records_refusals.proofs.RoomLaws.{series-read}
 use borrow.Author.Needs.{needs}
 use Rattle.table_adjustment.proofs.print_case.Statement.{statement}
@@ -29,7 +30,7 @@ slice-aggregate-refusal-2 c = search needs
 refusal-requires : tie.Need-refusal-requires
 unfolding ofBits
 refusal-requires c κs =
-    let e = panel-slots in
+    let e = slot-count 24 Series in
     record { some = omega arith; most = omega arith; clear = refl; blank = refl; flagged = omega arith; written = omega arith }
 
 slice-aggregate-print-adjustment : tie.Need-slice-aggregate-print-adjustment
