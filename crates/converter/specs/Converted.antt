@@ -12,6 +12,7 @@ use Rattle.arithmetic.specs.Scale.{powerOfTwo}
 use Rattle.algebra.specs.Table.{row}
 use Rattle.records.specs.Bytes.{byte, bytesOf}
 use Rattle.records.specs.File.{count, kindOf, rowOf, columnOf, countOf, valueOf}
+use Rattle.records.specs.KindNumbers.{kindSigma2, kindBeta, kindContrast, kindBetaH, kindV, kindJacobian}
 
 -- A change of converter: the kinds whose values it rewrites; of those, the kinds that it divides by the power of two, any other it multiplies; and the power by kind, count, row and column.
 pub record Change : Type 0 where
@@ -21,17 +22,17 @@ pub record Change : Type 0 where
 
 -- "7 sigma2; 8 β; 9 contrast; 10 β_H": sigma2 by 4 ^ k, β and β_H by 2 ^ k, row r of the contrast by a power of its own, 2 ^ (m r)
 unfoldable pub kenwardRogerShift : ℤ → (ℕ → ℤ) → ℕ → ℕ → ℕ → ℕ → ℤ
-kenwardRogerShift k m kind n r c = cond (eqb kind 7) (k +ℤ k) (cond (eqb kind 9) (m r) k)
+kenwardRogerShift k m kind n r c = cond (eqb kind kindSigma2) (k +ℤ k) (cond (eqb kind kindContrast) (m r) k)
 
 abbrev pub kenwardRogerChange : ℤ → (ℕ → ℤ) → Change
-kenwardRogerChange k m = record { rewrites = λ kind. eqb kind 7 || eqb kind 8 || eqb kind 9 || eqb kind 10; divides = λ kind. false; shift = kenwardRogerShift k m }
+kenwardRogerChange k m = record { rewrites = λ kind. eqb kind kindSigma2 || eqb kind kindBeta || eqb kind kindContrast || eqb kind kindBetaH; divides = λ kind. false; shift = kenwardRogerShift k m }
 
 -- "The Satterthwaite call reads kinds 8, 9, 10, 30 v, 31 Jacobian": v and the Jacobians by 4 ^ k, β and β_H by 2 ^ k
 unfoldable pub satterthwaiteShift : ℤ → ℕ → ℕ → ℕ → ℕ → ℤ
-satterthwaiteShift k kind n r c = cond (eqb kind 30 || eqb kind 31) (k +ℤ k) k
+satterthwaiteShift k kind n r c = cond (eqb kind kindV || eqb kind kindJacobian) (k +ℤ k) k
 
 abbrev pub satterthwaiteChange : ℤ → Change
-satterthwaiteChange k = record { rewrites = λ kind. eqb kind 8 || eqb kind 10 || eqb kind 30 || eqb kind 31; divides = λ kind. false; shift = satterthwaiteShift k }
+satterthwaiteChange k = record { rewrites = λ kind. eqb kind kindBeta || eqb kind kindBetaH || eqb kind kindV || eqb kind kindJacobian; divides = λ kind. false; shift = satterthwaiteShift k }
 
 -- what the change makes of a value x of kind k, count n, row r and column c: the quotient by its power of two or the product with it, as f64 division and multiplication give them
 unfoldable pub rewritten : Change → ℕ → ℕ → ℕ → ℕ → Float → Float

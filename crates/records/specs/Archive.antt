@@ -17,6 +17,7 @@ use Rattle.records.specs.declared.Sizes.{Sizes}
 use Rattle.records.specs.Scan.{any}
 use Rattle.records.specs.Kinds.{Table, kindAt, width, archiveKinds}
 use Rattle.records.specs.File.{count, cell, rows, columns, notFinite}
+use Rattle.records.specs.KindNumbers.{kindScaledPhi, kindScaledPhiA, kindScaledP, kindW, kindArchivedPhi, kindArchivedPhiA, kindArchivedP, kindArchivedSigma2}
 use Rattle.records.specs.Reader.{Reader, readerReasons}
 use Rattle.records.specs.Written.{Content, fileOf}
 
@@ -38,13 +39,13 @@ sizesAt p N = record { specimens = 0; coefficients = p; columns = 0; blocks = 0;
 -- units and sigma2 follow as kinds 15 to 18"
 unfoldable pub archived : Archive → ℕ → ℕ → ℕ → ℕ → Float
 archived a k n r c =
-    cond (eqb k 11) (mul binary64 (at floats (a .phi) r c) (a .sigma2))
-    (cond (eqb k 12) (mul binary64 (at floats (a .phiA) r c) (a .sigma2))
-    (cond (eqb k 13) (div binary64 (at floats (matrixAt (a .ps) n) r c) (a .sigma2))
-    (cond (eqb k 14) (at floats (a .w) r c)
-    (cond (eqb k 15) (at floats (a .phi) r c)
-    (cond (eqb k 16) (at floats (a .phiA) r c)
-    (cond (eqb k 17) (at floats (matrixAt (a .ps) n) r c) (a .sigma2)))))))
+    cond (eqb k kindScaledPhi) (mul binary64 (at floats (a .phi) r c) (a .sigma2))
+    (cond (eqb k kindScaledPhiA) (mul binary64 (at floats (a .phiA) r c) (a .sigma2))
+    (cond (eqb k kindScaledP) (div binary64 (at floats (matrixAt (a .ps) n) r c) (a .sigma2))
+    (cond (eqb k kindW) (at floats (a .w) r c)
+    (cond (eqb k kindArchivedPhi) (at floats (a .phi) r c)
+    (cond (eqb k kindArchivedPhiA) (at floats (a .phiA) r c)
+    (cond (eqb k kindArchivedP) (at floats (matrixAt (a .ps) n) r c) (a .sigma2)))))))
 
 -- what a cell's record says: its number's bits
 unfoldable pub archiveContent : Archive → ℕ → ℕ → ℕ → ℕ → Content
@@ -56,10 +57,10 @@ archiveBytes a = fileOf (archiveKinds (sizesAt (a .coefficients) (a .parameters)
 
 -- ---- the reader: p and the number of variance parameters come from the largest indices of Φ and of W. There is one of each: a file without misses its first cell.
 abbrev pub coefficients : List ℕ → ℕ
-coefficients s = max 1 (max (rows s 11) (columns s 11))
+coefficients s = max 1 (max (rows s kindScaledPhi) (columns s kindScaledPhi))
 
 abbrev pub parameters : List ℕ → ℕ
-parameters s = max 1 (max (rows s 14) (columns s 14))
+parameters s = max 1 (max (rows s kindW) (columns s kindW))
 
 unfoldable pub sizes : List ℕ → Sizes
 sizes s = sizesAt (coefficients s) (parameters s)
@@ -77,11 +78,11 @@ unfoldable pub archiveOf : List ℕ → Archive
 archiveOf s = record {
   coefficients = coefficients s;
   parameters = parameters s;
-  phi = table plusZero 6 6 (coefficients s) (coefficients s) (cellValue s 15 0);
-  phiA = table plusZero 6 6 (coefficients s) (coefficients s) (cellValue s 16 0);
-  ps = stack 4 (parameters s) (λ i. table plusZero 6 6 (coefficients s) (coefficients s) (cellValue s 17 i));
-  w = table plusZero 6 6 (parameters s) (parameters s) (cellValue s 14 0);
-  sigma2 = cellValue s 18 0 0 0;
+  phi = table plusZero 6 6 (coefficients s) (coefficients s) (cellValue s kindArchivedPhi 0);
+  phiA = table plusZero 6 6 (coefficients s) (coefficients s) (cellValue s kindArchivedPhiA 0);
+  ps = stack 4 (parameters s) (λ i. table plusZero 6 6 (coefficients s) (coefficients s) (cellValue s kindArchivedP i));
+  w = table plusZero 6 6 (parameters s) (parameters s) (cellValue s kindW 0);
+  sigma2 = cellValue s kindArchivedSigma2 0 0 0;
 }
 
 -- "a scaled record whose bits aren't its residual one's times or divided by sigma2": a cell of kind k whose bits are not those of what is archived
@@ -95,7 +96,7 @@ unfoldable pub valueReasons : List ℕ → List (ℕ × Bool)
 valueReasons s = (4, any (count s) (notFinite s)) ∷ (5, le (archiveOf s .sigma2) plusZero) ∷ []
 
 unfoldable pub scaledReasons : List ℕ → List (ℕ × Bool)
-scaledReasons s = (2, misscaled s 11) ∷ (2, misscaled s 12) ∷ (2, misscaled s 13) ∷ []
+scaledReasons s = (2, misscaled s kindScaledPhi) ∷ (2, misscaled s kindScaledPhiA) ∷ (2, misscaled s kindScaledP) ∷ []
 
 abbrev pub reader : Reader
 reader = record { kinds = archiveKinds; limit = 1; sizes = sizes; own = λ s. valueReasons s ++ scaledReasons s }

@@ -10,6 +10,7 @@ use Rattle.adjustment.specs.Adjusted.{adjustmentReasons}
 use Rattle.records.specs.Scan.{any}
 use Rattle.records.specs.Kinds.{kenwardRoger}
 use Rattle.records.specs.File.{count, kindOf, bitsOf, lengthReasons, formReasons}
+use Rattle.records.specs.KindNumbers.{kindBlock}
 use Rattle.records.specs.Order.{orderReasons}
 use Rattle.records.specs.Layout.{answerBytes}
 use Rattle.records.specs.Call.{Call}
@@ -21,7 +22,7 @@ use Rattle.records.specs.ArchiveCall.{seriesArchive}
 
 -- document 01: "3 block (row its number, column k, count m, bits 0)", so that any other bits were a "nonzero unused field"
 unfoldable pub blockBits : List ℕ → ℕ → Bool
-blockBits s i = eqb (kindOf s i) 3 && not (eqb (bitsOf s i) 0)
+blockBits s i = eqb (kindOf s i) kindBlock && not (eqb (bitsOf s i) 0)
 
 -- what refused a file: such a block, beside 2's other reasons, and no 13
 unfoldable pub bareReasons : ℕ → List ℕ → List (ℕ × Bool)

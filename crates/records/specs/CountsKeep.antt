@@ -10,6 +10,7 @@ use Rattle.algebra.specs.Reasons.{first}
 use Rattle.records.specs.Bytes.{byte}
 use Rattle.records.specs.Scan.{any}
 use Rattle.records.specs.File.{count, kindOf, columnOf, bitsOf}
+use Rattle.records.specs.KindNumbers.{kindBlock}
 use Rattle.records.specs.Written.{sequence, recordAt}
 use Rattle.records.specs.CutoffTable.{badTable, cutoffsIn}
 use Rattle.records.specs.Text.{textOf}
@@ -22,14 +23,14 @@ use Rattle.records.specs.BareBlocks.{bareReasons, bareCall, bareText, ba
 -- ---- the file with its blocks' parameter counts written
 -- record i with k(k+1)/2 in "the first of the eight value bytes", where it is a block
 unfoldable pub withCount : List ℕ → ℕ → List ℕ
-withCount s i = cond (eqb (kindOf s i) 3) (set (recordAt s i) 8 (parameterCount s i)) (recordAt s i)
+withCount s i = cond (eqb (kindOf s i) kindBlock) (set (recordAt s i) 8 (parameterCount s i)) (recordAt s i)
 
 unfoldable pub withCounts : List ℕ → List ℕ
 withCounts s = sequence (count s) (withCount s)
 
 -- a block whose count cannot be written: it is not bare, or k(k+1)/2 is more than a byte holds, as it is for every k from 23 on
 unfoldable pub uncountable : List ℕ → ℕ → Bool
-uncountable s i = eqb (kindOf s i) 3 && (not (eqb (bitsOf s i) 0) || not (ltb (parameterCount s i) 256))
+uncountable s i = eqb (kindOf s i) kindBlock && (not (eqb (bitsOf s i) 0) || not (ltb (parameterCount s i) 256))
 
 -- a file of whole records without such a block
 abbrev pub Countable : List ℕ → Type 0
@@ -46,6 +47,6 @@ pub record CountsKeep : Type 0 where
   pub sameArchive : (w : ℕ) (lab s lent : List ℕ) → badTable lab ≡ false → Countable s
       → (archivingReturned w lab (withCounts s) lent ≡ told (cutoffsIn lab) s (untabledReturned (bareArchiving w s) (cutoffsIn lab) lent)) × (archivingWritten w lab (withCounts s) lent ≡ untabledWritten (bareArchiving w s) (cutoffsIn lab) lent)
   -- a series without a block is the file itself
-  pub noBlock : (s : List ℕ) → length s % 16 ≡ 0 → any (count s) (λ i. eqb (kindOf s i) 3) ≡ false → withCounts s ≡ s
+  pub noBlock : (s : List ℕ) → length s % 16 ≡ 0 → any (count s) (λ i. eqb (kindOf s i) kindBlock) ≡ false → withCounts s ≡ s
   -- in a file of bytes no k from 23 on can be right
   pub neverRight : (s : List ℕ) → ((i : ℕ) → byte s i < 256) → (i : ℕ) → kindOf s i ≡ 3 → 23 ≤ columnOf s i → miscounted s i ≡ true

@@ -13,6 +13,7 @@ use Rattle.algebra.specs.Jacobi.{two}
 use Rattle.records.specs.Scan.{any}
 use Rattle.records.specs.Written.{recordOf, sequence}
 use Rattle.records.specs.File.{kindOf, rowOf, columnOf, paddingOf, countOf, valueOf}
+use Rattle.records.specs.KindNumbers.{kindCutoff}
 
 -- ---- the tables that are taken
 -- "The loader takes nine finite positive values, the last above 2": what the value of row i has to exceed
@@ -22,7 +23,7 @@ floorOf i = cond (eqb i 8) two plusZero
 -- record i is not "kind 20", row i, its other fields 0, with such a value
 unfoldable pub badCutoff : List ℕ → ℕ → Bool
 badCutoff lab i =
-    not (eqb (kindOf lab i) 20)
+    not (eqb (kindOf lab i) kindCutoff)
     || not (eqb (rowOf lab i) i)
     || not (eqb (columnOf lab i) 0)
     || not (eqb (paddingOf lab i) 0)

@@ -13,6 +13,7 @@ use Rattle.records.specs.declared.Kind.{Kind}
 use Rattle.records.specs.declared.Shape.{Shape}
 use Rattle.records.specs.declared.Shape.the-variants.{Series, Test, Archived, Second}
 use Rattle.records.specs.declared.Sizes.{Sizes}
+use Rattle.records.specs.KindNumbers.{kindX, kindZ, kindBlock, kindTheta, kindWeight, kindPhi, kindSigma2, kindBeta, kindContrast, kindBetaH, kindScaledPhi, kindScaledPhiA, kindScaledP, kindW, kindArchivedPhi, kindArchivedPhiA, kindArchivedP, kindArchivedSigma2, kindV, kindJacobian, kindA}
 
 -- ---- one field
 -- what it may hold: an index is below its limit, a number is any, and "unused fields are 0"
@@ -56,8 +57,8 @@ abbrev pub absentIsZero : ℕ → ℕ → Kind
 absentIsZero rows columns = record { count = Unused; row = Index rows; column = Index columns; value = Float; sparse = true }
 
 -- "3 block (row its number, column k, count m, ..)": k and m are numbers and no indices. "Req 04": the value is a number in the first byte
-abbrev pub blockKind : ℕ → Kind
-blockKind rows = record { count = Number; row = Index rows; column = Number; value = FirstByte; sparse = false }
+abbrev pub byBlock : ℕ → Kind
+byBlock rows = record { count = Number; row = Index rows; column = Number; value = FirstByte; sparse = false }
 
 -- a kind that the call does not read: no row is below its limit
 abbrev pub unread : Kind
@@ -78,48 +79,48 @@ kindNumbers = 33
 -- What sizes leave each kind: X, Z, block, theta, weight, Φ, sigma2, β, contrast, β_H. "Kinds 2 to 5, 9, 10 may be absent wholly": where there are no weights or no β_H, no row of them is left.
 unfoldable pub kenwardRogerKinds : Sizes → Table
 kenwardRogerKinds z =
-    (1, byRowAndColumn (z .specimens) (z .coefficients))
-    ∷ (2, absentIsZero (z .specimens) (z .columns))
-    ∷ (3, blockKind (z .blocks))
-    ∷ (4, byRow (z .thetas))
-    ∷ (5, byRow (cond (z .weighted) (z .specimens) 0))
-    ∷ (6, byRowAndColumn (z .coefficients) (z .coefficients))
-    ∷ (7, alone)
-    ∷ (8, byRow (z .coefficients))
-    ∷ (9, byRowAndColumn (z .contrasts) (z .coefficients))
-    ∷ (10, byRow (cond (z .hypothesis) (z .coefficients) 0))
+    (kindX, byRowAndColumn (z .specimens) (z .coefficients))
+    ∷ (kindZ, absentIsZero (z .specimens) (z .columns))
+    ∷ (kindBlock, byBlock (z .blocks))
+    ∷ (kindTheta, byRow (z .thetas))
+    ∷ (kindWeight, byRow (cond (z .weighted) (z .specimens) 0))
+    ∷ (kindPhi, byRowAndColumn (z .coefficients) (z .coefficients))
+    ∷ (kindSigma2, alone)
+    ∷ (kindBeta, byRow (z .coefficients))
+    ∷ (kindContrast, byRowAndColumn (z .contrasts) (z .coefficients))
+    ∷ (kindBetaH, byRow (cond (z .hypothesis) (z .coefficients) 0))
     ∷ []
 
 -- β, contrast, β_H; v, Jacobian, A
 unfoldable pub satterthwaiteKinds : Sizes → Table
 satterthwaiteKinds z =
-    (8, byRow (z .coefficients))
-    ∷ (9, byRowAndColumn (z .contrasts) (z .coefficients))
-    ∷ (10, byRow (cond (z .hypothesis) (z .coefficients) 0))
-    ∷ (30, byRowAndColumn (z .coefficients) (z .coefficients))
-    ∷ (31, byCount (z .parameters) (z .coefficients) (z .coefficients))
-    ∷ (32, byRowAndColumn (z .parameters) (z .parameters))
+    (kindBeta, byRow (z .coefficients))
+    ∷ (kindContrast, byRowAndColumn (z .contrasts) (z .coefficients))
+    ∷ (kindBetaH, byRow (cond (z .hypothesis) (z .coefficients) 0))
+    ∷ (kindV, byRowAndColumn (z .coefficients) (z .coefficients))
+    ∷ (kindJacobian, byCount (z .parameters) (z .coefficients) (z .coefficients))
+    ∷ (kindA, byRowAndColumn (z .parameters) (z .parameters))
     ∷ []
 
 -- Document 02, "Req 02": "kind 11 Φ, 12 Φ_A, 13 P (the count field is its index), 14 W", in response units; "Φ, Φ_A and P in residual units and sigma2 follow as kinds 15 to 18". There is a P for each variance parameter.
 unfoldable pub archiveKinds : Sizes → Table
 archiveKinds z =
-    (11, byRowAndColumn (z .coefficients) (z .coefficients))
-    ∷ (12, byRowAndColumn (z .coefficients) (z .coefficients))
-    ∷ (13, byCount (z .parameters) (z .coefficients) (z .coefficients))
-    ∷ (14, byRowAndColumn (z .parameters) (z .parameters))
-    ∷ (15, byRowAndColumn (z .coefficients) (z .coefficients))
-    ∷ (16, byRowAndColumn (z .coefficients) (z .coefficients))
-    ∷ (17, byCount (z .parameters) (z .coefficients) (z .coefficients))
-    ∷ (18, alone)
+    (kindScaledPhi, byRowAndColumn (z .coefficients) (z .coefficients))
+    ∷ (kindScaledPhiA, byRowAndColumn (z .coefficients) (z .coefficients))
+    ∷ (kindScaledP, byCount (z .parameters) (z .coefficients) (z .coefficients))
+    ∷ (kindW, byRowAndColumn (z .parameters) (z .parameters))
+    ∷ (kindArchivedPhi, byRowAndColumn (z .coefficients) (z .coefficients))
+    ∷ (kindArchivedPhiA, byRowAndColumn (z .coefficients) (z .coefficients))
+    ∷ (kindArchivedP, byCount (z .parameters) (z .coefficients) (z .coefficients))
+    ∷ (kindArchivedSigma2, alone)
     ∷ []
 
 -- "the series' kinds 8 to 10 lent as a second file": β, contrast, β_H
 unfoldable pub testKinds : Sizes → Table
 testKinds z =
-    (8, byRow (z .coefficients))
-    ∷ (9, byRowAndColumn (z .contrasts) (z .coefficients))
-    ∷ (10, byRow (cond (z .hypothesis) (z .coefficients) 0))
+    (kindBeta, byRow (z .coefficients))
+    ∷ (kindContrast, byRowAndColumn (z .contrasts) (z .coefficients))
+    ∷ (kindBetaH, byRow (cond (z .hypothesis) (z .coefficients) 0))
     ∷ []
 
 -- the table of each file

@@ -1,6 +1,7 @@
 -- Document 01, "kenward_roger.rs (66 lines) and records" and "Refusals": the record files, the calls whole, what `pulltest` prints, and the bench examples. Definitions alone, in the document's order.
 pub mod Scan
 pub mod Bytes
+pub mod KindNumbers
 pub mod Kinds
 pub mod Cells
 pub mod File

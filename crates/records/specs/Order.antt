@@ -7,10 +7,11 @@ use mathlib.Core.List.{List, [], _∷_}
 use lib.Dec.{eqb, ltb}
 use Rattle.records.specs.Scan.{any}
 use Rattle.records.specs.File.{count, kindOf, rowOf, columnOf, countOf}
+use Rattle.records.specs.KindNumbers.{kindScaledP, kindArchivedP, kindJacobian}
 
 -- "where it numbers a matrix": the count of a Jacobian; and "Req 02": "13 P (the count field is its index)", and 17, P in residual units. A block's count is its groups, and numbers nothing.
 unfoldable pub numbersMatrix : ℕ → Bool
-numbersMatrix kind = eqb kind 31 || eqb kind 13 || eqb kind 17
+numbersMatrix kind = eqb kind kindJacobian || eqb kind kindScaledP || eqb kind kindArchivedP
 
 -- the number of record i's matrix, 0 where its count numbers none
 unfoldable pub matrixOf : List ℕ → ℕ → ℕ

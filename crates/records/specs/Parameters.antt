@@ -13,18 +13,19 @@ use Rattle.records.specs.declared.Sizes.{Sizes}
 use Rattle.records.specs.Scan.{any}
 use Rattle.records.specs.Kinds.{Table, satterthwaiteKinds}
 use Rattle.records.specs.File.{count, cell, rows, columns, present, notFinite}
+use Rattle.records.specs.KindNumbers.{kindBeta, kindContrast, kindBetaH, kindV, kindJacobian, kindA}
 use Rattle.records.specs.Reader.{Reader, readerReasons}
 use Rattle.tests.specs.Satterthwaite.{Inputs}
 
 -- There is a coefficient, a contrast row and a parameter: a file without misses its first cell.
 abbrev pub coefficients : List ℕ → ℕ
-coefficients s = max 1 (rows s 8)
+coefficients s = max 1 (rows s kindBeta)
 
 abbrev pub contrastRows : List ℕ → ℕ
-contrastRows s = max 1 (rows s 9)
+contrastRows s = max 1 (rows s kindContrast)
 
 abbrev pub parameters : List ℕ → ℕ
-parameters s = max 1 (max (rows s 32) (columns s 32))
+parameters s = max 1 (max (rows s kindA) (columns s kindA))
 
 -- "only 10 optional"
 unfoldable pub sizes : List ℕ → Sizes
@@ -37,7 +38,7 @@ sizes s = record {
   contrasts = contrastRows s;
   parameters = parameters s;
   weighted = false;
-  hypothesis = present s 10;
+  hypothesis = present s kindBetaH;
 }
 
 -- what the sizes leave each kind
@@ -64,17 +65,17 @@ cellValue s k n r c = cell (kinds s) s k n r c
 
 unfoldable pub jacobians : List ℕ → List (List (List Float))
 jacobians s =
-    span 0 (parameters s) (λ i. table plusZero 6 6 (coefficients s) (coefficients s) (cellValue s 31 i)) (replicate 4 (blank plusZero 6 6))
+    span 0 (parameters s) (λ i. table plusZero 6 6 (coefficients s) (coefficients s) (cellValue s kindJacobian i)) (replicate 4 (blank plusZero 6 6))
 
 unfoldable pub inputs : List ℕ → Inputs
 inputs s = record {
   p = coefficients s;
   q = contrastRows s;
   n = parameters s;
-  l = table plusZero 6 6 (contrastRows s) (coefficients s) (cellValue s 9 0);
-  beta = row plusZero 6 (coefficients s) (λ i. cellValue s 8 0 i 0);
-  betaH = row plusZero 6 (coefficients s) (λ i. cellValue s 10 0 i 0);
-  v = table plusZero 6 6 (coefficients s) (coefficients s) (cellValue s 30 0);
+  l = table plusZero 6 6 (contrastRows s) (coefficients s) (cellValue s kindContrast 0);
+  beta = row plusZero 6 (coefficients s) (λ i. cellValue s kindBeta 0 i 0);
+  betaH = row plusZero 6 (coefficients s) (λ i. cellValue s kindBetaH 0 i 0);
+  v = table plusZero 6 6 (coefficients s) (coefficients s) (cellValue s kindV 0);
   js = jacobians s;
-  a = table plusZero 6 6 (parameters s) (parameters s) (cellValue s 32 0);
+  a = table plusZero 6 6 (parameters s) (parameters s) (cellValue s kindA 0);
 }

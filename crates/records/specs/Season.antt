@@ -14,13 +14,14 @@ use Rattle.tests.specs.Answer.{noEntry}
 use Rattle.records.specs.Scan.{any, last}
 use Rattle.records.specs.Bytes.{byte}
 use Rattle.records.specs.File.{count, kindOf}
+use Rattle.records.specs.KindNumbers.{kindClosing}
 use Rattle.records.specs.KenwardRogerCall.{number, entries}
 use Rattle.records.specs.Text.{codes, numberText, refusalText, textOf}
 
 -- ---- the series of a season
 -- record i closes a series: "a record of kind 21, its other bytes zero"; "A kind 21 with another byte set doesn't close"
 unfoldable pub closes : List ℕ → ℕ → Bool
-closes s i = eqb (kindOf s i) 21 && not (any 15 (λ o. not (eqb (byte s (16 * i + 1 + o)) 0)))
+closes s i = eqb (kindOf s i) kindClosing && not (any 15 (λ o. not (eqb (byte s (16 * i + 1 + o)) 0)))
 
 -- the record with which the series of record i begins: the one after the last that closes before it, or the file's first
 unfoldable pub begins : List ℕ → ℕ → ℕ

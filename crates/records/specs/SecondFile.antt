@@ -13,15 +13,16 @@ use Rattle.records.specs.declared.Sizes.{Sizes}
 use Rattle.records.specs.Scan.{any}
 use Rattle.records.specs.Kinds.{Table, testKinds}
 use Rattle.records.specs.File.{count, cell, rows, present, notFinite}
+use Rattle.records.specs.KindNumbers.{kindBeta, kindContrast, kindBetaH}
 use Rattle.records.specs.Reader.{Reader, readerReasons}
 use Rattle.records.specs.Written.{recordsOf}
 
 -- its coefficients are those of β: a file without misses the first
 abbrev pub coefficients : List ℕ → ℕ
-coefficients t = max 1 (rows t 8)
+coefficients t = max 1 (rows t kindBeta)
 
 abbrev pub contrastRows : List ℕ → ℕ
-contrastRows t = rows t 9
+contrastRows t = rows t kindContrast
 
 unfoldable pub sizes : List ℕ → Sizes
 sizes t = record {
@@ -33,7 +34,7 @@ sizes t = record {
   contrasts = contrastRows t;
   parameters = 0;
   weighted = false;
-  hypothesis = present t 10 && present t 9;
+  hypothesis = present t kindBetaH && present t kindContrast;
 }
 
 abbrev pub kinds : List ℕ → Table
@@ -44,7 +45,7 @@ cellValue t k r c = cell (kinds t) t k 0 r c
 
 -- 8, "Kenward–Roger contrast all zero"
 unfoldable pub zeroContrast : List ℕ → Bool
-zeroContrast t = present t 9 && not (any (contrastRows t) (λ r. any (coefficients t) (λ c. not (isZero (cellValue t 9 r c)))))
+zeroContrast t = present t kindContrast && not (any (contrastRows t) (λ r. any (coefficients t) (λ c. not (isZero (cellValue t kindContrast r c)))))
 
 -- in order: its length, its order, its form, a β of another length than p (a cell missing or beyond the archive's sizes, 2), its values
 unfoldable pub formedFor : ℕ → List ℕ → List (ℕ × Bool)
@@ -64,17 +65,17 @@ refusal p t = first (reasons p t)
 
 -- ---- what the tests take from it
 unfoldable pub beta : List ℕ → List Float
-beta t = row plusZero 6 (coefficients t) (λ i. cellValue t 8 i 0)
+beta t = row plusZero 6 (coefficients t) (λ i. cellValue t kindBeta i 0)
 
 unfoldable pub betaH : List ℕ → List Float
-betaH t = row plusZero 6 (coefficients t) (λ i. cellValue t 10 i 0)
+betaH t = row plusZero 6 (coefficients t) (λ i. cellValue t kindBetaH i 0)
 
 unfoldable pub contrast : List ℕ → Rows
-contrast t = table plusZero 6 6 (contrastRows t) (coefficients t) (cellValue t 9)
+contrast t = table plusZero 6 6 (contrastRows t) (coefficients t) (cellValue t kindContrast)
 
 -- ---- "the series' kinds 8 to 10": the records of these kinds, in their order
 unfoldable pub isTestKind : ℕ → Bool
-isTestKind k = eqb k 8 || eqb k 9 || eqb k 10
+isTestKind k = eqb k kindBeta || eqb k kindContrast || eqb k kindBetaH
 
 unfoldable pub ownTests : List ℕ → List ℕ
 ownTests s = recordsOf isTestKind s

@@ -16,32 +16,33 @@ use Rattle.records.specs.declared.Sizes.{Sizes}
 use Rattle.records.specs.Scan.{any, last, total}
 use Rattle.records.specs.Kinds.{Table, kenwardRogerKinds}
 use Rattle.records.specs.File.{count, kindOf, columnOf, countOf, firstValueOf, isCell, cell, rows, columns, present, notFinite}
+use Rattle.records.specs.KindNumbers.{kindX, kindZ, kindBlock, kindTheta, kindWeight, kindPhi, kindSigma2, kindBeta, kindContrast, kindBetaH}
 use Rattle.records.specs.Reader.{Reader, readerReasons}
 use Rattle.records.specs.Shortened.{allTorn, shortened}
 
 -- "n and p come from the largest X indices; Z columns, blocks, thetas and contrast rows from their own kind." A series has a specimen and a coefficient: a file with no X misses its
 -- first cell.
 abbrev pub specimens : List ℕ → ℕ
-specimens s = max 1 (rows s 1)
+specimens s = max 1 (rows s kindX)
 
 abbrev pub coefficients : List ℕ → ℕ
-coefficients s = max 1 (columns s 1)
+coefficients s = max 1 (columns s kindX)
 
 abbrev pub zColumns : List ℕ → ℕ
-zColumns s = columns s 2
+zColumns s = columns s kindZ
 
 abbrev pub blockCount : List ℕ → ℕ
-blockCount s = rows s 3
+blockCount s = rows s kindBlock
 
 abbrev pub thetas : List ℕ → ℕ
-thetas s = rows s 4
+thetas s = rows s kindTheta
 
 abbrev pub contrastRows : List ℕ → ℕ
-contrastRows s = rows s 9
+contrastRows s = rows s kindContrast
 
 -- a weight for each specimen, or none
 abbrev pub weightCount : List ℕ → ℕ
-weightCount s = cond (present s 5) (specimens s) 0
+weightCount s = cond (present s kindWeight) (specimens s) 0
 
 -- "Kinds 2 to 5, 9, 10 may be absent wholly (β_H is then 0); 10 without 9 counts as beyond the sizes."
 unfoldable pub sizes : List ℕ → Sizes
@@ -53,8 +54,8 @@ sizes s = record {
   thetas = thetas s;
   contrasts = contrastRows s;
   parameters = 0;
-  weighted = present s 5;
-  hypothesis = present s 10 && present s 9;
+  weighted = present s kindWeight;
+  hypothesis = present s kindBetaH && present s kindContrast;
 }
 
 -- what the sizes leave each kind
@@ -66,14 +67,14 @@ abbrev pub cellValue : List ℕ → ℕ → ℕ → ℕ → Float
 cellValue s k r c = cell (kinds s) s k 0 r c
 
 abbrev pub sigma2 : List ℕ → Float
-sigma2 s = cellValue s 7 0 0
+sigma2 s = cellValue s kindSigma2 0 0
 
 -- "3 block (row its number, column k, count m, ..)"
 unfoldable pub blockOf : List ℕ → ℕ → Block
 blockOf s b =
     record {
-      effects = last (count s) (isCell (kinds s) s 3 0 b 0) (columnOf s) 0;
-      groups = last (count s) (isCell (kinds s) s 3 0 b 0) (countOf s) 0;
+      effects = last (count s) (isCell (kinds s) s kindBlock 0 b 0) (columnOf s) 0;
+      groups = last (count s) (isCell (kinds s) s kindBlock 0 b 0) (countOf s) 0;
     }
 
 -- ---- the design as the file sends it
@@ -81,13 +82,13 @@ unfoldable pub asSent : List ℕ → Design
 asSent s = record {
   n = specimens s;
   p = coefficients s;
-  x = table plusZero (specimens s) (coefficients s) (specimens s) (coefficients s) (cellValue s 1);
-  z = table plusZero (specimens s) (zColumns s) (specimens s) (zColumns s) (cellValue s 2);
-  weighted = present s 5;
-  weights = row plusZero (weightCount s) (weightCount s) (λ i. cellValue s 5 i 0);
+  x = table plusZero (specimens s) (coefficients s) (specimens s) (coefficients s) (cellValue s kindX);
+  z = table plusZero (specimens s) (zColumns s) (specimens s) (zColumns s) (cellValue s kindZ);
+  weighted = present s kindWeight;
+  weights = row plusZero (weightCount s) (weightCount s) (λ i. cellValue s kindWeight i 0);
   blocks = row noBlock 3 (blockCount s) (blockOf s);
   count = blockCount s;
-  theta = row plusZero 3 (thetas s) (λ i. cellValue s 4 i 0);
+  theta = row plusZero 3 (thetas s) (λ i. cellValue s kindTheta i 0);
 }
 
 -- ---- what refuses it
@@ -97,7 +98,7 @@ parameterCount s i = columnOf s i * (columnOf s i + 1) / 2
 
 -- 13, "a block whose written number differs from k(k+1)/2": the written number is the first value byte, and whole numbers are compared, so that from k = 23 on none is right
 unfoldable pub miscounted : List ℕ → ℕ → Bool
-miscounted s i = eqb (kindOf s i) 3 && not (eqb (firstValueOf s i) (parameterCount s i))
+miscounted s i = eqb (kindOf s i) kindBlock && not (eqb (firstValueOf s i) (parameterCount s i))
 
 -- 3, "a size outside its limits": a block of other than 1 or 2 effects or without a group, or more than 3 block parameters. Any other size is bounded by 2.
 unfoldable pub badSize : List ℕ → Bool
@@ -107,7 +108,7 @@ badSize s =
 
 -- 6, by document 02, "Req 03": "Only a negative weight is refused with 6"
 unfoldable pub badWeight : List ℕ → Bool
-badWeight s = present s 5 && any (specimens s) (λ i. lt (cellValue s 5 i 0) plusZero)
+badWeight s = present s kindWeight && any (specimens s) (λ i. lt (cellValue s kindWeight i 0) plusZero)
 
 -- 7, "sum of m·k ≠ Z columns, or theta count ≠ sum of k(k+1)/2"
 unfoldable pub misfit : List ℕ → Bool
@@ -117,7 +118,7 @@ misfit s =
 
 -- 8, "Kenward–Roger contrast all zero"
 unfoldable pub zeroContrast : List ℕ → Bool
-zeroContrast s = present s 9 && not (any (contrastRows s) (λ r. any (coefficients s) (λ c. not (isZero (cellValue s 9 r c)))))
+zeroContrast s = present s kindContrast && not (any (contrastRows s) (λ r. any (coefficients s) (λ c. not (isZero (cellValue s kindContrast r c)))))
 
 -- "Refusals, lowest number first": what refuses a file before anything is computed, in order: its length, its form, its blocks' parameter counts, its sizes, its values. w is the limit of specimens.
 -- "Req 04": 13 comes "after 2 and before 3"
@@ -152,14 +153,14 @@ unfoldable pub design : List ℕ → Design
 design s = shortened (asSent s)
 
 unfoldable pub phi : List ℕ → Rows
-phi s = table plusZero 6 6 (coefficients s) (coefficients s) (cellValue s 6)
+phi s = table plusZero 6 6 (coefficients s) (coefficients s) (cellValue s kindPhi)
 
 unfoldable pub beta : List ℕ → List Float
-beta s = row plusZero 6 (coefficients s) (λ i. cellValue s 8 i 0)
+beta s = row plusZero 6 (coefficients s) (λ i. cellValue s kindBeta i 0)
 
 -- "(β_H is then 0)"
 unfoldable pub betaH : List ℕ → List Float
-betaH s = row plusZero 6 (coefficients s) (λ i. cellValue s 10 i 0)
+betaH s = row plusZero 6 (coefficients s) (λ i. cellValue s kindBetaH i 0)
 
 unfoldable pub contrast : List ℕ → Rows
-contrast s = table plusZero 6 6 (contrastRows s) (coefficients s) (cellValue s 9)
+contrast s = table plusZero 6 6 (contrastRows s) (coefficients s) (cellValue s kindContrast)

@@ -13,6 +13,7 @@ use Rattle.adjustment.specs.Adjusted.{adjustment, adjustmentReasons}
 use Rattle.tests.specs.KenwardRoger.{Run, scaledBy, runOf}
 use Rattle.records.specs.Scan.{any}
 use Rattle.records.specs.File.{count, kindOf, rowOf, columnOf}
+use Rattle.records.specs.KindNumbers.{kindX, kindZ, kindWeight}
 use Rattle.records.specs.Written.{sequence, recordAt}
 use Rattle.records.specs.Layout.{answerBytes}
 use Rattle.records.specs.Call.{Call, callReturned, callWritten}
@@ -45,7 +46,7 @@ module _ (w : ℕ) (lab : List ℕ) (d : Design) (s answer : List ℕ) where
 -- ---- the file with the torn rows' records taken out and the others numbered anew
 -- "1 X; 2 Z (absent is 0); .. 5 weight": the kinds of which a row is a specimen
 unfoldable pub ofSpecimen : ℕ → Bool
-ofSpecimen kind = eqb kind 1 || eqb kind 2 || eqb kind 5
+ofSpecimen kind = eqb kind kindX || eqb kind kindZ || eqb kind kindWeight
 
 -- record i is a torn specimen's
 unfoldable pub ofTorn : List ℕ → ℕ → Bool
@@ -65,7 +66,7 @@ withoutTorn s = sequence (count s) (λ i. cond (ofTorn s i) [] (renumbered s i))
 -- record i is of a column of Z that loses its last record: it has none in a row that is kept. "sizes but n stay as sent", so that such a column stays in the series, as zeros; a file has its columns by the largest index,
 -- and the file without the record may have fewer.
 unfoldable pub columnLost : List ℕ → ℕ → Bool
-columnLost s i = eqb (kindOf s i) 2 && not (any (count s) (λ j. eqb (kindOf s j) 2 && eqb (columnOf s j) (columnOf s i) && not (torn (asSent s) (rowOf s j))))
+columnLost s i = eqb (kindOf s i) kindZ && not (any (count s) (λ j. eqb (kindOf s j) 2 && eqb (columnOf s j) (columnOf s i) && not (torn (asSent s) (rowOf s j))))
 
 pub record TornKeeps : Type 0 where
   -- a series without a zero weight has the design that it had

@@ -1,5 +1,28 @@
 // The record files: their definitions (specs/), and what the table of kinds says of one kind.
 
+// The numbers of the kinds of record, as specs/KindNumbers.antt has them.
+pub const KIND_X: usize = 1;
+pub const KIND_Z: usize = 2;
+pub const KIND_BLOCK: usize = 3;
+pub const KIND_THETA: usize = 4;
+pub const KIND_WEIGHT: usize = 5;
+pub const KIND_PHI: usize = 6;
+pub const KIND_SIGMA2: usize = 7;
+pub const KIND_BETA: usize = 8;
+pub const KIND_CONTRAST: usize = 9;
+pub const KIND_BETA_H: usize = 10;
+pub const KIND_SCALED_PHI: usize = 11;
+pub const KIND_SCALED_PHI_A: usize = 12;
+pub const KIND_SCALED_P: usize = 13;
+pub const KIND_W: usize = 14;
+pub const KIND_ARCHIVED_PHI: usize = 15;
+pub const KIND_ARCHIVED_PHI_A: usize = 16;
+pub const KIND_ARCHIVED_P: usize = 17;
+pub const KIND_ARCHIVED_SIGMA2: usize = 18;
+pub const KIND_V: usize = 30;
+pub const KIND_JACOBIAN: usize = 31;
+pub const KIND_A: usize = 32;
+
 // Which file it is: a Kenward and Roger series, a Satterthwaite test, an archive, or the second file that is lent with one.
 pub enum Shape {
     Series,

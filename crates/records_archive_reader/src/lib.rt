@@ -10,6 +10,13 @@ ghost use Rattle.records.specs.File.{count};
 ghost use Rattle.records.specs.Archive.{kinds, refusal};
 ghost use Rattle.records_sheet.specs.joints.Sheet.{firstSlots, sheetAfter};
 ghost use Rattle.records_archive_reader.specs.joints.Checks.{differs, inUnits, notScaled, misscaledIn, numbersRefusal};
+use records::KIND_ARCHIVED_P;
+use records::KIND_ARCHIVED_PHI;
+use records::KIND_ARCHIVED_PHI_A;
+use records::KIND_ARCHIVED_SIGMA2;
+use records::KIND_SCALED_P;
+use records::KIND_SCALED_PHI;
+use records::KIND_SCALED_PHI_A;
 use records::Shape;
 use records::Sizes;
 
@@ -61,10 +68,10 @@ fn misscaled(z: Sizes, firsts: &[usize; 34], sheet: &[f64]) -> bool
     let p = z.coefficients;
     let square = p * p;
     let squares = z.parameters * square;
-    let sigma2 = sheet[firsts[18]];
-    let phi = any_not_scaled(false, sheet, firsts[11], firsts[15], square, sigma2);
-    let phi_a = any_not_scaled(false, sheet, firsts[12], firsts[16], square, sigma2);
-    let ps = any_not_scaled(true, sheet, firsts[13], firsts[17], squares, sigma2);
+    let sigma2 = sheet[firsts[KIND_ARCHIVED_SIGMA2]];
+    let phi = any_not_scaled(false, sheet, firsts[KIND_SCALED_PHI], firsts[KIND_ARCHIVED_PHI], square, sigma2);
+    let phi_a = any_not_scaled(false, sheet, firsts[KIND_SCALED_PHI_A], firsts[KIND_ARCHIVED_PHI_A], square, sigma2);
+    let ps = any_not_scaled(true, sheet, firsts[KIND_SCALED_P], firsts[KIND_ARCHIVED_P], squares, sigma2);
     phi | phi_a | ps
 }
 
@@ -73,7 +80,7 @@ fn numbers_refusal(z: Sizes, firsts: &[usize; 34], sheet: &[f64]) -> u32
     requires { ⌜ (z .coefficients ≤ 6) × (z .parameters ≤ 4) × (now firsts ≡ firstSlots (archiveKinds z)) × (slotCount (archiveKinds z) ≤ length (now sheet)) ⌝ }
     ensures { λ r. ⌜ r ≡ numbersRefusal z (now (sheet .entry)) ⌝ }
 {
-    if sheet[firsts[18]] <= 0.0 {
+    if sheet[firsts[KIND_ARCHIVED_SIGMA2]] <= 0.0 {
         return 5;
     }
     if misscaled(z, firsts, sheet) {

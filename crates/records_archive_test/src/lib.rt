@@ -13,6 +13,14 @@ ghost use Rattle.records.specs.Archive.{coefficients};
 ghost use Rattle.records.specs.SecondFile.{beta, betaH, contrastRows, contrast};
 ghost use Rattle.records.specs.ArchiveCall.{archiveRun, fromArchiveNumber, fromArchiveEntries, testingReturned, testingWritten};
 ghost use Rattle.records_archive_test.specs.joints.Read.{ArchiveRead, SecondRead};
+use records::KIND_ARCHIVED_P;
+use records::KIND_ARCHIVED_PHI;
+use records::KIND_ARCHIVED_PHI_A;
+use records::KIND_ARCHIVED_SIGMA2;
+use records::KIND_BETA;
+use records::KIND_BETA_H;
+use records::KIND_CONTRAST;
+use records::KIND_W;
 use arithmetic_cutoffs::Cutoffs;
 use arithmetic_cutoffs::document_cutoffs;
 use records::Shape;
@@ -45,9 +53,9 @@ fn tests_with(
     let z = records_sizes::second_sizes(t);
     let firsts = records_sheet::first_slots(Shape::Second, z);
     // β, the contrast and β_H start here.
-    let estimates = firsts[8];
-    let contrast = firsts[9];
-    let hypotheses = firsts[10];
+    let estimates = firsts[KIND_BETA];
+    let contrast = firsts[KIND_CONTRAST];
+    let hypotheses = firsts[KIND_BETA_H];
     let beta = six_at(numbers, estimates, p);
     let beta_h = six_at(numbers, hypotheses, records_kinds::given(z.hypothesis, p));
     let l = cells_at(numbers, contrast, z.contrasts, p);
@@ -86,11 +94,11 @@ fn tests_from(
     let p = z.coefficients;
     let n = z.parameters;
     // W, Φ, Φ_A, each P and sigma2 start here.
-    let inverse = firsts[14];
-    let square = firsts[15];
-    let adjusted = firsts[16];
-    let squares = firsts[17];
-    let variance = firsts[18];
+    let inverse = firsts[KIND_W];
+    let square = firsts[KIND_ARCHIVED_PHI];
+    let adjusted = firsts[KIND_ARCHIVED_PHI_A];
+    let squares = firsts[KIND_ARCHIVED_P];
+    let variance = firsts[KIND_ARCHIVED_SIGMA2];
     let w = cells_at(sheet, inverse, n, n);
     let phi = cells_at(sheet, square, p, p);
     let phi_a = cells_at(sheet, adjusted, p, p);

@@ -12,6 +12,8 @@ ghost use Rattle.records.specs.CutoffTable.{builtInTable};
 ghost use Rattle.records.specs.ArchiveCall.{seriesArchive, seriesRefusal, archivingReturned, archivingWritten};
 ghost use Rattle.records_sheet.specs.joints.Sheet.{firstSlots};
 ghost use Rattle.records_refusals.specs.joints.Room.{Room, SeriesRead, SeriesShort};
+use records::KIND_PHI;
+use records::KIND_SIGMA2;
 use arithmetic_cutoffs::Cutoffs;
 use arithmetic_cutoffs::document_cutoffs;
 use records::Shape;
@@ -48,8 +50,8 @@ fn put_series(
     let blocks = records_series::blocks_of(s, z.blocks);
     let n = adjustment_covariance::blocks::places_before(blocks, z.blocks) + 1;
     // Φ and sigma2 start here.
-    let square = firsts[6];
-    let variance = firsts[7];
+    let square = firsts[KIND_PHI];
+    let variance = firsts[KIND_SIGMA2];
     let phi = records_sheet_parts::cells_at(sheet, square, p, p);
     let sigma2 = sheet[variance];
     told(put_archive(archive, p, n, &phi, phi_a, ps, w, sigma2))

@@ -1,7 +1,7 @@
 // The tables of kinds, as code: what sizes leave each kind, and what a field may hold. File 0 is a Kenward and Roger series, 1 a Satterthwaite test, 2 an archive, any other the second file that is lent with one.
 ghost use mathlib.Core.Path.{_≡_};
 ghost use mathlib.Core.Bool.{cond};
-ghost use Rattle.records.specs.Kinds.{holds, width, indexOf, valueHolds, byRowAndColumn, byRow, byCount, alone, absentIsZero, blockKind, unread, kindAt, kenwardRogerKinds, satterthwaiteKinds, archiveKinds, testKinds, kindsOf, limits};
+ghost use Rattle.records.specs.Kinds.{holds, width, indexOf, valueHolds, byRowAndColumn, byRow, byCount, alone, absentIsZero, byBlock, unread, kindAt, kenwardRogerKinds, satterthwaiteKinds, archiveKinds, testKinds, kindsOf, limits};
 use records::Field;
 use records::Kind;
 use records::Shape;
@@ -117,7 +117,7 @@ fn alone() -> Kind
 
 // A block: its number is the row, k and m are numbers, and its parameter count stands in the first value byte.
 fn block_kind(rows: usize) -> Kind
-    ensures { λ r. ⌜ r ≡ blockKind rows ⌝ }
+    ensures { λ r. ⌜ r ≡ byBlock rows ⌝ }
 {
     Kind {
         count: Field::Number,

@@ -12,6 +12,9 @@ ghost use Rattle.records_sheet.specs.joints.Sheet.{Small, firstSlots, sheetAfte
 ghost use Rattle.records_refusals.specs.joints.Checks.{recordsRefusal, negatives, badWeightIn, allTornIn, sheetRefusal};
 ghost use Rattle.records_refusals.specs.joints.Room.{Room};
 ghost use Rattle.records.specs.declared.Shape.the-variants.{Series};
+use records::KIND_CONTRAST;
+use records::KIND_SIGMA2;
+use records::KIND_WEIGHT;
 use records::Shape;
 use records::Sizes;
 use records_block_limits::bad_size;
@@ -67,9 +70,9 @@ fn sheet_refusal(
     requires { ⌜ ((b : ℕ) → (blockAt blocks b .effects ≤ 255) × (blockAt blocks b .groups ≤ 4294967295)) ⌝ }
     ensures { λ r. ⌜ r ≡ sheetRefusal z blocks (now (sheet .entry)) ⌝ }
 {
-    let variance = firsts[7];
-    let weights = firsts[5];
-    let contrast = firsts[9];
+    let variance = firsts[KIND_SIGMA2];
+    let weights = firsts[KIND_WEIGHT];
+    let contrast = firsts[KIND_CONTRAST];
     if sheet[variance] <= 0.0 {
         return 5;
     }
@@ -117,7 +120,7 @@ pub fn refusal(w: usize, s: &[u8], flags: &mut [bool], sheet: &mut [f64]) -> u32
     }
     let firsts = records_sheet::first_slots(Shape::Series, z);
     records_sheet::fill_sheet(Shape::Series, z, &firsts, s, sheet);
-    let weights = firsts[5];
+    let weights = firsts[KIND_WEIGHT];
     if all_torn(z, &sheet[..], weights) {
         return 3;
     }

@@ -10,6 +10,9 @@ ghost use Rattle.records.specs.Shortened.{keptBelow};
 ghost use Rattle.records_sheet.specs.joints.Sheet.{Small, firstSlots};
 ghost use Rattle.records_torn.specs.joints.Packed.{Packs, tornAt, packedRows, keptIn, shortSheet};
 ghost use Rattle.records.specs.declared.Shape.the-variants.{Series};
+use records::KIND_WEIGHT;
+use records::KIND_X;
+use records::KIND_Z;
 use records::Sizes;
 
 // The `stride` numbers from `from` on are copied to `to`, which is not after them.
@@ -57,9 +60,9 @@ pub fn shorten(z: Sizes, firsts: &[usize; 34], sheet: &mut [f64]) -> usize
         return n;
     }
     // X, Z and the weights start here.
-    let x = firsts[1];
-    let random = firsts[2];
-    let weights = firsts[5];
+    let x = firsts[KIND_X];
+    let random = firsts[KIND_Z];
+    let weights = firsts[KIND_WEIGHT];
     pack_rows(sheet, x, z.coefficients, weights, n);
     pack_rows(sheet, random, z.columns, weights, n);
     pack_rows(sheet, weights, 1, weights, n)

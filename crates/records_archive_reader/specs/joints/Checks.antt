@@ -10,6 +10,7 @@ use Rattle.arithmetic.specs.Numbers.{plusZero}
 use Rattle.records.specs.declared.Sizes.{Sizes}
 use Rattle.records.specs.Scan.{any}
 use Rattle.records.specs.Kinds.{Table, archiveKinds}
+use Rattle.records.specs.KindNumbers.{kindScaledPhi, kindScaledPhiA, kindScaledP, kindArchivedPhi, kindArchivedPhiA, kindArchivedP, kindArchivedSigma2}
 use Rattle.records.specs.Cells.{firstSlot}
 
 unfoldable pub differs : Float → Float → Bool
@@ -28,8 +29,8 @@ unfoldable pub misscaledIn : Sizes → List Float → Bool
 misscaledIn z sheet =
     let t : Table = archiveKinds z in
     let square : ℕ = z .coefficients * z .coefficients in
-    let sigma2 : Float = getD sheet (firstSlot t 18) nan in
-    notScaled false sheet (firstSlot t 11) (firstSlot t 15) square sigma2 || notScaled false sheet (firstSlot t 12) (firstSlot t 16) square sigma2 || notScaled true sheet (firstSlot t 13) (firstSlot t 17) (z .parameters * square) sigma2
+    let sigma2 : Float = getD sheet (firstSlot t kindArchivedSigma2) nan in
+    notScaled false sheet (firstSlot t kindScaledPhi) (firstSlot t kindArchivedPhi) square sigma2 || notScaled false sheet (firstSlot t kindScaledPhiA) (firstSlot t kindArchivedPhiA) square sigma2 || notScaled true sheet (firstSlot t kindScaledP) (firstSlot t kindArchivedP) (z .parameters * square) sigma2
 
 unfoldable pub numbersRefusal : Sizes → List Float → ℕ
-numbersRefusal z sheet = cond (le (getD sheet (firstSlot (archiveKinds z) 18) nan) plusZero) 5 (cond (misscaledIn z sheet) 2 0)
+numbersRefusal z sheet = cond (le (getD sheet (firstSlot (archiveKinds z) kindArchivedSigma2) nan) plusZero) 5 (cond (misscaledIn z sheet) 2 0)

@@ -5,6 +5,7 @@ use mathlib.Core.List.{List}
 use lib.Ieee.{Float}
 use Rattle.records.specs.declared.Sizes.{Sizes}
 use Rattle.records.specs.Kinds.{Table, satterthwaiteKinds}
+use Rattle.records.specs.KindNumbers.{kindBeta, kindContrast, kindBetaH, kindV, kindJacobian, kindA}
 use Rattle.records.specs.Cells.{firstSlot}
 use Rattle.records_sheet_parts.specs.joints.Parts.{numbersAt, cellsAt, stackAt}
 use Rattle.tests.specs.Satterthwaite.{Inputs}
@@ -15,9 +16,9 @@ unfoldable pub inputsFrom : List Float → Sizes → Inputs
 inputsFrom sheet z =
     let t : Table = satterthwaiteKinds z in
     inputsOf (z .coefficients) (z .contrasts) (z .parameters)
-    (cellsAt sheet (firstSlot t 9) (z .contrasts) (z .coefficients))
-    (numbersAt sheet 6 (firstSlot t 8) (z .coefficients))
-    (numbersAt sheet 6 (firstSlot t 10) (cond (z .hypothesis) (z .coefficients) 0))
-    (cellsAt sheet (firstSlot t 30) (z .coefficients) (z .coefficients))
-    (stackAt sheet (firstSlot t 31) (z .parameters) (z .coefficients))
-    (cellsAt sheet (firstSlot t 32) (z .parameters) (z .parameters))
+    (cellsAt sheet (firstSlot t kindContrast) (z .contrasts) (z .coefficients))
+    (numbersAt sheet 6 (firstSlot t kindBeta) (z .coefficients))
+    (numbersAt sheet 6 (firstSlot t kindBetaH) (cond (z .hypothesis) (z .coefficients) 0))
+    (cellsAt sheet (firstSlot t kindV) (z .coefficients) (z .coefficients))
+    (stackAt sheet (firstSlot t kindJacobian) (z .parameters) (z .coefficients))
+    (cellsAt sheet (firstSlot t kindA) (z .parameters) (z .parameters))

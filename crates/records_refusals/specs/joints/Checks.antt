@@ -11,6 +11,7 @@ use Rattle.algebra.specs.Reasons.{first}
 use Rattle.records.specs.declared.Sizes.{Sizes}
 use Rattle.records.specs.Scan.{any}
 use Rattle.records.specs.Kinds.{Table, kindsOf, kenwardRogerKinds}
+use Rattle.records.specs.KindNumbers.{kindWeight, kindSigma2, kindContrast}
 use Rattle.records.specs.Cells.{firstSlot}
 use Rattle.records.specs.Reader.{Reader, readerReasons}
 use Rattle.records.specs.Series.{sizes, blockReasons}
@@ -42,8 +43,8 @@ unfoldable pub sheetRefusal : Sizes → List Block → List Float → ℕ
 sheetRefusal z blocks sheet =
     let t : Table = kindsOf Series z in
     first
-    ((5, le (getD sheet (firstSlot t 7) nan) plusZero)
-    ∷ (6, badWeightIn z sheet (firstSlot t 5))
+    ((5, le (getD sheet (firstSlot t kindSigma2) nan) plusZero)
+    ∷ (6, badWeightIn z sheet (firstSlot t kindWeight))
     ∷ (7, misfitIn z blocks)
-    ∷ (8, zeroContrastIn z sheet (firstSlot t 9))
+    ∷ (8, zeroContrastIn z sheet (firstSlot t kindContrast))
     ∷ [])

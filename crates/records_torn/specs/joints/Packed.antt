@@ -10,6 +10,7 @@ use Rattle.algebra.specs.Fold.{fold}
 use Rattle.algebra_large.specs.joints.Slab.{putRow}
 use Rattle.records.specs.declared.Sizes.{Sizes}
 use Rattle.records.specs.Kinds.{Table, kindsOf}
+use Rattle.records.specs.KindNumbers.{kindX, kindZ, kindWeight}
 use Rattle.records.specs.Cells.{firstSlot}
 use Rattle.records.specs.Shortened.{keptBelow}
 use Rattle.records.specs.declared.Shape.the-variants.{Series}
@@ -30,11 +31,11 @@ pub record Packs (a c weights n len : ℕ) : Type 0 where
 
 -- the specimens of a series that are kept, by its sheet
 unfoldable pub keptIn : Sizes → List Float → List ℕ
-keptIn z xs = keptBelow (z .specimens) (λ i. z .weighted && tornAt xs (firstSlot (kindsOf Series z) 5) i)
+keptIn z xs = keptBelow (z .specimens) (λ i. z .weighted && tornAt xs (firstSlot (kindsOf Series z) kindWeight) i)
 
 -- its sheet with the rows of X, kind 1, and of Z, kind 2, and the weights, kind 5, of these
 unfoldable pub shortSheet : Sizes → List Float → List Float
 shortSheet z xs =
     let t : Table = kindsOf Series z in
-    let ks : List ℕ = keptBelow (z .specimens) (tornAt xs (firstSlot t 5)) in
-    cond (z .weighted) (packedRows (firstSlot t 5) 1 ks (packedRows (firstSlot t 2) (z .columns) ks (packedRows (firstSlot t 1) (z .coefficients) ks xs))) xs
+    let ks : List ℕ = keptBelow (z .specimens) (tornAt xs (firstSlot t kindWeight)) in
+    cond (z .weighted) (packedRows (firstSlot t kindWeight) 1 ks (packedRows (firstSlot t kindZ) (z .columns) ks (packedRows (firstSlot t kindX) (z .coefficients) ks xs))) xs
