@@ -13,6 +13,7 @@ use Rattle.tests.specs.Entries.{runRefusal, runEntries}
 use Rattle.records.specs.Series.{refusal, design}
 use Rattle.records.specs.KenwardRogerCall.{adjusted, run, number, entries, rotations, specimensRun}
 use Rattle.records.proofs.CallLaws.{fileAdjustmentRefusal, number-is}
+use Rattle.records_kenward_roger.specs.joints.Left.{Judges}
 
 -- ---- the number and the entries, by who refuses
 module _ (w : ℕ) (c : Cutoffs) (s : List ℕ) where
@@ -40,13 +41,17 @@ module _ (w : ℕ) (c : Cutoffs) (s : List ℕ) where
   no-entries e q k f h = rw (q, ne-eqb (number w c s) 0 (λ z. h (f ∙ z)))
 
   -- nor a rotation, nor a specimen of a run
-  pub no-rotations : (k : ℕ) → k ≡ number w c s → (k ≡ 0 → ⊥) → 0 ≡ rotations w c s
+  no-rotations : (k : ℕ) → k ≡ number w c s → (k ≡ 0 → ⊥) → 0 ≡ rotations w c s
   unfolding rotations
   no-rotations k f h = rw (ne-eqb (number w c s) 0 (λ z. h (f ∙ z)))
 
-  pub no-specimens : (k : ℕ) → k ≡ number w c s → (k ≡ 0 → ⊥) → 0 ≡ specimensRun w c s
+  no-specimens : (k : ℕ) → k ≡ number w c s → (k ≡ 0 → ⊥) → 0 ≡ specimensRun w c s
   unfolding specimensRun
   no-specimens k f h = rw (ne-eqb (number w c s) 0 (λ z. h (f ∙ z)))
+
+  -- so it is judged
+  pub judged-refused : (k : ℕ) → k ≡ number w c s → (k ≡ 0 → ⊥) → (e : Entry) → e ≡ noEntry → Judges w c s (replicate 7 e) k 0 0
+  judged-refused k f h e q = record { listed = no-entries e q k f h; told = f; made = no-rotations k f h; pulled = no-specimens k f h }
 
   pub run-entries : (es : List Entry) → es ≡ run c s .entries → 0 ≡ number w c s → es ≡ entries w c s
   unfolding entries

@@ -9,12 +9,11 @@ ghost use lib.Dec.{eqb};
 ghost use Rattle.records.specs.Layout.{answerBytes};
 ghost use Rattle.records.specs.CutoffTable.{builtInTable};
 ghost use Rattle.records.specs.Text.{textOf};
-ghost use Rattle.records.specs.Series.{sizes, kinds, design, phi, sigma2};
+ghost use Rattle.records.specs.Series.{sizes, kinds, design};
 ghost use Rattle.records_sheet.specs.joints.Sheet.{firstSlots};
-ghost use Rattle.adjustment.specs.Adjusted.{adjustmentRefusal};
-ghost use Rattle.adjustment_adjusted.specs.joints.FromInformation.{accepted};
 ghost use Rattle.records_refusals.specs.joints.Room.{Room, SeriesRead, SeriesShort};
-ghost use Rattle.records.specs.KenwardRogerCall.{adjusted, run, number, entries, rotations, specimensRun, returned, written};
+ghost use Rattle.records.specs.KenwardRogerCall.{adjusted, run, number, entries, returned, written};
+ghost use Rattle.records_kenward_roger.specs.joints.Left.{Adjusts, Judges};
 use records::KIND_BETA;
 use records::KIND_BETA_H;
 use records::KIND_BLOCK;
@@ -56,11 +55,8 @@ pub fn kenward_roger_modcomp_data(
     rotations: &mut usize,
 ) -> u32
     requires { ⌜ SeriesShort limit (now s) z (now firsts) (now sheet) × (n ≡ design (now s) .n) × (6 * (limit * limit) ≤ length (now work)) × (36 * limit ≤ length (now narrow)) ⌝ }
-    ensures { λ r. ⌜ r ≡ adjustmentRefusal c (design (now (s .entry))) (phi (now (s .entry))) (sigma2 (now (s .entry))) ⌝ }
-    ensures { λ r. ⌜ now («phi_a» .exit) ≡ accepted r (adjusted c (now (s .entry)) .phiA) (now («phi_a» .entry)) ⌝ }
-    ensures { λ r. ⌜ now (ps .exit) ≡ accepted r (adjusted c (now (s .entry)) .ps) (now (ps .entry)) ⌝ }
-    ensures { λ r. ⌜ now (w .exit) ≡ accepted r (adjusted c (now (s .entry)) .w) (now (w .entry)) ⌝ }
-    ensures { λ r. ⌜ now (rotations .exit) ≡ accepted r (adjusted c (now (s .entry)) .rotations) (now (rotations .entry)) ⌝ }
+    ensures { λ r. ⌜ Adjusts c (now (s .entry)) r (now («phi_a» .entry)) (now («phi_a» .exit)) (now (ps .entry)) (now (ps .exit))
+        (now (w .entry)) (now (w .exit)) (now (rotations .entry)) (now (rotations .exit)) ⌝ }
 {
     let p = z.coefficients;
     let squares = 6 * (n * n);
@@ -174,10 +170,7 @@ fn run_of(
     pulled: &mut usize,
 ) -> [Entry; 7]
     requires { ⌜ SeriesRead limit (now s) (sizes (now s)) (firstSlots (kinds (now s))) (now sheet) × (6 * (limit * limit) ≤ length (now work)) × (36 * limit ≤ length (now narrow)) ⌝ }
-    ensures { λ r. ⌜ r ≡ entries limit c (now (s .entry)) ⌝ }
-    ensures { λ r. ⌜ now (told .exit) ≡ number limit c (now (s .entry)) ⌝ }
-    ensures { λ r. ⌜ now (made .exit) ≡ rotations limit c (now (s .entry)) ⌝ }
-    ensures { λ r. ⌜ now (pulled .exit) ≡ specimensRun limit c (now (s .entry)) ⌝ }
+    ensures { λ r. ⌜ Judges limit c (now (s .entry)) r (now (told .exit)) (now (made .exit)) (now (pulled .exit)) ⌝ }
 {
     let z = records_sizes::series_sizes(s);
     let firsts = records_sheet::first_slots(Shape::Series, z);
@@ -240,10 +233,7 @@ pub fn judge(
     pulled: &mut usize,
 ) -> [Entry; 7]
     requires { ⌜ Room limit (now flags) (now sheet) × (6 * (limit * limit) ≤ length (now work)) × (36 * limit ≤ length (now narrow)) ⌝ }
-    ensures { λ r. ⌜ r ≡ entries limit c (now (s .entry)) ⌝ }
-    ensures { λ r. ⌜ now (told .exit) ≡ number limit c (now (s .entry)) ⌝ }
-    ensures { λ r. ⌜ now (made .exit) ≡ rotations limit c (now (s .entry)) ⌝ }
-    ensures { λ r. ⌜ now (pulled .exit) ≡ specimensRun limit c (now (s .entry)) ⌝ }
+    ensures { λ r. ⌜ Judges limit c (now (s .entry)) r (now (told .exit)) (now (made .exit)) (now (pulled .exit)) ⌝ }
 {
     let early = records_refusals::refusal(limit, s, flags, sheet);
     if early != 0 {
@@ -263,10 +253,7 @@ pub fn judge_panel(
     made: &mut usize,
     pulled: &mut usize,
 ) -> [Entry; 7]
-    ensures { λ r. ⌜ r ≡ entries 24 c (now (s .entry)) ⌝ }
-    ensures { λ r. ⌜ now (told .exit) ≡ number 24 c (now (s .entry)) ⌝ }
-    ensures { λ r. ⌜ now (made .exit) ≡ rotations 24 c (now (s .entry)) ⌝ }
-    ensures { λ r. ⌜ now (pulled .exit) ≡ specimensRun 24 c (now (s .entry)) ⌝ }
+    ensures { λ r. ⌜ Judges 24 c (now (s .entry)) r (now (told .exit)) (now (made .exit)) (now (pulled .exit)) ⌝ }
 {
     let mut flags = [false; 1024];
     let mut sheet = [0.0; 1024];

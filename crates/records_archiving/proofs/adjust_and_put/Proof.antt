@@ -18,8 +18,14 @@ start c = c .before .before .before .before .before .before
 abbrev slots : tie.After-shorten → tie.After-first-slots
 slots c = c .before .before .before
 
+abbrev torn : tie.After-zeros → tie.After-shorten
+torn c = c .before .before .before
+
+abbrev blank : tie.After-phi-a → tie.After-zeros
+blank c = c .before .before .before .before .before
+
 abbrev short : tie.After-count → tie.After-shorten
-short c = c .before .before .before .before .before .before .before .before .before .before .before
+short c = torn (blank (c .before .before .before))
 
 abbrev run : tie.After-slice-known7 → tie.After-kenward-roger-modcomp-data
 run c = c .before .before .before .before
@@ -56,7 +62,8 @@ as-read c =
 shorten-requires : tie.Need-shorten-requires
 shorten-requires c κs = can-shorten _ _ _ _ _ (as-read (c .before .before))
 
-as-short : (c : tie.After-shorten) → let b = slots c in let a = start-of-slots b .args in SeriesShort (a .limit) (now (a .s)) (b .before .series-sizes .result) (b .first-slots .result) (c .shorten .last .1 .1 .0)
+as-short : (c : tie.After-shorten)
+    → let b = slots c in let a = start-of-slots b .args in SeriesShort (a .limit) (now (a .s)) (b .before .series-sizes .result) (b .first-slots .result) (c .shorten .last .1 .1 .0)
 as-short c = series-short _ _ _ _ _ (as-read (slots c)) _ (c .shorten .ensures .1)
 
 -- as many specimens are left as are run
@@ -83,7 +90,7 @@ returns c =
     let r = run (c .before) in
     let b = start-of-run (r .before) in
     let a = b .args in
-    adjustment-refuses (a .limit) (a .c) (now (a .s)) (now (a .archive)) (b .pre .0 .0 .taken) _ (r .kenward-roger-modcomp-data .ensures .0) (c .if1 .taken)
+    adjustment-refuses (a .limit) (a .c) (now (a .s)) (now (a .archive)) (b .pre .0 .0 .taken) _ (r .kenward-roger-modcomp-data .ensures .number) (c .if1 .taken)
 
 put-series-requires : tie.Need-put-series-requires
 put-series-requires c κs =
@@ -91,7 +98,7 @@ put-series-requires c κs =
     let r = run (e .before) in
     let q = r .kenward-roger-modcomp-data .ensures in
     let h = e .if1 .left in
-    ((as-short (short (r .before)), start-of-run (r .before) .pre .0 .1), (q .1 .0 ∙ accepted-yes _ _ _ h, q .1 .1 .0 ∙ accepted-yes _ _ _ h, q .1 .1 .1 .0 ∙ accepted-yes _ _ _ h))
+    ((as-short (short (r .before)), start-of-run (r .before) .pre .0 .1), (q .phiA ∙ accepted-yes _ _ _ h, q .ps ∙ accepted-yes _ _ _ h, q .w ∙ accepted-yes _ _ _ h))
 
 same-length-4 : tie.Need-same-length-4
 same-length-4 c = search needs
@@ -112,7 +119,7 @@ returns-2 c =
     let r = run (e .before) in
     let b = start-of-run (r .before) in
     let a = b .args in
-    let z = sym (r .kenward-roger-modcomp-data .ensures .0) ∙ e .if1 .left in
+    let z = sym (r .kenward-roger-modcomp-data .ensures .number) ∙ e .if1 .left in
     let q = p .put-series .ensures in
     archives (a .limit) (a .c) (now (a .s)) (now (a .archive)) (b .pre .0 .0 .taken) _ _ z (q .0) (q .1)
 

@@ -7,10 +7,13 @@ use Rattle.records_archiving.proofs.ArchivingLaws.{other-lent, own-call
 use borrow.Author.Needs.{needs}
 use Rattle.records_archiving.proofs.archive.Statement.{statement}
 use Rattle.records_archiving.proofs.archive.Tie as tie
-use Rattle.records_archiving.proofs.archive.Reads as reads
-use Rattle.records_archiving.proofs.archive.Lts as lts
-use Rattle.arithmetic_cutoffs.proofs.document_cutoffs.Reads as document-cutoffs-reads
-use Rattle.records_archiving.proofs.archive_panel.Reads as archive-panel-reads
+
+-- ---- the stages of the code, each from the next that is named here: where a line is put in, one of these moves
+abbrev start : tie.Else1 → tie.Start
+start c = c .before .before .before
+
+abbrev own : tie.After-archive-panel → tie.After-document-cutoffs
+own c = c .before .before
 
 returns : tie.Need-returns
 returns c =
@@ -28,9 +31,13 @@ same-length c = search needs
 
 returns-2 : tie.Need-returns-2
 returns-2 c =
-    let a = c .before .before .before .before .before .before .before .before .args in
-    let f = c .before .before .archive-panel .ensures in
-    own-call builtInTable (now (a .records)) (now (a .archive)) (c .before .before .before .before .before .if1 .left) built-in-accepted _ (c .before .before .before .before .document-cutoffs .ensures ∙ sym built-in-numbers) _ _ (f .0) (f .1)
+    let p = c .before .before in
+    let d = own p in
+    let e = d .before in
+    let a = start e .args in
+    let f = p .archive-panel .ensures in
+    let cutoffs = d .document-cutoffs .ensures ∙ sym built-in-numbers in
+    own-call builtInTable (now (a .records)) (now (a .archive)) (e .if1 .left) built-in-accepted _ cutoffs _ _ (f .0) (f .1)
 
 pub archive-spec : {M : Type 1} → statement M
 archive-spec =

@@ -24,7 +24,8 @@ archive-series-requires : tie.Need-archive-series-requires
 unfolding ofBits
 archive-series-requires c κs =
     let e = slot-count 24 Series in
-    (record { some = omega arith; most = omega arith; clear = refl; blank = refl; flagged = omega arith; written = omega arith }, omega arith, omega arith, c .before .before .before .before .before .before .before .pre)
+    let room = c .before .before .before .before .before .before .before .pre in
+    (record { some = omega arith; most = omega arith; clear = refl; blank = refl; flagged = omega arith; written = omega arith }, omega arith, omega arith, room)
 
 same-length : tie.Need-same-length
 same-length c = search needs

@@ -6,6 +6,20 @@ use borrow.Author.Needs.{needs}
 use Rattle.records_archiving.proofs.archive_series.Statement.{statement}
 use Rattle.records_archiving.proofs.archive_series.Tie as tie
 
+-- ---- the stages of the code, each from the next that is named here: where a line is put in, one of these moves
+abbrev start : tie.After-refusal-arg → tie.Start
+start c = c .before .before .before .before .before .before .before
+
+abbrev taken : tie.Else1 → tie.After-refusal
+taken c = c .before .before .before .before .before
+
+abbrev adjusts : tie.After-adjust-and-put-arg4 → tie.Else1
+adjusts c = c .before .before .before .before
+
+-- the first of them, from further on
+abbrev start-of-refusal : tie.After-refusal → tie.Start
+start-of-refusal c = start (c .before .before)
+
 refusal-requires : tie.Need-refusal-requires
 refusal-requires c κs = search needs
 
@@ -17,15 +31,19 @@ same-length-2 c = search needs
 
 returns : tie.Need-returns
 returns c =
-    let a = c .before .before .before .before .before .before .before .before .before .before .before .before .before .before .args in
-    reader-refuses (a .limit) (a .c) (now (a .s)) (now (a .archive)) _ (c .before .before .before .before .before .refusal .ensures .0) (c .if1 .taken)
+    let r = c .before .before .before .before .before in
+    let a = start-of-refusal r .args in
+    reader-refuses (a .limit) (a .c) (now (a .s)) (now (a .archive)) _ (r .refusal .ensures .0) (c .if1 .taken)
 
 adjust-and-put-requires : tie.Need-adjust-and-put-requires
 adjust-and-put-requires c κs =
-    let a = c .before .before .before .before .before .before .before .before .before .before .before .before .before .before .before .before .before .before .args in
-    let g = c .before .before .before .before .before .before .before .before .before .before .before .before .before .before .before .before .before .before .pre in
-    let r = c .before .before .before .before .before .before .before .before .before .refusal .ensures in
-    ((series-read (a .limit) (now (a .s)) (now (a .flags)) (now (a .sheet)) _ _ (g .0) (r .0) (c .before .before .before .before .if1 .left) (r .1), g .3), (g .1, g .2))
+    let e = adjusts c in
+    let r = taken e in
+    let b = start-of-refusal r in
+    let a = b .args in
+    let g = b .pre in
+    let q = r .refusal .ensures in
+    ((series-read (a .limit) (now (a .s)) (now (a .flags)) (now (a .sheet)) _ _ (g .0) (q .0) (e .if1 .left) (q .1), g .3), (g .1, g .2))
 
 same-length-3 : tie.Need-same-length-3
 same-length-3 c = search needs

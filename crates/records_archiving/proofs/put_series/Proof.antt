@@ -84,7 +84,10 @@ returns c =
     let a = start b in
     let h = lent a in
     let q = p .put-archive .ensures in
-    let e = series-archive-is (a .args .c) (now (a .args .s)) _ _ _ _ _ _ _ (coefficients-read _ _ _ _ _ h) (matrices-are _ _ _ _ _ h _ (b .blocks-of .ensures .0) _ (d .before .before .before .places-before .ensures)) (d .cells-at .ensures ∙ phi-read _ _ _ _ _ h) (a .pre .1 .0) (a .pre .1 .1) (a .pre .1 .2) (sigma2-read _ _ _ _ _ h) in
+    let m = matrices-are _ _ _ _ _ h _ (b .blocks-of .ensures .0) _ (d .before .before .before .places-before .ensures) in
+    let f = d .cells-at .ensures ∙ phi-read _ _ _ _ _ h in
+    let v = sigma2-read _ _ _ _ _ h in
+    let e = series-archive-is (a .args .c) (now (a .args .s)) _ _ _ _ _ _ _ (coefficients-read _ _ _ _ _ h) m f (a .pre .1 .0) (a .pre .1 .1) (a .pre .1 .2) v in
     (c .told .ensures ∙ q .0 ∙ ap (λ (x : Archive). length (archiveBytes x)) e, q .1 ∙ ap (λ (x : Archive). sets (now (a .args .archive)) 0 (archiveBytes x)) e)
 
 pub put-series-spec : {M : Type 1} → statement M

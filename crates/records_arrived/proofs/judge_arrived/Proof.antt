@@ -12,6 +12,16 @@ use borrow.Author.Needs.{needs}
 use Rattle.records_arrived.proofs.judge_arrived.Statement.{statement}
 use Rattle.records_arrived.proofs.judge_arrived.Tie as tie
 
+-- ---- the stages of the code, each from the next that is named here: where a line is put in, one of these moves
+abbrev start : tie.After-unkept-number → tie.Start
+start c = c .before .before
+
+abbrev kept : tie.After-document-cutoffs → tie.Else1
+kept c = c .before .before
+
+abbrev own : tie.After-judge-panel → tie.After-document-cutoffs
+own c = c .before .before .before .before .before
+
 unkept-number-requires : tie.Need-unkept-number-requires
 unkept-number-requires c κs = search needs
 
@@ -20,10 +30,12 @@ no-entry-requires c κs = search needs
 
 returns : tie.Need-returns
 returns c =
-    let start = c .before .before .before .before .args in
-    let early = c .before .before .unkept-number .ensures in
-    let left = c .before .if1 .taken in
-    (entries-unkept documentCutoffs (start .a) (now (start .kept)) _ early _ (c .no-entry .ensures) left, number-unkept documentCutoffs (start .a) (now (start .kept)) _ early left)
+    let t = c .before in
+    let early = t .before .unkept-number .ensures in
+    let a = start (t .before) .args in (
+      entries-unkept documentCutoffs (a .a) (now (a .kept)) _ early _ (c .no-entry .ensures) (t .if1 .taken),
+      number-unkept documentCutoffs (a .a) (now (a .kept)) _ early (t .if1 .taken),
+    )
 
 mul-end : tie.Need-mul-end
 mul-end c = search needs
@@ -41,14 +53,15 @@ judge-panel-requires c κs = search needs
 
 returns-2 : tie.Need-returns-2
 returns-2 c =
-    let start = c .before .before .before .before .before .before .before .before .before .before .args in
-    let early = c .before .before .before .before .before .before .before .before .unkept-number .ensures in
-    let none = c .before .before .before .before .before .before .before .if1 .left in
-    let own = c .before .before .before .before .before .document-cutoffs .ensures in
-    let file = keptFile (start .a) (now (start .kept)) in
+    let d = own c in
+    let e = kept d in
+    let early = e .before .unkept-number .ensures in
+    let a = start (e .before) .args in
+    let file = keptFile (a .a) (now (a .kept)) in
+    let cutoffs = d .document-cutoffs .ensures in
     let made = c .judge-panel .ensures in (
-      made .0 ∙ ap (λ (k : Cutoffs). entries 24 k file) own ∙ entries-kept documentCutoffs (start .a) (now (start .kept)) _ early none,
-      made .1 .0 ∙ ap (λ (k : Cutoffs). number 24 k file) own ∙ number-kept documentCutoffs (start .a) (now (start .kept)) _ early none,
+      made .listed ∙ ap (λ (k : Cutoffs). entries 24 k file) cutoffs ∙ entries-kept documentCutoffs (a .a) (now (a .kept)) _ early (e .if1 .left),
+      made .told ∙ ap (λ (k : Cutoffs). number 24 k file) cutoffs ∙ number-kept documentCutoffs (a .a) (now (a .kept)) _ early (e .if1 .left),
     )
 
 pub judge-arrived-spec : {M : Type 1} → statement M

@@ -8,10 +8,13 @@ use Rattle.records.proofs.CallLaws.{other-length, own-answer}
 use borrow.Author.Needs.{needs}
 use Rattle.records_kenward_roger.proofs.call.Statement.{statement}
 use Rattle.records_kenward_roger.proofs.call.Tie as tie
-use Rattle.records_kenward_roger.proofs.call.Reads as reads
-use Rattle.records_kenward_roger.proofs.call.Lts as lts
-use Rattle.arithmetic_cutoffs.proofs.document_cutoffs.Reads as document-cutoffs-reads
-use Rattle.records_kenward_roger.proofs.fill_answer.Reads as fill-answer-reads
+
+-- ---- the stages of the code, each from the next that is named here: where a line is put in, one of these moves
+abbrev start : tie.Else1 → tie.Start
+start c = c .before .before .before
+
+abbrev own : tie.After-fill-answer → tie.After-document-cutoffs
+own c = c .before .before
 
 returns : tie.Need-returns
 returns c =
@@ -30,9 +33,13 @@ same-length c = search needs
 returns-2 : tie.Need-returns-2
 unfolding number
 returns-2 c =
-    let a = c .before .before .before .before .before .before .before .before .args in
-    let f = c .before .before .fill-answer .ensures in
-    own-answer (seriesCall 24 (now (a .records))) builtInTable (now (a .answer)) refl (c .before .before .before .before .before .if1 .left) built-in-accepted _ (c .before .before .before .before .document-cutoffs .ensures ∙ sym built-in-numbers) _ _ (f .0) (f .1)
+    let p = c .before .before in
+    let d = own p in
+    let e = d .before in
+    let a = start e .args in
+    let f = p .fill-answer .ensures in
+    let cutoffs = d .document-cutoffs .ensures ∙ sym built-in-numbers in
+    own-answer (seriesCall 24 (now (a .records))) builtInTable (now (a .answer)) refl (e .if1 .left) built-in-accepted _ cutoffs _ _ (f .0) (f .1)
 
 pub call-spec : {M : Type 1} → statement M
 call-spec =

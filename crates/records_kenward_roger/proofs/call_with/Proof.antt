@@ -7,11 +7,16 @@ use Rattle.records.proofs.CallLaws.{other-length, other-table, own-answer}
 use borrow.Author.Needs.{needs}
 use Rattle.records_kenward_roger.proofs.call_with.Statement.{statement}
 use Rattle.records_kenward_roger.proofs.call_with.Tie as tie
-use Rattle.records_kenward_roger.proofs.call_with.Reads as reads
-use Rattle.records_kenward_roger.proofs.call_with.Lts as lts
-use Rattle.records_cutoffs.proofs.bad_table.Reads as bad-table-reads
-use Rattle.records_cutoffs.proofs.cutoffs_in.Reads as cutoffs-in-reads
-use Rattle.records_kenward_roger.proofs.fill_answer.Reads as fill-answer-reads
+
+-- ---- the stages of the code, each from the next that is named here: where a line is put in, one of these moves
+abbrev start : tie.Else1 → tie.Start
+start c = c .before .before .before .before
+
+abbrev long : tie.Else2 → tie.Else1
+long c = c .before .before
+
+abbrev own : tie.After-fill-answer → tie.After-cutoffs-in
+own c = c .before .before
 
 returns : tie.Need-returns
 returns c =
@@ -23,11 +28,11 @@ bad-table-requires c κs = search needs
 
 returns-2 : tie.Need-returns-2
 returns-2 c =
-    let a = c .before .before .before .before .before .before .args in
+    let a = start (c .before .before) .args in
     other-table (seriesCall 24 (now (a .records))) (now (a .table)) (now (a .answer)) refl (c .before .before .if1 .left) (sym (c .before .bad-table .ensures) ∙ c .if2 .taken)
 
 cutoffs-in-requires : tie.Need-cutoffs-in-requires
-cutoffs-in-requires c κs = table-length (now (c .before .before .before .before .before .before .args .table)) (sym (c .before .bad-table .ensures) ∙ c .if2 .left)
+cutoffs-in-requires c κs = table-length (now (start (long c) .args .table)) (sym (c .before .bad-table .ensures) ∙ c .if2 .left)
 
 fill-answer-requires : tie.Need-fill-answer-requires
 fill-answer-requires c κs = search needs
@@ -38,9 +43,13 @@ same-length c = search needs
 returns-3 : tie.Need-returns-3
 unfolding number
 returns-3 c =
-    let a = c .before .before .before .before .before .before .before .before .before .before .before .args in
-    let f = c .before .before .fill-answer .ensures in
-    own-answer (seriesCall 24 (now (a .records))) (now (a .table)) (now (a .answer)) refl (c .before .before .before .before .before .before .before .if1 .left) (sym (c .before .before .before .before .before .before .bad-table .ensures) ∙ c .before .before .before .before .before .if2 .left) _ (c .before .before .before .before .cutoffs-in .ensures) _ _ (f .0) (f .1)
+    let p = c .before .before in
+    let d = own p in
+    let e = d .before in
+    let a = start (long e) .args in
+    let f = p .fill-answer .ensures in
+    let table = sym (e .before .bad-table .ensures) ∙ e .if2 .left in
+    own-answer (seriesCall 24 (now (a .records))) (now (a .table)) (now (a .answer)) refl (long e .if1 .left) table _ (d .cutoffs-in .ensures) _ _ (f .0) (f .1)
 
 pub call-with-spec : {M : Type 1} → statement M
 call-with-spec =

@@ -1,15 +1,20 @@
 -- `records_kenward_roger::judge` meets its contract.
 use denote.Ref.{now}
 use Rattle.records_refusals.proofs.RoomLaws.{series-read}
-use Rattle.records_kenward_roger.proofs.Numbers.{early-number, no-entries, no-rotations, no-specimens}
+use Rattle.records_kenward_roger.proofs.Numbers.{early-number, judged-refused}
 use borrow.Author.Needs.{needs}
 use Rattle.records_kenward_roger.proofs.judge.Statement.{statement}
 use Rattle.records_kenward_roger.proofs.judge.Tie as tie
-use Rattle.records_kenward_roger.proofs.judge.Reads as reads
-use Rattle.records_kenward_roger.proofs.judge.Lts as lts
-use Rattle.records_kenward_roger.proofs.run_of.Reads as run-of-reads
-use Rattle.records_refusals.proofs.refusal.Reads as refusal-reads
-use Rattle.tests_entries.proofs.no_entry.Reads as no-entry-reads
+
+-- ---- the stages of the code, each from the next that is named here: where a line is put in, one of these moves
+abbrev start : tie.After-refusal-arg2 → tie.Start
+start c = c .before .before .before .before .before .before .before
+
+abbrev taken : tie.Else1 → tie.After-refusal
+taken c = c .before .before .before .before .before
+
+abbrev runs : tie.After-run-of-arg6 → tie.Else1
+runs c = c .before .before .before .before .before .before
 
 refusal-requires : tie.Need-refusal-requires
 refusal-requires c κs = search needs
@@ -25,17 +30,20 @@ same-length-2 c = search needs
 
 returns : tie.Need-returns
 returns c =
-    let a = c .before .before .before .before .before .before .before .before .before .before .before .before .before .before .args in
-    let h = c .before .if1 .taken in
-    let e = early-number (a .limit) (a .c) (now (a .s)) _ (c .before .before .before .before .before .before .refusal .ensures .0) h in
-    (no-entries (a .limit) (a .c) (now (a .s)) _ (c .no-entry .ensures) _ e h, (e, (no-rotations (a .limit) (a .c) (now (a .s)) _ e h, no-specimens (a .limit) (a .c) (now (a .s)) _ e h)))
+    let t = c .before in
+    let r = t .before .before .before .before .before in
+    let a = start (r .before) .args in
+    let e = early-number (a .limit) (a .c) (now (a .s)) _ (r .refusal .ensures .0) (t .if1 .taken) in
+    judged-refused (a .limit) (a .c) (now (a .s)) _ e (t .if1 .taken) _ (c .no-entry .ensures)
 
 run-of-requires : tie.Need-run-of-requires
 run-of-requires c κs =
-    let a = c .before .before .before .before .before .before .before .before .before .before .before .before .before .before .before .before .before .before .before .args in
-    let g = c .before .before .before .before .before .before .before .before .before .before .before .before .before .before .before .before .before .before .before .pre in
-    let r = c .before .before .before .before .before .before .before .before .before .before .before .refusal .ensures in
-    (series-read (a .limit) (now (a .s)) (now (a .flags)) (now (a .sheet)) _ _ (g .0) (r .0) (c .before .before .before .before .before .before .if1 .left) (r .1), g .1, g .2)
+    let e = runs c in
+    let r = taken e in
+    let b = start (r .before) in
+    let a = b .args in
+    let q = r .refusal .ensures in
+    (series-read (a .limit) (now (a .s)) (now (a .flags)) (now (a .sheet)) _ _ (b .pre .0) (q .0) (e .if1 .left) (q .1), b .pre .1, b .pre .2)
 
 same-length-3 : tie.Need-same-length-3
 same-length-3 c = search needs

@@ -8,7 +8,7 @@ use Rattle.records_torn.proofs.ShortSheet.{length-short}
 use Rattle.records_refusals.specs.joints.Room.{SeriesRead, SeriesShort}
 use Rattle.records_refusals.proofs.RoomLaws.{at-hand, accepted-small, can-shorten, kept-run, series-short}
 use Rattle.adjustment_kr_vcov_adj.proofs.CallLaws.{accepted-yes}
-use Rattle.records_kenward_roger.proofs.Numbers.{late-number, no-entries, no-rotations, no-specimens, run-answer, run-rotations, run-specimens}
+use Rattle.records_kenward_roger.proofs.Numbers.{late-number, judged-refused, run-answer, run-rotations, run-specimens}
 use borrow.Author.Needs.{needs}
 use Rattle.records_kenward_roger.proofs.run_of.Statement.{statement}
 use Rattle.records_kenward_roger.proofs.run_of.Tie as tie
@@ -31,8 +31,14 @@ start c = c .before .before .before .before .before
 abbrev slots : tie.After-shorten → tie.After-first-slots
 slots c = c .before .before .before
 
+abbrev torn : tie.After-zeros → tie.After-shorten
+torn c = c .before .before .before
+
+abbrev blank : tie.After-phi-a → tie.After-zeros
+blank c = c .before .before .before .before .before
+
 abbrev short : tie.After-count → tie.After-shorten
-short c = c .before .before .before .before .before .before .before .before .before .before .before
+short c = torn (blank (c .before .before .before))
 
 abbrev run : tie.After-slice-known6 → tie.After-kenward-roger-modcomp-data
 run c = c .before .before .before .before
@@ -69,7 +75,8 @@ as-read c =
 shorten-requires : tie.Need-shorten-requires
 shorten-requires c κs = can-shorten _ _ _ _ _ (as-read (c .before .before))
 
-as-short : (c : tie.After-shorten) → let b = slots c in let a = start-of-slots b .args in SeriesShort (a .limit) (now (a .s)) (b .before .series-sizes .result) (b .first-slots .result) (c .shorten .last .1 .1 .0)
+as-short : (c : tie.After-shorten)
+    → let b = slots c in let a = start-of-slots b .args in SeriesShort (a .limit) (now (a .s)) (b .before .series-sizes .result) (b .first-slots .result) (c .shorten .last .1 .1 .0)
 as-short c = series-short _ _ _ _ _ (as-read (slots c)) _ (c .shorten .ensures .1)
 
 -- as many specimens are left as are run
@@ -100,8 +107,8 @@ returns c =
     let b = start-of-run r in
     let a = b .args in
     let h = c .before .if1 .taken in
-    let e = late-number (a .limit) (a .c) (now (a .s)) (b .pre .0 .taken) _ (r .kenward-roger-modcomp-data .ensures .0) h in
-    (no-entries (a .limit) (a .c) (now (a .s)) _ (c .no-entry .ensures) _ e h, (e, (no-rotations (a .limit) (a .c) (now (a .s)) _ e h, no-specimens (a .limit) (a .c) (now (a .s)) _ e h)))
+    let e = late-number (a .limit) (a .c) (now (a .s)) (b .pre .0 .taken) _ (r .kenward-roger-modcomp-data .ensures .number) h in
+    judged-refused (a .limit) (a .c) (now (a .s)) _ e h _ (c .no-entry .ensures)
 
 tests-of-requires : tie.Need-tests-of-requires
 tests-of-requires c κs =
@@ -109,7 +116,7 @@ tests-of-requires c κs =
     let r = run (e .before) in
     let q = r .kenward-roger-modcomp-data .ensures in
     let h = e .if1 .left in
-    (as-short (short (r .before)), (q .1 .0 ∙ accepted-yes _ _ _ h, q .1 .1 .0 ∙ accepted-yes _ _ _ h, q .1 .1 .1 .0 ∙ accepted-yes _ _ _ h))
+    (as-short (short (r .before)), (q .phiA ∙ accepted-yes _ _ _ h, q .ps ∙ accepted-yes _ _ _ h, q .w ∙ accepted-yes _ _ _ h))
 
 counted-requires : tie.Need-counted-requires
 counted-requires c κs = search needs
@@ -138,12 +145,12 @@ returns-2 c =
     let a = b .args in
     let d = r .kenward-roger-modcomp-data .ensures in
     let h = e .if1 .left in
-    let z = sym (d .0) ∙ h in
+    let z = sym (d .number) ∙ h in
     let g = b .pre .0 .taken in
     let v = run-answer (a .limit) (a .c) (now (a .s)) g z _ _ _ _ (t .1) (t .0) (c .answer-of .ensures .0) (c .answer-of .ensures .1) in
-    let m = run-rotations (a .limit) (a .c) (now (a .s)) g z _ _ _ (t .1) (d .1 .1 .1 .1 ∙ accepted-yes _ _ _ h) (c .before .before .before .counted .ensures) in
+    let m = run-rotations (a .limit) (a .c) (now (a .s)) g z _ _ _ (t .1) (d .rotations ∙ accepted-yes _ _ _ h) (c .before .before .before .counted .ensures) in
     let n = run-specimens (a .limit) (a .c) (now (a .s)) g z _ _ _ (t .1) (left-run (short (r .before))) (c .before .before .counted2 .ensures) in
-    (v .0, (v .1, (m, n)))
+    record { listed = v .0; told = v .1; made = m; pulled = n }
 
 pub run-of-spec : {M : Type 1} → statement M
 run-of-spec =

@@ -1,39 +1,45 @@
 -- `records_kenward_roger::tests_of` meets its contract.
+use Prim.Native.Nat.{_+_, _≤_}
 use native.Mathlib.Omega.{arith}
 use mathlib.Core.Path.{refl, ap, _∙_}
 use denote.Ref.{now}
 use Rattle.tests.specs.KenwardRoger.{Run}
-use Rattle.records_kenward_roger.proofs.Calls.{few-blocks, few-coefficients, few-contrasts, few-hypotheses, start-within, sigma2-place, phi-ends, beta-ends, contrast-ends, hypothesis-ends, lent-sound, matrices-are, matrices-few, run-is}
+use Rattle.records_refusals.specs.joints.Room.{SeriesShort}
+use Rattle.records_kenward_roger.proofs.Calls.{few-blocks, few-coefficients, few-contrasts, few-hypotheses, lent-sound, matrices-are, matrices-few, run-is}
+use Rattle.records_kenward_roger.proofs.Calls.{start-within, sigma2-place, phi-ends, beta-ends, contrast-ends, hypothesis-ends}
 use borrow.Author.Needs.{needs}
 use Rattle.records_kenward_roger.proofs.tests_of.Statement.{statement}
 use Rattle.records_kenward_roger.proofs.tests_of.Tie as tie
-use Rattle.records_kenward_roger.proofs.tests_of.Reads as reads
-use Rattle.records_kenward_roger.proofs.tests_of.Lts as lts
-use Rattle.adjustment_covariance.proofs.blocks.places_before.Reads as places-before-reads
-use Rattle.records_kinds.proofs.given.Reads as given-reads
-use Rattle.records_series.proofs.blocks_of.Reads as blocks-of-reads
-use Rattle.records_sheet_parts.proofs.cells_at.Reads as cells-at-reads
-use Rattle.records_sheet_parts.proofs.six_at.Reads as six-at-reads
-use Rattle.tests_run.proofs.compute_kenward_roger.Reads as compute-kenward-roger-reads
+
+-- ---- the stages of the code, each from the next that is named here: where a line is put in, one of these moves
+abbrev start : tie.After-blocks-of → tie.Start
+start c = c .before .before .before
+
+abbrev placed : tie.After-cells-at → tie.After-places-before
+placed c = c .before .before .before .before .before .before
+
+abbrev cells : tie.After-cells-at2 → tie.After-cells-at
+cells c = c .before .before .before .before
+
+-- the first of them, from further on
+abbrev start-of-cells : tie.After-cells-at → tie.Start
+start-of-cells c = start (placed c .before)
+
+-- ---- what holds at them: the series that is lent, and the matrices P are few
+abbrev lent : (c : tie.Start) → SeriesShort (c .args .limit) (now (c .args .s)) (c .args .z) (now (c .args .firsts)) (now (c .args .sheet))
+lent c = c .pre .0
+
+few-matrices : (c : tie.After-places-before) → c .places-before .result + 1 ≤ 4
+few-matrices c = matrices-few _ _ _ _ _ (lent (start (c .before))) _ (c .before .blocks-of .ensures .0) _ (c .places-before .ensures)
 
 blocks-of-requires : tie.Need-blocks-of-requires
-blocks-of-requires c κs =
-    let a = c .before .before .args in
-    let g = c .before .before .pre in
-    few-blocks (a .limit) (now (a .s)) (a .z) (now (a .firsts)) (now (a .sheet)) (g .0)
+blocks-of-requires c κs = few-blocks _ _ _ _ _ (lent (c .before .before))
 
 places-before-requires : tie.Need-places-before-requires
-places-before-requires c κs =
-    let a = c .before .before .before .args in
-    let g = c .before .before .before .pre in
-    lent-sound (a .limit) (now (a .s)) (a .z) (now (a .firsts)) (now (a .sheet)) (g .0) _ (c .blocks-of .ensures .0)
+places-before-requires c κs = lent-sound _ _ _ _ _ (lent (start c)) _ (c .blocks-of .ensures .0)
 
 add-n : tie.Need-add-n
-add-n c =
-    let a = c .before .before .before .before .args in
-    let g = c .before .before .before .before .pre in
-    let h = matrices-few (a .limit) (now (a .s)) (a .z) (now (a .firsts)) (now (a .sheet)) (g .0) _ (c .before .blocks-of .ensures .0) _ (c .places-before .ensures) in
-    omega arith
+add-n c = let h = few-matrices c in omega arith
 
 element-copy-out-square : tie.Need-element-copy-out-square
 element-copy-out-square c = search needs
@@ -52,61 +58,57 @@ element-copy-out-hypotheses c = search needs
 
 cells-at-requires : tie.Need-cells-at-requires
 cells-at-requires c κs =
-    let a = c .before .before .before .before .before .before .before .before .before .args in
-    let g = c .before .before .before .before .before .before .before .before .before .pre in
-    (few-coefficients (a .limit) (now (a .s)) (a .z) (now (a .firsts)) (now (a .sheet)) (g .0), few-coefficients (a .limit) (now (a .s)) (a .z) (now (a .firsts)) (now (a .sheet)) (g .0), phi-ends (a .limit) (now (a .s)) (a .z) (now (a .firsts)) (now (a .sheet)) (g .0))
+    let h = lent (start (c .before .before .before .before .before .before)) in
+    let few = few-coefficients _ _ _ _ _ h in
+    (few, few, phi-ends _ _ _ _ _ h)
 
 six-at-requires : tie.Need-six-at-requires
-six-at-requires c κs =
-    let a = c .before .before .before .before .before .before .before .before .before .before .args in
-    let g = c .before .before .before .before .before .before .before .before .before .before .pre in
-    (beta-ends (a .limit) (now (a .s)) (a .z) (now (a .firsts)) (now (a .sheet)) (g .0), few-coefficients (a .limit) (now (a .s)) (a .z) (now (a .firsts)) (now (a .sheet)) (g .0))
+six-at-requires c κs = let h = lent (start-of-cells c) in (beta-ends _ _ _ _ _ h, few-coefficients _ _ _ _ _ h)
 
 given-requires : tie.Need-given-requires
 given-requires c κs = search needs
 
 six-at-requires-2 : tie.Need-six-at-requires-2
 six-at-requires-2 c κs =
-    let a = c .before .before .before .before .before .before .before .before .before .before .before .before .args in
-    let g = c .before .before .before .before .before .before .before .before .before .before .before .before .pre in
+    let h = lent (start-of-cells (c .before .before)) in
     let e = c .given .ensures in
-    let x = hypothesis-ends (a .limit) (now (a .s)) (a .z) (now (a .firsts)) (now (a .sheet)) (g .0) in
-    let y = few-hypotheses (a .limit) (now (a .s)) (a .z) (now (a .firsts)) (now (a .sheet)) (g .0) in
+    let x = hypothesis-ends _ _ _ _ _ h in
+    let y = few-hypotheses _ _ _ _ _ h in
     (omega arith, omega arith)
 
 cells-at-requires-2 : tie.Need-cells-at-requires-2
 cells-at-requires-2 c κs =
-    let a = c .before .before .before .before .before .before .before .before .before .before .before .before .before .args in
-    let g = c .before .before .before .before .before .before .before .before .before .before .before .before .before .pre in
-    (few-contrasts (a .limit) (now (a .s)) (a .z) (now (a .firsts)) (now (a .sheet)) (g .0), few-coefficients (a .limit) (now (a .s)) (a .z) (now (a .firsts)) (now (a .sheet)) (g .0), contrast-ends (a .limit) (now (a .s)) (a .z) (now (a .firsts)) (now (a .sheet)) (g .0))
+    let h = lent (start-of-cells (c .before .before .before)) in
+    (few-contrasts _ _ _ _ _ h, few-coefficients _ _ _ _ _ h, contrast-ends _ _ _ _ _ h)
 
 mul-compute-kenward-roger : tie.Need-mul-compute-kenward-roger
 mul-compute-kenward-roger c =
-    let a = c .before .before .before .before .before .before .before .before .before .before .before .before .before .before .args in
-    let g = c .before .before .before .before .before .before .before .before .before .before .before .before .before .before .pre in
-    let x = start-within (a .limit) (now (a .s)) (a .z) (now (a .firsts)) (now (a .sheet)) (g .0) 7 (omega arith) in
+    let x = start-within _ _ _ _ _ (lent (start-of-cells (cells c))) 7 (omega arith) in
     let y = x .1 in
     omega arith
 
 shared-slice-read-compute-kenward-roger : tie.Need-shared-slice-read-compute-kenward-roger
-shared-slice-read-compute-kenward-roger c =
-    let a = c .before .before .before .before .before .before .before .before .before .before .before .before .before .before .before .args in
-    let g = c .before .before .before .before .before .before .before .before .before .before .before .before .before .before .before .pre in
-    sigma2-place (a .limit) (now (a .s)) (a .z) (now (a .firsts)) (now (a .sheet)) (g .0)
+shared-slice-read-compute-kenward-roger c = sigma2-place _ _ _ _ _ (lent (start-of-cells (cells (c .before))))
 
 compute-kenward-roger-requires : tie.Need-compute-kenward-roger-requires
 compute-kenward-roger-requires c κs =
-    let a = c .before .before .before .before .before .before .before .before .before .before .before .before .before .before .before .before .args in
-    let g = c .before .before .before .before .before .before .before .before .before .before .before .before .before .before .before .before .pre in
-    (matrices-few (a .limit) (now (a .s)) (a .z) (now (a .firsts)) (now (a .sheet)) (g .0) _ (c .before .before .before .before .before .before .before .before .before .before .before .before .before .blocks-of .ensures .0) _ (c .before .before .before .before .before .before .before .before .before .before .before .before .places-before .ensures), few-coefficients (a .limit) (now (a .s)) (a .z) (now (a .firsts)) (now (a .sheet)) (g .0), few-contrasts (a .limit) (now (a .s)) (a .z) (now (a .firsts)) (now (a .sheet)) (g .0))
+    let d = cells (c .before .before) in
+    let h = lent (start-of-cells d) in
+    (few-matrices (placed d), few-coefficients _ _ _ _ _ h, few-contrasts _ _ _ _ _ h)
 
 returns : tie.Need-returns
 returns c =
-    let a = c .before .before .before .before .before .before .before .before .before .before .before .before .before .before .before .before .before .args in
-    let g = c .before .before .before .before .before .before .before .before .before .before .before .before .before .before .before .before .before .pre in
-    let eN = matrices-are (a .limit) (now (a .s)) (a .z) (now (a .firsts)) (now (a .sheet)) (g .0) _ (c .before .before .before .before .before .before .before .before .before .before .before .before .before .before .blocks-of .ensures .0) _ (c .before .before .before .before .before .before .before .before .before .before .before .before .before .places-before .ensures) in
-    let e = run-is (a .limit) (now (a .s)) (a .z) (now (a .firsts)) (now (a .sheet)) (g .0) (a .c) _ _ _ _ _ _ _ _ _ _ eN (c .before .before .before .before .before .before .before .cells-at .ensures) (c .before .before .before .before .before .before .six-at .ensures) (c .before .before .before .before .before .given .ensures) (c .before .before .before .before .six-at2 .ensures) (c .before .before .before .cells-at2 .ensures) refl (g .1 .0) (g .1 .1) (g .1 .2) in
-    (c .compute-kenward-roger .ensures .0 ∙ ap (λ (r : Run). r .entries) e, c .compute-kenward-roger .ensures .1 ∙ ap (λ (r : Run). r .refused) e)
+    let l = c .before .before .before in
+    let d = cells l in
+    let b = placed d in
+    let a = start-of-cells d in
+    let h = lent a in
+    let m = matrices-are _ _ _ _ _ h _ (b .before .blocks-of .ensures .0) _ (b .places-before .ensures) in
+    let q = l .before .before in
+    let e = run-is _ _ _ _ _ h (a .args .c) _ _ _ _ _ _ _ _ _ _ m (d .cells-at .ensures) (q .before .six-at .ensures) (q .given .ensures) (l .before .six-at2 .ensures) (l .cells-at2 .ensures) refl
+    (a .pre .1 .0) (a .pre .1 .1) (a .pre .1 .2) in
+    let r = c .compute-kenward-roger .ensures in
+    (r .0 ∙ ap (λ (r : Run). r .entries) e, r .1 ∙ ap (λ (r : Run). r .refused) e)
 
 pub tests-of-spec : {M : Type 1} → statement M
 tests-of-spec =

@@ -1,6 +1,7 @@
 -- `records_kenward_roger::text` meets its contract.
 use native.Mathlib.Omega.{arith}
 use mathlib.Core.Path.{ap, ap₂, _∙_}
+use denote.Ref.{now}
 use Rattle.arithmetic_cutoffs.specs.declared.Cutoffs.{Cutoffs}
 use Rattle.records.specs.Text.{textOf}
 use Rattle.records.specs.KenwardRogerCall.{number, entries}
@@ -8,11 +9,13 @@ use Rattle.records_answer_text.proofs.CursorLaws.{named}
 use borrow.Author.Needs.{needs}
 use Rattle.records_kenward_roger.proofs.text.Statement.{statement}
 use Rattle.records_kenward_roger.proofs.text.Tie as tie
-use Rattle.records_kenward_roger.proofs.text.Reads as reads
-use Rattle.records_kenward_roger.proofs.text.Lts as lts
-use Rattle.arithmetic_cutoffs.proofs.document_cutoffs.Reads as document-cutoffs-reads
-use Rattle.records_answer_text.proofs.put_run.Reads as put-run-reads
-use Rattle.records_kenward_roger.proofs.judge_panel.Reads as judge-panel-reads
+
+-- ---- the stages of the code, each from the next that is named here: where a line is put in, one of these moves
+abbrev start : tie.After-document-cutoffs → tie.Start
+start c = c .before .before
+
+abbrev own : tie.After-judge-panel → tie.After-document-cutoffs
+own c = c .before .before .before .before
 
 document-cutoffs-requires : tie.Need-document-cutoffs-requires
 document-cutoffs-requires c κs = search needs
@@ -25,10 +28,13 @@ put-run-requires c κs = search needs
 
 returns : tie.Need-returns
 returns c =
-    let a = c .before .before .before .before .before .before .before .before .args in
-    let e = c .before .before .before .before .before .before .document-cutoffs .ensures in
-    let n = c .before .before .judge-panel .ensures .1 .0 ∙ ap (λ (x : Cutoffs). number 24 x (a .records .now)) e in
-    let es = c .before .before .judge-panel .ensures .0 ∙ ap (λ (x : Cutoffs). entries 24 x (a .records .now)) e in
+    let j = c .before .before in
+    let d = own j in
+    let s = now (start d .args .records) in
+    let e = d .document-cutoffs .ensures in
+    let q = j .judge-panel .ensures in
+    let n = q .told ∙ ap (λ (x : Cutoffs). number 24 x s) e in
+    let es = q .listed ∙ ap (λ (x : Cutoffs). entries 24 x s) e in
     let f = ap₂ textOf n es in
     let p = named {n = 512} (c .put-run .ensures) f (omega arith) in
     let u = p .moved in

@@ -12,6 +12,19 @@ use borrow.Author.Needs.{needs}
 use Rattle.records_season.proofs.close_series.Statement.{statement}
 use Rattle.records_season.proofs.close_series.Tie as tie
 
+-- ---- the stages of the code, each from the next that is named here: where a line is put in, one of these moves
+abbrev start : tie.After-judge-arrived → tie.Start
+start c = c .before .before .before .before .before .before
+
+abbrev judged : tie.After-keep-latest → tie.After-judge-arrived
+judged c = c .before .before .before .before
+
+abbrev latest : tie.After-put-run → tie.After-keep-latest
+latest c = c .before .before .before .before .before .before
+
+abbrev accepted : tie.After-worst-of → tie.Else1
+accepted c = c .before .before .before
+
 judge-arrived-requires : tie.Need-judge-arrived-requires
 judge-arrived-requires c κs = search needs
 
@@ -35,16 +48,16 @@ same-length-3 c = search needs
 
 returns : tie.Need-returns
 returns c =
-    let start = c .before .before .before .before .before .before .before .before .before .before .before .before .before .before .before .before .before .before .before .args in
-    let judged = c .before .before .before .before .before .before .before .before .before .before .before .before .before .judge-arrived in
-    let es = judged .result in
-    let window = windowOf (now (start .values)) (now (start .given)) in
+    let p = c .before .before .before in
+    let k = latest p in
+    let j = judged k in
+    let a = start j .args in
+    let es = j .judge-arrived .result in
+    let w = windowOf (now (a .values)) (now (a .given)) in
     let seven : length es ≡ 7 = search needs in
-    let entries = judged .ensures .0 in
-    let number = judged .ensures .1 in
-    let kept = c .before .before .before .before .before .before .before .before .before .keep-latest .ensures ∙ ap (λ (f : Number). withLatest f window) (f-is (start .a) (now (start .kept)) window es entries _ number _ seven) in
-    let run = c .before .before .before .put-run .ensures in
-    (kept, named run (refused-text (start .a) (now (start .kept)) window es entries _ number (c .if1 .taken)) (omega arith))
+    let q = j .judge-arrived .ensures in
+    let kept = k .keep-latest .ensures ∙ ap (λ (f : Number). withLatest f w) (f-is (a .a) (now (a .kept)) w es (q .0) _ (q .1) _ seven) in
+    (kept, named (p .put-run .ensures) (refused-text (a .a) (now (a .kept)) w es (q .0) _ (q .1) (c .if1 .taken)) (omega arith))
 
 worst-of-requires : tie.Need-worst-of-requires
 worst-of-requires c κs = search needs
@@ -63,17 +76,20 @@ same-length-6 c = search needs
 
 returns-2 : tie.Need-returns-2
 returns-2 c =
-    let start = c .before .before .before .before .before .before .before .before .before .before .before .before .before .before .before .before .before .before .before .before .before .before .before .before .before .before .args in
-    let judged = c .before .before .before .before .before .before .before .before .before .before .before .before .before .before .before .before .before .before .before .before .judge-arrived in
-    let es = judged .result in
-    let window = windowOf (now (start .values)) (now (start .given)) in
+    let o = c .before .before in
+    let e = accepted (o .before .before) in
+    let p = e .before .before .before in
+    let k = latest p in
+    let j = judged k in
+    let a = start j .args in
+    let es = j .judge-arrived .result in
+    let w = windowOf (now (a .values)) (now (a .given)) in
     let seven : length es ≡ 7 = search needs in
-    let entries = judged .ensures .0 in
-    let number = judged .ensures .1 in
-    let kept = c .before .before .before .before .before .before .before .before .before .before .before .before .before .before .before .before .keep-latest .ensures ∙ ap (λ (f : Number). withLatest f window) (f-is (start .a) (now (start .kept)) window es entries _ number _ seven) in
-    let run = c .before .before .before .before .before .before .before .before .before .before .put-run .ensures in
-    let w = c .before .before .before .before .worst-of .ensures ∙ ap worst kept in
-    (kept, named (then run (c .before .before .put-worst .ensures)) (accepted-text (start .a) (now (start .kept)) window es entries _ number (c .before .before .before .before .before .before .before .if1 .left) _ w) (omega arith))
+    let q = j .judge-arrived .ensures in
+    let kept = k .keep-latest .ensures ∙ ap (λ (f : Number). withLatest f w) (f-is (a .a) (now (a .kept)) w es (q .0) _ (q .1) _ seven) in
+    let worst-is = o .before .before .worst-of .ensures ∙ ap worst kept in
+    let lines = accepted-text (a .a) (now (a .kept)) w es (q .0) _ (q .1) (e .if1 .left) _ worst-is in
+    (kept, named (then (p .put-run .ensures) (o .put-worst .ensures)) lines (omega arith))
 
 pub close-series-spec : {M : Type 1} → statement M
 close-series-spec =

@@ -11,34 +11,48 @@ use Rattle.records_season.proofs.feed.Tie as tie
 
 abbrev Inv-loop : tie.InvT-loop
 Inv-loop piece kept₀ current₀ values₀ given₀ out₀ written₀ so-far₀ i₀ i-end kept current values given out written so-far i =
-    (i-end ≡ length piece) × (i ≤ i-end) × (length kept ≡ length kept₀) × (length current ≡ length current₀) × (length values ≡ length values₀) × (length given ≡ length given₀) × (length out ≡ length out₀)
-    × SeasonArrives (seasonAs so-far kept current values given) × (so-far .part ≡ (so-far₀ .part + i) % 16)
+    (i-end ≡ length piece) × (i ≤ i-end) × (length kept ≡ length kept₀) × (length current ≡ length current₀) × (length values ≡ length values₀) × (length given ≡ length given₀)
+    × (length out ≡ length out₀) × SeasonArrives (seasonAs so-far kept current values given) × (so-far .part ≡ (so-far₀ .part + i) % 16)
     × Fed (take i piece) (462 * ((so-far₀ .part + i) / 16)) (seasonAs so-far₀ kept₀ current₀ values₀ given₀) out₀ 0 (seasonAs so-far kept current values given) out written
 
 abbrev μ-loop : tie.MeasureT-loop
 μ-loop piece kept₀ current₀ values₀ given₀ out₀ written₀ so-far₀ i₀ i-end kept current values given out written so-far i = i-end - i
 
+-- ---- the stages of the code, each from the next that is named here: where a line is put in, one of these moves
+abbrev start : tie.At-loop Inv-loop μ-loop → tie.Start Inv-loop μ-loop
+start c = c .before .before .before .before .before .before .before
+
+abbrev turn : tie.After-take-byte-arg6 Inv-loop μ-loop → tie.In-loop Inv-loop μ-loop
+turn c = c .before .before .before .before .before .before .before
+
+abbrev fed : tie.After-values Inv-loop μ-loop → tie.After-take-byte Inv-loop μ-loop
+fed c = c .before .before .before .before .before
+
+abbrev back : tie.After-slice-known10 Inv-loop μ-loop → tie.After-values Inv-loop μ-loop
+back c = c .before .before .before .before .before
+
 loop-holds : tie.Need-loop-holds Inv-loop μ-loop
 loop-holds c =
-    let start = c .before .before .before .before .before .before in
-    let few = start .pre .1 .0 .came .unclosed .ready .part in
-    (refl, omega arith, refl, refl, refl, refl, refl, start .pre .1 .0, omega arith, fed-wider (fed-none _ _ _) (omega arith))
+    let s = c .before .before .before .before .before .before in
+    let few = s .pre .1 .0 .came .unclosed .ready .part in
+    (refl, omega arith, refl, refl, refl, refl, refl, s .pre .1 .0, omega arith, fed-wider (fed-none _ _ _) (omega arith))
 
 shared-slice-read-take-byte : tie.Need-shared-slice-read-take-byte Inv-loop μ-loop
 shared-slice-read-take-byte c = omega arith
 
 take-byte-requires : tie.Need-take-byte-requires Inv-loop μ-loop
 take-byte-requires c κs =
-    let start = c .before .before .before .before .before .before .before .before .before .before .before .before .before .before .before in
-    let l = c .before .before .before .before .before .before .before .before .loop in
-    let first = start .pre .1 .0 in
+    let h = turn c .before in
+    let s = start h in
+    let l = h .loop in
+    let first = s .pre .1 .0 in
     let wrote = l .inv .9 .wrote (first .file) (first .came) in
     let m = wrote .moved in
-    let s = wrote .short in
+    let n = wrote .short in
     let part = l .inv .8 in
     let same = l .inv .6 in
-    let room = start .pre .1 .1 in
-    ((l .inv .4 ∙ start .pre .0 .0, l .inv .5 ∙ start .pre .0 .1), (l .inv .7, omega arith))
+    let room = s .pre .1 .1 in
+    ((l .inv .4 ∙ s .pre .0 .0, l .inv .5 ∙ s .pre .0 .1), (l .inv .7, omega arith))
 
 add-i : tie.Need-add-i Inv-loop μ-loop
 add-i c = omega arith
@@ -48,11 +62,13 @@ loop-less c = omega arith
 
 loop-again : tie.Need-loop-again Inv-loop μ-loop
 loop-again c =
-    let start = c .before .before .before .before .before .before .before .before .before .before .before .before .before .before .before .before .before .before .before .before .before .before .before .before .before .before in
-    let l = c .before .before .before .before .before .before .before .before .before .before .before .before .before .before .before .before .before .before .before .loop in
-    let more = c .before .before .before .before .before .before .before .before .before .before .before .before .before .before .before .before .before .before .loop-test .taken in
-    let taken = c .before .before .before .before .before .before .before .before .before .before .take-byte in
-    let piece = now (start .args .piece) in
+    let k = fed (back c) in
+    let t = turn (k .before) in
+    let s = start (t .before) in
+    let l = t .before .loop in
+    let more = t .loop-test .taken in
+    let taken = k .take-byte in
+    let piece = now (s .args .piece) in
     let part = l .inv .8 in
     let next = fed-part (taken .ensures) (l .inv .7) in (
       refl,
@@ -84,13 +100,13 @@ same-length-5 c = c .before .loop .inv .6
 
 returns : tie.Need-returns Inv-loop μ-loop
 returns c =
-    let start = c .before .before .before .before .before .before .before .before in
-    let first = start .pre .1 .0 in
-    let all = fed-all (now (start .args .piece)) (c .before .loop .i) (start .args .a .part) (omega arith) (c .before .loop .inv .9) in
+    let s = start (c .before) in
+    let first = s .pre .1 .0 in
+    let all = fed-all (now (s .args .piece)) (c .before .loop .i) (s .args .a .part) (omega arith) (c .before .loop .inv .9) in
     let wrote = all .wrote (first .file) (first .came) in
     let m = wrote .moved in
-    let s = wrote .short in
-    (all, omega (arith, start .pre .1 .1))
+    let n = wrote .short in
+    (all, omega (arith, s .pre .1 .1))
 
 pub feed-spec : {M : Type 1} → statement M
 feed-spec =

@@ -8,11 +8,30 @@ use borrow.Author.Needs.{needs}
 use Rattle.records_season.proofs.take_byte.Statement.{statement}
 use Rattle.records_season.proofs.take_byte.Tie as tie
 
+-- ---- the stages of the code, each from the next that is named here: where a line is put in, one of these moves
+abbrev start : tie.Then1 → tie.Start
+start c = c .before .before .before .before .before .before .before
+
+abbrev last : tie.After-take-last-byte-arg6 → tie.Then1
+last c = c .before .before .before .before .before .before
+
+abbrev fed : tie.After-values → tie.After-take-last-byte
+fed c = c .before .before .before .before .before
+
+abbrev back : tie.After-slice-known10 → tie.After-values
+back c = c .before .before .before .before .before
+
+abbrev start-of-open : tie.Else1 → tie.Start
+start-of-open c = c .before .before .before .before .before .before .before
+
+abbrev unclosed : tie.After-take-byte → tie.Else1
+unclosed c = c .before .before .before
+
 take-last-byte-requires : tie.Need-take-last-byte-requires
 take-last-byte-requires c κs =
-    let start = c .before .before .before .before .before .before .before .before .before .before .before .before .before in
-    let e = c .before .before .before .before .before .before .if1 .taken in
-    (start .pre .0, (start .pre .1 .0, e, omega (arith, start .pre .1 .1)))
+    let s = start (last c) in
+    let e = last c .if1 .taken in
+    (s .pre .0, (s .pre .1 .0, e, omega (arith, s .pre .1 .1)))
 
 same-length : tie.Need-same-length
 same-length c = search needs
@@ -31,8 +50,9 @@ same-length-5 c = search needs
 
 returns : tie.Need-returns
 returns c =
-    let e = c .before .before .before .before .before .before .before .before .before .before .before .before .before .before .before .before .before .if1 .taken in
-    fed-wider (c .before .before .before .before .before .before .before .before .before .before .take-last-byte .ensures) (omega arith)
+    let k = fed (back c) in
+    let e = last (k .before) .if1 .taken in
+    fed-wider (k .take-last-byte .ensures) (omega arith)
 
 take-byte-requires : tie.Need-take-byte-requires
 take-byte-requires c κs = search needs
@@ -45,10 +65,13 @@ same-length-7 c = search needs
 
 returns-2 : tie.Need-returns-2
 returns-2 c =
-    let start = c .before .before .before .before .before .before .before .before .before .before .before .before .before .before in
-    let small : start .args .b < 256 = omega (arith, start .fits .b) in
-    let window = windowOf (now (start .args .values)) (now (start .args .given)) in
-    open-fed (start .args .a) (now (start .args .kept)) (now (start .args .current)) window (start .args .b) small _ _ (c .before .before .before .before .take-byte .ensures) (λ e. absurd (c .before .before .before .before .before .before .before .if1 .left e)) _ _
+    let t = c .before .before .before .before in
+    let e = unclosed t in
+    let s = start-of-open e in
+    let a = s .args in
+    let small : a .b < 256 = omega (arith, s .fits .b) in
+    let window = windowOf (now (a .values)) (now (a .given)) in
+    open-fed (a .a) (now (a .kept)) (now (a .current)) window (a .b) small _ _ (t .take-byte .ensures) (λ q. absurd (e .if1 .left q)) _ _
 
 pub take-byte-spec : {M : Type 1} → statement M
 take-byte-spec =

@@ -10,6 +10,19 @@ use borrow.Author.Needs.{needs}
 use Rattle.records_season.proofs.take_last_byte.Statement.{statement}
 use Rattle.records_season.proofs.take_last_byte.Tie as tie
 
+-- ---- the stages of the code, each from the next that is named here: where a line is put in, one of these moves
+abbrev start : tie.After-closes → tie.Start
+start c = c .before .before .before .before .before .before .before
+
+abbrev closing : tie.After-close-series → tie.Then1
+closing c = c .before .before .before .before .before .before
+
+abbrev closed : tie.After-nothing-yet → tie.After-close-series
+closed c = c .before .before .before .before .before .before .before
+
+abbrev unclosed : tie.After-take-byte → tie.Else1
+unclosed c = c .before .before .before
+
 slice-write-current : tie.Need-slice-write-current
 slice-write-current c = search needs
 
@@ -39,15 +52,15 @@ same-length-5 c = search needs
 
 returns : tie.Need-returns
 returns c =
-    let start = c .before .before .before .before .before .before .before .before .before .before .before .before .before .before .before .before .before .before .before .before .before in
-    let small : start .args .b < 256 = omega (arith, start .fits .b) in
-    let a = start .args .a in
-    let kept = now (start .args .kept) in
-    let current = now (start .args .current) in
-    let window = windowOf (now (start .args .values)) (now (start .args .given)) in
-    let whole = sym (c .before .before .before .before .before .before .before .before .before .before .before .before .before .before .closes .ensures) ∙ c .before .before .before .before .before .before .before .before .before .before .before .before .before .if1 .taken in
-    let closed = c .before .before .before .before .before .before .before .close-series .ensures in
-    closing-fed a kept current window (start .args .b) small (start .pre .1 .1) whole _ (closed .0) _ _ _ _ (closed .1) _ (c .nothing-yet .ensures)
+    let k = closed c in
+    let t = closing k in
+    let s = start (t .before) in
+    let a = s .args in
+    let small : a .b < 256 = omega (arith, s .fits .b) in
+    let window = windowOf (now (a .values)) (now (a .given)) in
+    let whole = sym (t .before .closes .ensures) ∙ t .if1 .taken in
+    let q = k .close-series .ensures in
+    closing-fed (a .a) (now (a .kept)) (now (a .current)) window (a .b) small (s .pre .1 .1) whole _ (q .0) _ _ _ _ (q .1) _ (c .nothing-yet .ensures)
 
 take-byte-requires : tie.Need-take-byte-requires
 take-byte-requires c κs = search needs
@@ -56,19 +69,22 @@ same-length-6 : tie.Need-same-length-6
 same-length-6 c = search needs
 
 same-length-7 : tie.Need-same-length-7
-same-length-7 c = c .before .before .before .before .take-byte .kept .1 .1 .1 .0 ∙ length-set (now (c .before .before .before .before .before .before .before .before .before .before .before .before .before .before .before .args .current)) 15 (c .before .before .before .before .before .before .before .before .before .before .before .before .before .before .before .args .b)
+same-length-7 c =
+    let t = c .before .before .before .before in
+    let a = start (unclosed t .before) .args in
+    t .take-byte .kept .1 .1 .1 .0 ∙ length-set (now (a .current)) 15 (a .b)
 
 returns-2 : tie.Need-returns-2
 returns-2 c =
-    let start = c .before .before .before .before .before .before .before .before .before .before .before .before .before .before .before in
-    let small : start .args .b < 256 = omega (arith, start .fits .b) in
-    let a = start .args .a in
-    let kept = now (start .args .kept) in
-    let current = now (start .args .current) in
-    let window = windowOf (now (start .args .values)) (now (start .args .given)) in
-    let open' = sym (c .before .before .before .before .before .before .before .before .closes .ensures) ∙ c .before .before .before .before .before .before .before .if1 .left in
-    let taken = c .before .before .before .before .take-byte .ensures ∙ set-again a kept current window (start .args .b) small (start .pre .1 .1) in
-    open-fed a kept current window (start .args .b) small 462 _ taken (λ e. open') _ _
+    let t = c .before .before .before .before in
+    let e = unclosed t in
+    let s = start (e .before) in
+    let a = s .args in
+    let small : a .b < 256 = omega (arith, s .fits .b) in
+    let window = windowOf (now (a .values)) (now (a .given)) in
+    let open' = sym (e .before .closes .ensures) ∙ e .if1 .left in
+    let taken = t .take-byte .ensures ∙ set-again (a .a) (now (a .kept)) (now (a .current)) window (a .b) small (s .pre .1 .1) in
+    open-fed (a .a) (now (a .kept)) (now (a .current)) window (a .b) small 462 _ taken (λ e. open') _ _
 
 pub take-last-byte-spec : {M : Type 1} → statement M
 take-last-byte-spec =

@@ -19,6 +19,13 @@ Inv-loop values given w₀ i₀ w i = (i ≤ 20) × (w ≡ worst (take i (window
 abbrev μ-loop : tie.MeasureT-loop
 μ-loop values given w₀ i₀ w i = 20 - i
 
+-- ---- the stages of the code, each from the next that is named here: where a line is put in, one of these moves
+abbrev start : tie.At-loop Inv-loop μ-loop → tie.Start Inv-loop μ-loop
+start c = c .before .before .before
+
+abbrev turn : tie.After-worse Inv-loop μ-loop → tie.At-loop Inv-loop μ-loop
+turn c = c .before .before .before .before .before
+
 loop-holds : tie.Need-loop-holds Inv-loop μ-loop
 unfolding worstAfter
 loop-holds c = (omega arith, refl)
@@ -46,18 +53,17 @@ loop-less c = omega arith
 
 loop-again : tie.Need-loop-again Inv-loop μ-loop
 loop-again c =
-    let l = c .before .before .before .before .before .loop in
-    let start = c .before .before .before .before .before .before .before .before in
-    let pre = start .pre in
-    (omega arith, worst-more (now (start .args .values)) (now (start .args .given)) (l .i) nan false (l .w) _ _ (pre .0 ∙ sym (pre .1)) (omega arith) (l .inv .1) (c .before .given-number .ensures) (c .worse .ensures))
+    let l = turn c .loop in
+    let s = start (turn c) in
+    let same = s .pre .0 ∙ sym (s .pre .1) in
+    (omega arith, worst-more (now (s .args .values)) (now (s .args .given)) (l .i) nan false (l .w) _ _ same (omega arith) (l .inv .1) (c .before .given-number .ensures) (c .worse .ensures))
 
 returns : tie.Need-returns Inv-loop μ-loop
 returns c =
     let l = c .before .loop in
-    let start = c .before .before .before .before in
-    let pre = start .pre in
-    let n = window-length (now (start .args .values)) (now (start .args .given)) (pre .0 ∙ sym (pre .1)) in
-    l .inv .1 ∙ ap worst (take-all (l .i) (windowOf (now (start .args .values)) (now (start .args .given))) (omega arith))
+    let s = start (c .before) in
+    let n = window-length (now (s .args .values)) (now (s .args .given)) (s .pre .0 ∙ sym (s .pre .1)) in
+    l .inv .1 ∙ ap worst (take-all (l .i) (windowOf (now (s .args .values)) (now (s .args .given))) (omega arith))
 
 pub worst-of-spec : {M : Type 1} → statement M
 worst-of-spec =

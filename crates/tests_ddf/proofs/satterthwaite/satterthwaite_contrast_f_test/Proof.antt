@@ -5,6 +5,13 @@ use borrow.Author.Needs.{needs}
 use Rattle.tests_ddf.proofs.satterthwaite.satterthwaite_contrast_f_test.Statement.{statement}
 use Rattle.tests_ddf.proofs.satterthwaite.satterthwaite_contrast_f_test.Tie as tie
 
+-- ---- the stages of the code, each from the next that is named here: where a line is put in, one of these moves
+abbrev several : tie.After-several-rows → tie.Else1
+several c = c .before .before
+
+abbrev one : tie.After-one-row → tie.Then1
+one c = c .before .before .before .before .before
+
 given-cells-requires : tie.Need-given-cells-requires
 given-cells-requires c κs = search needs
 
@@ -40,12 +47,15 @@ one-row-requires c κs = search needs
 
 returns : tie.Need-returns
 returns c =
-    let l = c .before .before .before .before .before .before .before .before .before .given-cells .ensures in
-    let ld = c .before .before .before .before .before .before .before .before .contrast-of .ensures in
-    let v = c .before .before .before .before .before .before .before .transformed .ensures in
-    let js = c .before .before .before .before .before .before .transform-contrast .ensures in
-    let test = eq-eqb _ _ (c .before .before .before .before .before .if1 .taken) in (
-      one-row-is _ _ _ _ _ _ _ _ _ _ _ _ _ _ l ld v js test _ _ _ (c .before .before .before .before .start-seen .ensures) (c .before .before .before .gradient-one .ensures) (c .one-row .ensures),
+    let t = one c in
+    let j = t .before in
+    let js = j .transform-contrast .ensures in
+    let v = j .before .transformed .ensures in
+    let ld = j .before .before .contrast-of .ensures in
+    let l = j .before .before .before .given-cells .ensures in
+    let test = eq-eqb _ _ (t .if1 .taken) in
+    let g = c .before .before .before in (
+      one-row-is _ _ _ _ _ _ _ _ _ _ _ _ _ _ l ld v js test _ _ _ (g .before .start-seen .ensures) (g .gradient-one .ensures) (c .one-row .ensures),
       one-row-accepted _ _ _ _ _ _ _ _ _ _ _ _ _ _ l ld v js test,
     )
 
@@ -54,11 +64,13 @@ several-rows-requires c κs = search needs
 
 returns-2 : tie.Need-returns-2
 returns-2 c =
-    let l = c .before .before .before .before .before .before .given-cells .ensures in
-    let ld = c .before .before .before .before .before .contrast-of .ensures in
-    let v = c .before .before .before .before .transformed .ensures in
-    let js = c .before .before .before .transform-contrast .ensures in
-    let test = ne-eqb _ _ (c .before .before .if1 .left) in (
+    let e = several c in
+    let j = e .before in
+    let js = j .transform-contrast .ensures in
+    let v = j .before .transformed .ensures in
+    let ld = j .before .before .contrast-of .ensures in
+    let l = j .before .before .before .given-cells .ensures in
+    let test = ne-eqb _ _ (e .if1 .left) in (
       several-rows-is _ _ _ _ _ _ _ _ _ _ _ _ _ _ l ld v js test _ (c .several-rows .ensures .0),
       several-rows-refused _ _ _ _ _ _ _ _ _ _ _ _ _ _ l ld v js test _ (c .several-rows .ensures .1),
     )

@@ -4,6 +4,13 @@ use borrow.Author.Needs.{needs}
 use Rattle.tests_kr_modcomp.proofs.full_rank.kr_modcomp_full_rank.Statement.{statement}
 use Rattle.tests_kr_modcomp.proofs.full_rank.kr_modcomp_full_rank.Tie as tie
 
+-- ---- the stages of the code, each from the next that is named here: where a line is put in, one of these moves
+abbrev started : tie.After-solve → tie.After-sandwich
+started c = c .before .before
+
+abbrev solved : tie.After-theta-entry → tie.After-solve
+solved c = c .before .before .before
+
 given-cells-requires : tie.Need-given-cells-requires
 given-cells-requires c κs = search needs
 
@@ -27,14 +34,17 @@ theta-entry-requires c κs = search needs
 
 returns : tie.Need-returns
 returns c =
-    let l = c .before .before .before .before .before .before .before .before .given-cells .ensures in
-    let d = c .before .before .before .before .before .before .before .difference .ensures in
-    let ld = c .before .before .before .before .before .before .product .ensures in
-    let v = c .before .before .before .before .before .sandwich .ensures in
-    let y = c .before .before .before .solve .ensures in
+    let y = solved c in
+    let s = started y in
+    let v = s .sandwich .ensures in
+    let ld = s .before .product .ensures in
+    let d = s .before .before .difference .ensures in
+    let l = s .before .before .before .given-cells .ensures in
     let all = c .before .before .scaling-seen .ensures in
-    let entry = c .theta-entry .ensures in
-    (tested-is _ _ _ _ _ _ _ _ _ _ _ _ _ _ _ _ l d ld v _ _ _ (y .0) all (entry .0), refused-is _ _ _ _ _ _ _ _ _ _ _ _ _ _ _ _ l d ld v _ _ (entry .1) (y .1))
+    let entry = c .theta-entry .ensures in (
+      tested-is _ _ _ _ _ _ _ _ _ _ _ _ _ _ _ _ l d ld v _ _ _ (y .solve .ensures .0) all (entry .0),
+      refused-is _ _ _ _ _ _ _ _ _ _ _ _ _ _ _ _ l d ld v _ _ (entry .1) (y .solve .ensures .1),
+    )
 
 pub kr-modcomp-full-rank-spec : {M : Type 1} → statement M
 kr-modcomp-full-rank-spec =
