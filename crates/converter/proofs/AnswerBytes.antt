@@ -11,8 +11,8 @@ use lib.ListN.{length, set, length-append, List·getD-append}
 use lib.Seq.{getD-set-other, getD-append-add}
 use Rattle.tests.specs.declared.Entry.{Entry}
 use Rattle.tests.specs.Verdict.{Verdict, verdict}
-use Rattle.records.specs.Bytes.{byte, bytesOf}
-use Rattle.records.specs.Layout.{flag, entryBytes, answerBytes}
+use Rattle.records.specs.format.Bytes.{byte, bytesOf}
+use Rattle.records.specs.format.Layout.{flag, entryBytes, answerBytes}
 use Rattle.converter.specs.AnswerBytes.{SameButMarks, SameAnswer}
 
 -- the entry of a verdict and a mark

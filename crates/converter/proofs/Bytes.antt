@@ -11,8 +11,8 @@ use lib.Ieee.Bits.{is-true}
 use Rattle.algebra.specs.Table.{row}
 use Rattle.algebra.proofs.TableLaws.{row-at}
 use Rattle.algebra.proofs.FoldLaws.{length-span}
-use Rattle.records.specs.Bytes.{byte, bytesOf}
-use Rattle.records.specs.File.{count, kindOf}
+use Rattle.records.specs.format.Bytes.{byte, bytesOf}
+use Rattle.records.specs.format.File.{count, kindOf}
 use Rattle.converter.specs.Converted.{Change, newBits, newByte, converted}
 
 -- ---- the positions of record i

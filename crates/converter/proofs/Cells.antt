@@ -8,10 +8,10 @@ use Rattle.arithmetic.proofs.PlainLaws.{clash}
 use Rattle.records.specs.declared.Field.{Field}
 use Rattle.records.specs.declared.Field.the-variants.{Index, Number, Unused}
 use Rattle.records.specs.declared.Kind.{Kind}
-use Rattle.records.specs.Kinds.{holds, indexOf, Table, kindAt}
-use Rattle.records.specs.File.{kindOf, rowOf, columnOf, countOf, cellCount, cellRow, cellColumn, beyond}
-use Rattle.records.proofs.ScanLaws.{or-false}
-use Rattle.records.proofs.Slots.{within}
+use Rattle.records.specs.format.Kinds.{holds, indexOf, Table, kindAt}
+use Rattle.records.specs.format.File.{kindOf, rowOf, columnOf, countOf, cellCount, cellRow, cellColumn, beyond}
+use Rattle.records.proofs.format.ScanLaws.{or-false}
+use Rattle.records.proofs.format.Slots.{within}
 use Rattle.converter.specs.ReadAlike.{isNumber, numbered}
 
 -- a field that is no number names its cell by what it holds

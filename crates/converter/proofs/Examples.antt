@@ -9,8 +9,8 @@ use lib.IntN.{ℤ, pos, negsuc, _+ℤ_}
 use lib.Ieee.{mul, div, ofBits, toBits}
 use Rattle.algebra.specs.Fold.{fold}
 use Rattle.algebra.specs.Table.{row}
-use Rattle.records.specs.Bytes.{word, long, bytesOf}
-use Rattle.records.specs.Written.{recordOf}
+use Rattle.records.specs.format.Bytes.{word, long, bytesOf}
+use Rattle.records.specs.format.Written.{recordOf}
 use Rattle.converter.specs.Converted.{Change, kenwardRogerShift, kenwardRogerChange, satterthwaiteShift, satterthwaiteChange, rewritten, newBits, newByte, converted}
 
 -- two contrast rows, each with a power of its own

@@ -8,11 +8,11 @@ use mathlib.Core.List.{List}
 use lib.Dec.{lit<}
 use lib.Ieee.{Float, binary64, ofBits}
 use lib.Ieee.Bits.{ofBits-toBits, toBits-lt}
-use Rattle.records.specs.Bytes.{byte, bytesOf}
-use Rattle.records.specs.File.{count, kindOf, rowOf, columnOf, countOf, bitsOf, firstValueOf, valueOf}
-use Rattle.records.specs.Alike.{Alike, Stays}
+use Rattle.records.specs.format.Bytes.{byte, bytesOf}
+use Rattle.records.specs.format.File.{count, kindOf, rowOf, columnOf, countOf, bitsOf, firstValueOf, valueOf}
+use Rattle.records.specs.format.Alike.{Alike, Stays}
 use Rattle.converter.specs.Converted.{Change, rewritten, newBits, converted}
-use Rattle.records.proofs.WrittenLaws.{long-bytes, word-same, long-same}
+use Rattle.records.proofs.format.WrittenLaws.{long-bytes, word-same, long-same}
 use Rattle.converter.proofs.Bytes.{length-converted, byte-kept, byte-other, byte-new}
 use Rattle.converter.proofs.Rewritten.{rewritten-fits}
 

@@ -13,18 +13,18 @@ use borrow.Author.Tests.{eqb-false}
 use Rattle.arithmetic.specs.Scale.{scale, powerOfTwo}
 use Rattle.algebra.specs.Kind.{floats}
 use Rattle.algebra.specs.Product.{at}
-use Rattle.records.specs.Scan.{any}
-use Rattle.records.specs.Kinds.{Table, kindAt, kenwardRogerKinds, width}
-use Rattle.records.specs.File.{count, cell, rows, present, beyond}
-use Rattle.records.specs.Series.{coefficients, contrastRows, sizes, kinds, cellValue, sigma2, beta, betaH, contrast, reasons}
-use Rattle.records.proofs.Slots.{Inside}
-use Rattle.records.proofs.AcceptedSeries.{AcceptedSeries}
-use Rattle.records.proofs.SeriesInput.{series-sized, beta-at, betaH-at, contrast-at}
+use Rattle.records.specs.format.Scan.{any}
+use Rattle.records.specs.format.Kinds.{Table, kindAt, kenwardRogerKinds, width}
+use Rattle.records.specs.format.File.{count, cell, rows, present, beyond}
+use Rattle.records.specs.readers.Series.{coefficients, contrastRows, sizes, kinds, cellValue, sigma2, beta, betaH, contrast, reasons}
+use Rattle.records.proofs.format.Slots.{Inside}
+use Rattle.records.proofs.readers.AcceptedSeries.{AcceptedSeries}
+use Rattle.records.proofs.readers.SeriesInput.{series-sized, beta-at, betaH-at, contrast-at}
 use Rattle.converter.specs.Converted.{kenwardRogerShift, kenwardRogerChange, rewritten, converted}
 use Rattle.converter.specs.ReadAlike.{Exact, ReadAlike}
 use Rattle.converter.proofs.Among.{among}
 use Rattle.converter.proofs.ReadAlike.{exact-cells}
-use Rattle.records.proofs.SameSeries.{kinds-same}
+use Rattle.records.proofs.readers.SameSeries.{kinds-same}
 use Rattle.converter.proofs.Series.{series-numbered, series-alike}
 use Rattle.converter.proofs.Refusals.{reasons-same}
 

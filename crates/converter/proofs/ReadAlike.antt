@@ -9,14 +9,14 @@ use lib.Ieee.{Float, binary64, fits}
 use Rattle.arithmetic.specs.Numbers.{plusZero, isFinite}
 use Rattle.arithmetic.specs.Scale.{scale}
 use Rattle.arithmetic.proofs.PlainLaws.{finite-scale}
-use Rattle.records.specs.Scan.{any}
-use Rattle.records.specs.Kinds.{Table, kindAt, valueHolds}
-use Rattle.records.specs.Alike.{Alike}
-use Rattle.records.specs.File.{count, kindOf, rowOf, columnOf, countOf, bitsOf, valueOf, cellCount, cellRow, cellColumn, cell, again, beyond, notFinite}
-use Rattle.records.proofs.ScanLaws.{any-none, any-same}
-use Rattle.records.proofs.Slots.{Inside, sized-inside, Names, cell-names}
-use Rattle.records.proofs.CellLaws.{own-cell}
-use Rattle.records.proofs.SameFile.{count-same, rows-same, columns-same, present-same, cell-both, cell-stays, length-same, falls-same, form-same}
+use Rattle.records.specs.format.Scan.{any}
+use Rattle.records.specs.format.Kinds.{Table, kindAt, valueHolds}
+use Rattle.records.specs.format.Alike.{Alike}
+use Rattle.records.specs.format.File.{count, kindOf, rowOf, columnOf, countOf, bitsOf, valueOf, cellCount, cellRow, cellColumn, cell, again, beyond, notFinite}
+use Rattle.records.proofs.format.ScanLaws.{any-none, any-same}
+use Rattle.records.proofs.format.Slots.{Inside, sized-inside, Names, cell-names}
+use Rattle.records.proofs.format.CellLaws.{own-cell}
+use Rattle.records.proofs.format.SameFile.{count-same, rows-same, columns-same, present-same, cell-both, cell-stays, length-same, falls-same, form-same}
 use Rattle.converter.specs.Converted.{Change, rewritten, converted}
 use Rattle.converter.specs.ReadAlike.{moves, movesRecord, Exact, OnFloats, numbered, ConvertedReadsAlike}
 use Rattle.converter.proofs.Rewritten.{rewritten-zero, rewritten-scales}

@@ -9,12 +9,12 @@ use Rattle.arithmetic.specs.Numbers.{plusZero, isZero}
 use Rattle.arithmetic.specs.Scale.{scale}
 use Rattle.arithmetic.proofs.PlainLaws.{zero-scale}
 use Rattle.arithmetic.proofs.ScaleLaws.{le-scale}
-use Rattle.records.specs.Scan.{any}
-use Rattle.records.specs.Kinds.{Table, kenwardRoger, limits}
-use Rattle.records.specs.File.{count, cell, beyond, formReasons}
-use Rattle.records.specs.Order.{orderReasons}
-use Rattle.records.specs.Series.{sizes, kinds, cellValue, sigma2, miscounted, blockReasons, sizeReasons, valueReasons, reasons}
-use Rattle.records.proofs.SameSeries as same
+use Rattle.records.specs.format.Scan.{any}
+use Rattle.records.specs.format.Kinds.{Table, kenwardRoger, limits}
+use Rattle.records.specs.format.File.{count, cell, beyond, formReasons}
+use Rattle.records.specs.format.Order.{orderReasons}
+use Rattle.records.specs.readers.Series.{sizes, kinds, cellValue, sigma2, miscounted, blockReasons, sizeReasons, valueReasons, reasons}
+use Rattle.records.proofs.readers.SameSeries as same
 use Rattle.converter.specs.Converted.{Change, kenwardRogerShift, kenwardRogerChange, converted}
 use Rattle.converter.specs.ReadAlike.{Exact, ReadAlike}
 use Rattle.converter.proofs.Fields.{first-other}

@@ -7,11 +7,11 @@ use lib.IntN.{ℤ}
 use Rattle.arithmetic.specs.Scale.{scale}
 use Rattle.records.specs.declared.Sizes.{Sizes}
 use Rattle.records.specs.declared.Value.the-variants.{Float as FloatBits}
-use Rattle.records.specs.Scan.{any}
-use Rattle.records.specs.Kinds.{Table, kindAt, satterthwaiteKinds, limits, satterthwaite}
-use Rattle.records.specs.File.{count, cell, beyond, formReasons}
-use Rattle.records.specs.Order.{orderReasons}
-use Rattle.records.specs.Parameters.{coefficients, contrastRows, parameters, sizes, kinds, cellValue, valueReasons, reasons}
+use Rattle.records.specs.format.Scan.{any}
+use Rattle.records.specs.format.Kinds.{Table, kindAt, satterthwaiteKinds, limits, satterthwaite}
+use Rattle.records.specs.format.File.{count, cell, beyond, formReasons}
+use Rattle.records.specs.format.Order.{orderReasons}
+use Rattle.records.specs.readers.Parameters.{coefficients, contrastRows, parameters, sizes, kinds, cellValue, valueReasons, reasons}
 use Rattle.converter.specs.Converted.{satterthwaiteShift, satterthwaiteChange, converted}
 use Rattle.converter.specs.ReadAlike.{Exact, OnFloats, isNumber, numbered, ReadAlike}
 use Rattle.converter.proofs.Among.{among}

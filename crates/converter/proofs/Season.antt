@@ -14,12 +14,12 @@ use borrow.Author.Tests.{eqb-true}
 use Rattle.algebra.specs.Table.{row}
 use Rattle.algebra.proofs.TableLaws.{row-at}
 use Rattle.algebra.proofs.FoldLaws.{length-span}
-use Rattle.records.specs.Bytes.{byte}
-use Rattle.records.specs.File.{count, kindOf, countOf, bitsOf}
-use Rattle.records.specs.Season.{closes, begins, seriesBefore, seriesTo, seriesIn}
-use Rattle.records.proofs.ScanLaws.{last-same}
-use Rattle.records.proofs.WrittenLaws.{word-same, long-same}
-use Rattle.records.proofs.SeasonLaws.{closes-same, begins-more, left-length}
+use Rattle.records.specs.format.Bytes.{byte}
+use Rattle.records.specs.format.File.{count, kindOf, countOf, bitsOf}
+use Rattle.records.specs.text.Season.{closes, begins, seriesBefore, seriesTo, seriesIn}
+use Rattle.records.proofs.format.ScanLaws.{last-same}
+use Rattle.records.proofs.format.WrittenLaws.{word-same, long-same}
+use Rattle.records.proofs.text.SeasonLaws.{closes-same, begins-more, left-length}
 use Rattle.converter.specs.Converted.{Change, newBits, newByte, converted}
 use Rattle.converter.specs.SeasonDemand.{seriesNumber, convertedSeason, seasonChange, SeasonConverted, SeasonConverts}
 use Rattle.converter.proofs.Bytes.{at-quotient, at-rest, length-converted, byte-converted, newByte-kept, newByte-other}

@@ -6,11 +6,11 @@ use mathlib.Core.List.{List}
 use lib.IntN.{ℤ}
 use Rattle.records.specs.declared.Sizes.{Sizes}
 use Rattle.records.specs.declared.Value.the-variants.{Float as FloatBits}
-use Rattle.records.specs.Kinds.{kindAt, kenwardRogerKinds}
-use Rattle.records.specs.Alike.{Stays}
-use Rattle.records.specs.Shortened.{shortened}
-use Rattle.records.specs.Series.{sizes, kinds, asSent, design, phi}
-use Rattle.records.proofs.SameSeries as same
+use Rattle.records.specs.format.Kinds.{kindAt, kenwardRogerKinds}
+use Rattle.records.specs.format.Alike.{Stays}
+use Rattle.records.specs.readers.Shortened.{shortened}
+use Rattle.records.specs.readers.Series.{sizes, kinds, asSent, design, phi}
+use Rattle.records.proofs.readers.SameSeries as same
 use Rattle.converter.specs.Converted.{kenwardRogerChange, converted}
 use Rattle.converter.specs.ReadAlike.{OnFloats, isNumber, numbered, ReadAlike}
 use Rattle.converter.proofs.Among.{among}

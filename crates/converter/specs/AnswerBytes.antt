@@ -5,7 +5,7 @@ use mathlib.Core.Path.{_≡_}
 use mathlib.Core.Logic.{_≢_}
 use mathlib.Core.List.{List}
 use lib.ListN.{length}
-use Rattle.records.specs.Bytes.{byte}
+use Rattle.records.specs.format.Bytes.{byte}
 
 -- as many bytes, and every byte the same but byte 19 of each entry
 pub record SameButMarks (t t' : List ℕ) : Type 0 where

@@ -10,9 +10,9 @@ use lib.ListN.{length}
 use lib.Ieee.{Float, binary64, mul, div, toBits}
 use Rattle.arithmetic.specs.Scale.{powerOfTwo}
 use Rattle.algebra.specs.Table.{row}
-use Rattle.records.specs.Bytes.{byte, bytesOf}
-use Rattle.records.specs.File.{count, kindOf, rowOf, columnOf, countOf, valueOf}
-use Rattle.records.specs.KindNumbers.{kindSigma2, kindBeta, kindContrast, kindBetaH, kindV, kindJacobian}
+use Rattle.records.specs.format.Bytes.{byte, bytesOf}
+use Rattle.records.specs.format.File.{count, kindOf, rowOf, columnOf, countOf, valueOf}
+use Rattle.records.specs.format.KindNumbers.{kindSigma2, kindBeta, kindContrast, kindBetaH, kindV, kindJacobian}
 
 -- A change of converter: the kinds whose values it rewrites; of those, the kinds that it divides by the power of two, any other it multiplies; and the power by kind, count, row and column.
 pub record Change : Type 0 where

@@ -11,8 +11,9 @@ use lib.Ieee.{binary64, fits}
 use Rattle.arithmetic.specs.Marks.{MarkBears}
 use Rattle.arithmetic_cutoffs.specs.declared.Cutoffs.{Cutoffs}
 use Rattle.arithmetic_cutoffs.specs.Cutoffs.{documentCutoffs}
-use Rattle.records.specs.CutoffTable.{badTable, cutoffsIn, builtInTable}
-use Rattle.records.specs.SatterthwaiteCall.{number, entry, returned, written}
+use Rattle.records.specs.readers.CutoffTable.{badTable, cutoffsIn, builtInTable}
+use Rattle.records.specs.calls.SatterthwaiteCall.{number, entry, returned, written}
+use Rattle.records.specs.format.Layout.{entryLength}
 use Rattle.tests.specs.Verdict.{verdict}
 use Rattle.converter.specs.Converted.{satterthwaiteChange, converted}
 use Rattle.converter.specs.AnswerBytes.{SameAnswer}
@@ -33,7 +34,7 @@ ParametersWith P c = (s : List ℕ) (k : ℤ) → natAbs k ≤ 32 → number c s
 
 -- the same answer bytes of the call with a table, 24 of them, but for the mark
 abbrev pub SameEntryBytes : List ℕ → List ℕ → List ℕ → Type 0
-SameEntryBytes lab s s' = SameAnswer 24 (written lab s) (returned lab s') (written lab s')
+SameEntryBytes lab s s' = SameAnswer entryLength (written lab s) (returned lab s') (written lab s')
 
 -- FROM ONE PREMISE, what the mark bears: in the entry, with any cutoffs of which the one that Jacobi's rotation test reads is an f64 number, and in answer bytes, for each accepted table
 abbrev pub SatterthwaiteBorne : Type 0

@@ -12,11 +12,11 @@ use Rattle.records.specs.declared.Field.{Field}
 use Rattle.records.specs.declared.Field.the-variants.{Index, Number, Unused}
 use Rattle.records.specs.declared.Value.the-variants.{Float}
 use Rattle.records.specs.declared.Kind.{Kind}
-use Rattle.records.specs.Scan.{any}
-use Rattle.records.specs.Kinds.{Table, kindAt}
-use Rattle.records.specs.File.{count, kindOf, rowOf, columnOf, countOf, valueOf, cell, rows, columns, present, beyond, notFinite, lengthReasons, formReasons}
-use Rattle.records.specs.Alike.{Alike}
-use Rattle.records.specs.Order.{falls}
+use Rattle.records.specs.format.Scan.{any}
+use Rattle.records.specs.format.Kinds.{Table, kindAt}
+use Rattle.records.specs.format.File.{count, kindOf, rowOf, columnOf, countOf, valueOf, cell, rows, columns, present, beyond, notFinite, lengthReasons, formReasons}
+use Rattle.records.specs.format.Alike.{Alike}
+use Rattle.records.specs.format.Order.{falls}
 use Rattle.converter.specs.Converted.{Change, rewritten, converted}
 
 -- ---- the powers of a change

@@ -6,10 +6,10 @@ use lib.IntN.{ℤ, natAbs}
 use lib.ListN.{length, take}
 use Rattle.arithmetic_cutoffs.specs.declared.Cutoffs.{Cutoffs}
 use Rattle.algebra.specs.Table.{row}
-use Rattle.records.specs.Series.{contrastRows}
-use Rattle.records.specs.KenwardRogerCall.{number}
-use Rattle.records.specs.Season.{closes, seriesTo, seriesIn, leftOver, worstLine}
-use Rattle.records.specs.SeasonPrints.{seriesAt}
+use Rattle.records.specs.readers.Series.{contrastRows}
+use Rattle.records.specs.calls.KenwardRogerCall.{number}
+use Rattle.records.specs.text.Season.{closes, seriesTo, seriesIn, leftOver, worstLine}
+use Rattle.records.specs.promises.SeasonPrints.{seriesAt}
 use Rattle.converter.specs.Converted.{Change, kenwardRogerChange, newByte, converted}
 use Rattle.converter.specs.SeriesDemand.{AllInside, SameVerdicts}
 

@@ -11,12 +11,13 @@ use Rattle.arithmetic.specs.Marks.{MarkBears}
 use Rattle.arithmetic_cutoffs.specs.declared.Cutoffs.{Cutoffs}
 use Rattle.arithmetic_cutoffs.specs.Cutoffs.{documentCutoffs}
 use Rattle.tests.specs.Answer.{noEntry}
-use Rattle.records.specs.Series.{coefficients, contrastRows}
-use Rattle.records.specs.CutoffTable.{badTable, cutoffsIn, builtInTable}
-use Rattle.records.specs.KenwardRogerCall.{number, entries, returned, written}
-use Rattle.records.specs.Archive.{archiveBytes}
-use Rattle.records.specs.SecondFile.{ownTests}
-use Rattle.records.specs.ArchiveCall.{seriesArchive, testingReturned, testingWritten}
+use Rattle.records.specs.readers.Series.{coefficients, contrastRows}
+use Rattle.records.specs.readers.CutoffTable.{badTable, cutoffsIn, builtInTable}
+use Rattle.records.specs.calls.KenwardRogerCall.{number, entries, returned, written}
+use Rattle.records.specs.readers.Archive.{archiveBytes}
+use Rattle.records.specs.readers.SecondFile.{ownTests}
+use Rattle.records.specs.calls.ArchiveCall.{seriesArchive, testingReturned, testingWritten}
+use Rattle.records.specs.format.Layout.{answerLength}
 use Rattle.tests.specs.Verdict.{verdict}
 use Rattle.converter.specs.Converted.{kenwardRogerChange, converted}
 use Rattle.converter.specs.AnswerBytes.{SameAnswer}
@@ -56,7 +57,7 @@ EachTable P w = (lab : List ℕ) → badTable lab ≡ false → SeriesWith (P la
 
 -- the same answer bytes of the call with a table, 168 of them, but for the marks
 abbrev pub SameAnswers : ℕ → List ℕ → List ℕ → List ℕ → Type 0
-SameAnswers w lab s s' = SameAnswer 168 (written w lab s) (returned w lab s') (written w lab s')
+SameAnswers w lab s s' = SameAnswer answerLength (written w lab s) (returned w lab s') (written w lab s')
 
 -- FROM ONE PREMISE, what the marks bear: in entries, whatever the cutoffs are, and in answer bytes, for each accepted table
 abbrev pub KenwardRogerBorne : Type 0
@@ -76,7 +77,7 @@ KenwardRogerAnswer = (w : ℕ) → EachTable (SameAnswers w) w
 -- of the series
 abbrev pub SameArchiveAnswers : List ℕ → List ℕ → List ℕ → Type 0
 SameArchiveAnswers lab s s' =
-    SameAnswer 168 (testingWritten lab (archiveBytes (seriesArchive (cutoffsIn lab) s)) (ownTests s)) (testingReturned lab (archiveBytes (seriesArchive (cutoffsIn lab) s')) (ownTests s')) (testingWritten lab (archiveBytes (seriesArchive (cutoffsIn lab) s')) (ownTests s'))
+    SameAnswer answerLength (testingWritten lab (archiveBytes (seriesArchive (cutoffsIn lab) s)) (ownTests s)) (testingReturned lab (archiveBytes (seriesArchive (cutoffsIn lab) s')) (ownTests s')) (testingWritten lab (archiveBytes (seriesArchive (cutoffsIn lab) s')) (ownTests s'))
 
 abbrev pub ArchiveAnswer : Type 0
 ArchiveAnswer = (w : ℕ) → EachTable SameArchiveAnswers w

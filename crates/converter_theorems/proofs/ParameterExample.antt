@@ -16,7 +16,7 @@ use Rattle.algebra.specs.Table.{row, blank, table}
 use Rattle.algebra.specs.Product.{sum, cell, product, transpose, sumCells, identity, minusCells}
 use Rattle.algebra.specs.Jacobi.{ratio, tangent, cosine, sine, turnedFirst, turnedSecond, turnRow, turnColumns, rotatedCell, rotated, squared, bound, rotateTested, rotate, rowTo, sweepTo, sweepsTo, mirrored, jacobi}
 use Rattle.algebra.specs.Small.{sandwich, givenCells, allMarks}
-use Rattle.records.specs.CutoffTable.{builtInTable}
+use Rattle.records.specs.readers.CutoffTable.{builtInTable}
 use Rattle.arithmetic_cutoffs.specs.Cutoffs.{decimal, documentCutoffs}
 use Rattle.tests.specs.Answer.{numberOf}
 use Rattle.tests.specs.Order.{comesBefore, placeIn, indexAt}
@@ -26,15 +26,15 @@ use Rattle.tests.specs.PooledDf.{tolerance, allWithin, anyLow, expected, pooled
 use Rattle.tests.specs.Satterthwaite.{column, contrastOf, transformed, transformedAll, gradientOne, eigenvalues, notPositive, variancesOf, directionsOf, projected, squaresOver, jxAll, gradientAt, capped, componentDf, componentDfs, anyNone, severalDf, componentsSeen, Inputs, Outcome, ldRows, vRows, jStack, rotatedV, variances, directions, jxStack, fOne, fSeveral, dfOne, dfSeveral, startSeen, seenOne, seenSeveral, oneRow, severalRows, satterthwaite as test}
 use Rattle.tests.specs.declared.Number.the-variants.{Is}
 use Rattle.tests.specs.declared.Entry.{Entry}
-use Rattle.records.specs.Bytes.{word, long, bytesOf}
+use Rattle.records.specs.format.Bytes.{word, long, bytesOf}
 use Rattle.algebra.specs.Reasons.{first}
-use Rattle.records.specs.Scan.{any, most, last}
-use Rattle.records.specs.Kinds.{kindAt, holds, width, indexOf, valueHolds, satterthwaiteKinds, limits}
-use Rattle.records.specs.File.{outOf, badRecord, isCell, again, has, cell as cellOf, rows, columns, beyond, missing, notFinite, lengthReasons, formReasons}
-use Rattle.records.specs.Written.{recordOf}
-use Rattle.records.specs.Order.{numbersMatrix, matrixOf, standsBefore, falls, orderReasons}
-use Rattle.records.specs.Parameters.{sizes, valueReasons, reasons, jacobians, inputs}
-use Rattle.records.specs.SatterthwaiteCall.{number, entry}
+use Rattle.records.specs.format.Scan.{any, most, last}
+use Rattle.records.specs.format.Kinds.{kindAt, holds, width, indexOf, valueHolds, satterthwaiteKinds, limits}
+use Rattle.records.specs.format.File.{outOf, badRecord, isCell, again, has, cell as cellOf, rows, columns, beyond, missing, notFinite, lengthReasons, formReasons}
+use Rattle.records.specs.format.Written.{recordOf}
+use Rattle.records.specs.format.Order.{numbersMatrix, matrixOf, standsBefore, falls, orderReasons}
+use Rattle.records.specs.readers.Parameters.{sizes, valueReasons, reasons, jacobians, inputs}
+use Rattle.records.specs.calls.SatterthwaiteCall.{number, entry}
 use Rattle.tests.specs.Verdict.{Verdict, verdict}
 use Rattle.converter.specs.Converted.{satterthwaiteShift, satterthwaiteChange, rewritten, newBits, newByte, converted}
 use Rattle.converter.specs.ParametersDemand.{SameVerdict, SameEntryBytes}
@@ -78,7 +78,7 @@ parameterInputs = record {
 }
 
 record Says : Type 0 where
-  pub inputs : Rattle.records.specs.Parameters.inputs parameterFile ≡ parameterInputs
+  pub inputs : Rattle.records.specs.readers.Parameters.inputs parameterFile ≡ parameterInputs
   pub passes : first (reasons parameterFile ++ ((11, false) ∷ [])) ≡ 0
 
 says : Says

@@ -12,13 +12,13 @@ use Rattle.algebra.specs.Kind.{floats}
 use Rattle.algebra.specs.Product.{at}
 use Rattle.algebra.proofs.FoldLaws.{span-at}
 use Rattle.algebra.proofs.TableLaws.{row-at, table-at}
-use Rattle.records.specs.Kinds.{limits}
-use Rattle.records.specs.File.{rows}
+use Rattle.records.specs.format.Kinds.{limits}
+use Rattle.records.specs.format.File.{rows}
 use Rattle.tests.proofs.SatterthwaiteSurvives.{InputSizes}
-use Rattle.records.specs.Parameters.{coefficients, contrastRows, parameters, sizes, kinds, cellValue, jacobians, inputs}
-use Rattle.records.proofs.AcceptedParameters.{AcceptedParameters}
-use Rattle.records.proofs.Limits.{parameters-below}
-use Rattle.records.proofs.CellLaws.{cell-fits}
+use Rattle.records.specs.readers.Parameters.{coefficients, contrastRows, parameters, sizes, kinds, cellValue, jacobians, inputs}
+use Rattle.records.proofs.readers.AcceptedParameters.{AcceptedParameters}
+use Rattle.records.proofs.readers.Limits.{parameters-below}
+use Rattle.records.proofs.format.CellLaws.{cell-fits}
 use Rattle.converter_theorems.proofs.Operands.{Written}
 
 positive : (x : ℕ) → 0 < max 1 x

@@ -19,17 +19,17 @@ use Rattle.arithmetic_cutoffs.specs.Cutoffs.{documentCutoffs}
 use Rattle.tests.specs.declared.Number.{Number}
 use Rattle.tests.specs.declared.Entry.{Entry}
 use Rattle.algebra.specs.Reasons.{first}
-use Rattle.records.specs.Kinds.{kindAt, width, satterthwaiteKinds}
-use Rattle.records.specs.File.{present}
+use Rattle.records.specs.format.Kinds.{kindAt, width, satterthwaiteKinds}
+use Rattle.records.specs.format.File.{present}
 use Rattle.tests.specs.Satterthwaite.{startSeen, satterthwaite as test}
 use Rattle.tests.proofs.SatterthwaiteSurvives.{InputSizes, ConvertedInputs, SameOutcome, satterthwaite-survives}
-use Rattle.records.specs.Parameters.{coefficients, contrastRows, parameters, sizes, kinds, reasons, refusal, cellValue, inputs}
-use Rattle.records.specs.SatterthwaiteCall.{outcome, testReasons, allReasons, number, entry}
+use Rattle.records.specs.readers.Parameters.{coefficients, contrastRows, parameters, sizes, kinds, reasons, refusal, cellValue, inputs}
+use Rattle.records.specs.calls.SatterthwaiteCall.{outcome, testReasons, allReasons, number, entry}
 use Rattle.tests.specs.Verdict.{verdict}
 use Rattle.algebra.proofs.ReasonLaws.{first-front}
-use Rattle.records.proofs.AcceptedParameters.{AcceptedParameters, accepted-parameters}
+use Rattle.records.proofs.readers.AcceptedParameters.{AcceptedParameters, accepted-parameters}
 use Rattle.converter.specs.Converted.{satterthwaiteShift, satterthwaiteChange, converted}
-use Rattle.records.proofs.Slots.{Inside}
+use Rattle.records.proofs.format.Slots.{Inside}
 use Rattle.converter.specs.ReadAlike.{Exact}
 use Rattle.converter.proofs.Among.{among}
 use Rattle.converter.proofs.ReadAlike.{exact-cells}

@@ -31,16 +31,16 @@ use Rattle.adjustment.specs.Blocks.{noBlock}
 use Rattle.tests.specs.declared.Number.the-variants.{Is, None}
 use Rattle.tests.specs.declared.Entry.{Entry}
 use Rattle.tests.specs.Answer.{noEntry, numberOf}
-use Rattle.records.specs.Bytes.{word, long, bytesOf}
-use Rattle.records.specs.Scan.{any, most, last, total}
-use Rattle.records.specs.Kinds.{kindAt, holds, width, indexOf, valueHolds, kenwardRogerKinds, limits}
-use Rattle.records.specs.File.{outOf, badRecord, isCell, again, has, cell as cellOf, rows, columns, beyond, missing, notFinite, lengthReasons, formReasons}
-use Rattle.records.specs.Order.{numbersMatrix, matrixOf, standsBefore, falls, orderReasons}
-use Rattle.records.specs.Shortened.{torn as isTorn, allTorn, keptBelow, shortened}
-use Rattle.records.specs.Series.{coefficients, sizes, asSent, blockOf as blockAt, miscounted, badSize, badWeight, misfit, zeroContrast, blockReasons, sizeReasons, valueReasons, reasons, design, phi, beta, betaH, contrast, sigma2}
-use Rattle.records.specs.Written.{recordOf}
-use Rattle.records.specs.Bench.{pullBytes, pullFile}
-use Rattle.records.specs.KenwardRogerCall.{run, number, entries}
+use Rattle.records.specs.format.Bytes.{word, long, bytesOf}
+use Rattle.records.specs.format.Scan.{any, most, last, total}
+use Rattle.records.specs.format.Kinds.{kindAt, holds, width, indexOf, valueHolds, kenwardRogerKinds, limits}
+use Rattle.records.specs.format.File.{outOf, badRecord, isCell, again, has, cell as cellOf, rows, columns, beyond, missing, notFinite, lengthReasons, formReasons}
+use Rattle.records.specs.format.Order.{numbersMatrix, matrixOf, standsBefore, falls, orderReasons}
+use Rattle.records.specs.readers.Shortened.{torn as isTorn, allTorn, keptBelow, shortened}
+use Rattle.records.specs.readers.Series.{coefficients, sizes, asSent, blockOf as blockAt, miscounted, badSize, badWeight, misfit, zeroContrast, blockReasons, sizeReasons, valueReasons, reasons, design, phi, beta, betaH, contrast, sigma2}
+use Rattle.records.specs.format.Written.{recordOf}
+use Rattle.records.specs.promises.Bench.{pullBytes, pullFile}
+use Rattle.records.specs.calls.KenwardRogerCall.{run, number, entries}
 use Rattle.tests.specs.Verdict.{Verdict, verdict}
 use Rattle.converter_run.specs.joints.ConvertedInput.{Input}
 use Rattle.converter.specs.Converted.{kenwardRogerShift, kenwardRogerChange, rewritten, newBits, newByte, converted}

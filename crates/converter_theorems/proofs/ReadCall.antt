@@ -5,7 +5,7 @@ use mathlib.Core.Bool.{true, false}
 use mathlib.Core.List.{List, map}
 use lib.IntN.{ℤ, natAbs}
 use lib.ListN.{getD}
-use Rattle.records.specs.CutoffTable.{builtInTable}
+use Rattle.records.specs.readers.CutoffTable.{builtInTable}
 use Rattle.arithmetic_cutoffs.specs.Cutoffs.{documentCutoffs}
 use Rattle.algebra.specs.Small.{Rows}
 use Rattle.adjustment.specs.Covariance.{Design, matrices}
@@ -14,8 +14,8 @@ use Rattle.tests.specs.declared.Entry.{Entry}
 use Rattle.tests.specs.Answer.{noEntry}
 use Rattle.tests.specs.KenwardRoger.{Run}
 use Rattle.tests.specs.Verdict.{Verdict, verdict}
-use Rattle.records.specs.Series.{coefficients, contrastRows, reasons, design, phi, sigma2}
-use Rattle.records.specs.KenwardRogerCall.{run, number, entries}
+use Rattle.records.specs.readers.Series.{coefficients, contrastRows, reasons, design, phi, sigma2}
+use Rattle.records.specs.calls.KenwardRogerCall.{run, number, entries}
 use Rattle.converter_run.specs.joints.ConvertedInput.{Input, runOn}
 use Rattle.converter.specs.Converted.{kenwardRogerChange, converted}
 use Rattle.converter.specs.SeriesDemand.{AllInside, SameVerdicts, SameAnswers}
@@ -25,8 +25,8 @@ use Rattle.algebra.specs.Reasons.{first}
 
 -- what the file says, and that no refusal comes before the computing
 pub record Reads (s : List ℕ) (d : Design) (f : Rows) (rows : ℕ) (x : Input) : Type 0 where
-  pub design : Rattle.records.specs.Series.design s ≡ d
-  pub phi : Rattle.records.specs.Series.phi s ≡ f
+  pub design : Rattle.records.specs.readers.Series.design s ≡ d
+  pub phi : Rattle.records.specs.readers.Series.phi s ≡ f
   pub input : inputOf s ≡ x
   pub contrast : contrastRows s ≡ rows
   pub passes : first (listed (reasons 24 s) 0 false) ≡ 0

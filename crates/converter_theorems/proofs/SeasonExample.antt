@@ -12,13 +12,13 @@ use Rattle.tests.specs.declared.Number.{Number}
 use Rattle.tests.specs.declared.Number.the-variants.{Is}
 use Rattle.arithmetic_cutoffs.specs.Cutoffs.{documentCutoffs}
 use Rattle.tests.specs.Answer.{noEntry}
-use Rattle.records.specs.Bytes.{bytesOf}
-use Rattle.records.specs.Scan.{any}
-use Rattle.records.specs.Bench.{pullFile}
-use Rattle.records.specs.Text.{codes, digit, hexadecimal, decimal, numberText, refusalText}
-use Rattle.records.specs.Season.{closes, worse, worstAfter, seriesLines, contrastF, fsOf, worstLine, closedText, textsTo, closedTexts, leftText, seasonText}
-use Rattle.records.specs.SeasonPrints.{seasonBytes, Unclosed, OneSeries, AllSeries}
-use Rattle.records.proofs.SeasonPrints.{season-prints}
+use Rattle.records.specs.format.Bytes.{bytesOf}
+use Rattle.records.specs.format.Scan.{any}
+use Rattle.records.specs.promises.Bench.{pullFile}
+use Rattle.records.specs.text.Text.{codes, digit, hexadecimal, decimal, numberText, refusalText}
+use Rattle.records.specs.text.Season.{closes, worse, worstAfter, seriesLines, contrastF, fsOf, worstLine, closedText, textsTo, closedTexts, leftText, seasonText}
+use Rattle.records.specs.promises.SeasonPrints.{seasonBytes, Unclosed, OneSeries, AllSeries}
+use Rattle.records.proofs.promises.SeasonPrints.{season-prints}
 use Rattle.converter_theorems.proofs.PullExample.{pull-accepted, pull-entries}
 use Rattle.converter_theorems.proofs.Lot.{lot}
 

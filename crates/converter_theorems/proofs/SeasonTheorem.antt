@@ -10,11 +10,11 @@ use Rattle.tests.specs.declared.Entry.{Entry}
 use Rattle.tests.specs.declared.Number.{Number}
 use Rattle.tests.specs.Answer.{noEntry}
 use Rattle.tests.specs.Verdict.{Verdict, verdict}
-use Rattle.records.specs.KenwardRogerCall.{entries}
-use Rattle.records.specs.Text.{codes, numberText}
-use Rattle.records.specs.Season.{seriesIn, worst, contrastF}
-use Rattle.records.specs.SeasonPrints.{seriesAt, latestAt}
-use Rattle.records.proofs.SeasonTexts.{worst-latest}
+use Rattle.records.specs.calls.KenwardRogerCall.{entries}
+use Rattle.records.specs.text.Text.{codes, numberText}
+use Rattle.records.specs.text.Season.{seriesIn, worst, contrastF}
+use Rattle.records.specs.promises.SeasonPrints.{seriesAt, latestAt}
+use Rattle.records.proofs.text.SeasonTexts.{worst-latest}
 use Rattle.converter.specs.SeriesDemand.{SameVerdicts}
 use Rattle.converter.specs.SeasonDemand.{convertedSeason, seasonChange, SeasonDemand, SeasonWorst}
 use Rattle.converter.proofs.Season.{season-converts}

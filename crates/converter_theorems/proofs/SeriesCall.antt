@@ -20,19 +20,19 @@ use Rattle.tests.specs.declared.Entry.{Entry}
 use Rattle.tests.specs.Answer.{noEntry}
 use Rattle.tests.specs.KenwardRoger.{Run}
 use Rattle.algebra.specs.Reasons.{first}
-use Rattle.records.specs.File.{lengthReasons, formReasons}
-use Rattle.records.specs.Order.{orderReasons}
-use Rattle.records.specs.Shortened.{shortened}
-use Rattle.records.specs.Series.{coefficients, contrastRows, asSent, design, phi, sigma2, beta, betaH, contrast, blockReasons, sizeReasons, valueReasons, reasons, refusal}
-use Rattle.records.specs.KenwardRogerCall.{adjusted, scaled, run, number, entries}
+use Rattle.records.specs.format.File.{lengthReasons, formReasons}
+use Rattle.records.specs.format.Order.{orderReasons}
+use Rattle.records.specs.readers.Shortened.{shortened}
+use Rattle.records.specs.readers.Series.{coefficients, contrastRows, asSent, design, phi, sigma2, beta, betaH, contrast, blockReasons, sizeReasons, valueReasons, reasons, refusal}
+use Rattle.records.specs.calls.KenwardRogerCall.{adjusted, scaled, run, number, entries}
 use Rattle.tests.specs.Verdict.{verdict, verdicts, RunBears}
 use Rattle.converter_run.specs.joints.ConvertedInput.{Input, runOn, ConvertedInput, Multiplied, RunSizes, WrittenCells, Written, SeriesSurvives}
 use Rattle.converter_run.proofs.MovingInput.{multiplied-is-converted}
 use Rattle.converter_run.proofs.MovingSeries.{series-survives}
 use Rattle.converter.specs.Converted.{kenwardRogerChange, converted}
-use Rattle.records.proofs.AcceptedSeries.{AcceptedSeries, accepted-series}
-use Rattle.records.proofs.SeriesInput.{series-sized, matrices-bound, beta-fits, betaH-fits, contrast-fits, phi-fits, sigma2-fits}
-use Rattle.records.proofs.CallLaws.{number-is as call-number, other-way}
+use Rattle.records.proofs.readers.AcceptedSeries.{AcceptedSeries, accepted-series}
+use Rattle.records.proofs.readers.SeriesInput.{series-sized, matrices-bound, beta-fits, betaH-fits, contrast-fits, phi-fits, sigma2-fits}
+use Rattle.records.proofs.calls.CallLaws.{number-is as call-number, other-way}
 use Rattle.algebra.proofs.ReasonLaws.{first-append, first-front}
 use Rattle.converter.proofs.Series.{design-same, phi-same}
 use Rattle.converter.proofs.Input.{InputExact, r-same, sigma2-product, beta-product, betaH-product, contrast-product, reasons-converted}

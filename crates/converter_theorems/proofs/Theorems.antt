@@ -10,15 +10,15 @@ use lib.ListN.{length}
 use lib.Ieee.{binary64, fits}
 use Rattle.arithmetic.specs.Marks.{mostBorne}
 use Rattle.arithmetic.proofs.MarkLaws.{inside-bears}
-use Rattle.records.specs.Layout.{entryBytes, answerBytes}
-use Rattle.records.specs.CutoffTable.{badTable, cutoffsIn, builtInTable}
-use Rattle.records.specs.Call.{callWritten}
-use Rattle.records.specs.KenwardRogerCall as kenwardRoger
-use Rattle.records.specs.SatterthwaiteCall as satterthwaite
-use Rattle.records.specs.ArchiveCall.{seriesRefusal}
-use Rattle.records.proofs.CallLaws.{files-decide}
-use Rattle.records.proofs.CutoffLaws.{rotation-fits, built-in-accepted, built-in-numbers}
-use Rattle.records.proofs.ArchiveKeeps.{answered-archived, archive-keeps}
+use Rattle.records.specs.format.Layout.{entryBytes, answerBytes}
+use Rattle.records.specs.readers.CutoffTable.{badTable, cutoffsIn, builtInTable}
+use Rattle.records.specs.calls.Call.{callWritten}
+use Rattle.records.specs.calls.KenwardRogerCall as kenwardRoger
+use Rattle.records.specs.calls.SatterthwaiteCall as satterthwaite
+use Rattle.records.specs.calls.ArchiveCall.{seriesRefusal}
+use Rattle.records.proofs.calls.CallLaws.{files-decide}
+use Rattle.records.proofs.readers.CutoffLaws.{rotation-fits, built-in-accepted, built-in-numbers}
+use Rattle.records.proofs.promises.ArchiveKeeps.{answered-archived, archive-keeps}
 use Rattle.converter.specs.Converted.{kenwardRogerChange, satterthwaiteChange, converted}
 use Rattle.converter.specs.SeriesDemand.{AllInside, AllBear, SeriesWith, KenwardRogerBorne, KenwardRogerBorneAnswer, KenwardRogerDemand, KenwardRogerAnswer, ArchiveAnswer, PanelDemand, PanelAnswer, BuiltInAnswer, BuiltInArchiveAnswer, SameVerdicts, SameAnswers, SameArchiveAnswers}
 use Rattle.converter.specs.ParametersDemand.{ParametersWith, SameEntryBytes, SatterthwaiteBorne, SatterthwaiteBorneAnswer, SatterthwaiteDemand, SatterthwaiteAnswer, BuiltInEntryAnswer, SameVerdict}

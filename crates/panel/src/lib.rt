@@ -1,10 +1,10 @@
 // The C functions of the office application: a lab's table and record bytes in, answer bytes or an archive out, and the number that refuses, 0 or the archive's length for none. Each function without a table is the one with it, at
 // the built-in table.
 ghost use mathlib.Core.Path.{_≡_};
-ghost use Rattle.records.specs.CutoffTable.{builtInTable};
-ghost use Rattle.records.specs.KenwardRogerCall as series;
-ghost use Rattle.records.specs.SatterthwaiteCall as parameters;
-ghost use Rattle.records.specs.ArchiveCall as archives;
+ghost use Rattle.records.specs.readers.CutoffTable.{builtInTable};
+ghost use Rattle.records.specs.calls.KenwardRogerCall as series;
+ghost use Rattle.records.specs.calls.SatterthwaiteCall as parameters;
+ghost use Rattle.records.specs.calls.ArchiveCall as archives;
 
 // The Kenward–Roger call, of at most 24 specimens: seven entries in 168 bytes, coefficients 0–5 and the contrast. The answer keeps its contents where the number is not 0.
 #[no_mangle]

@@ -3,8 +3,13 @@ ghost use mathlib.Core.Path.{_≡_};
 ghost use Prim.Native.Nat.{_≤_};
 ghost use lib.ListN.{length, replicate};
 ghost use mathlib.Core.Bool.{false};
-ghost use Rattle.records_season.specs.joints.SeasonCame.{seasonAs, SeasonArrives};
+ghost use Rattle.records_season.specs.joints.SeasonCame.{seasonAs, SeasonArrives, pieceRoom};
+ghost use Rattle.records.specs.text.Season.{latestCount};
+ghost use Rattle.records_arrived.specs.joints.ArrivedCall.{keptLength};
+use records::KEPT_LENGTH;
 use records_pieces::Arrival;
+use records_season::LATEST_COUNT;
+use records_season::PIECE_ROOM;
 
 // The next piece of standard input: what is there of it, 4,096 bytes at most, so that nothing is waited for once a series is closed. Where there is nothing more it has ended. What a piece adds to the text is written at
 // once: 256 records are whole with such a piece, and a series' text has 462 bytes at most.
@@ -17,8 +22,8 @@ fn next_piece(
     out: &mut [u8],
     ended: &mut bool,
 ) -> Arrival
-    requires { ⌜ (length (now values) ≡ 20) × (length (now given) ≡ 20) ⌝ }
-    requires { ⌜ SeasonArrives (seasonAs a (now kept) (now current) (now values) (now given)) × (118272 ≤ length (now out)) ⌝ }
+    requires { ⌜ (length (now values) ≡ latestCount) × (length (now given) ≡ latestCount) ⌝ }
+    requires { ⌜ SeasonArrives (seasonAs a (now kept) (now current) (now values) (now given)) × (pieceRoom ≤ length (now out)) ⌝ }
     ensures { λ r. ⌜ SeasonArrives (seasonAs r (now (kept .exit)) (now (current .exit)) (now (values .exit)) (now (given .exit))) ⌝ }
 {
     let mut piece = io::buffer();
@@ -48,7 +53,7 @@ fn read_all(
     given: &mut [bool],
     out: &mut [u8],
 ) -> Arrival
-    requires { ⌜ (length (now kept) ≡ 16384) × (length (now current) ≡ 16) × (length (now values) ≡ 20) × (now given ≡ replicate 20 false) × (118272 ≤ length (now out)) ⌝ }
+    requires { ⌜ (length (now kept) ≡ keptLength) × (length (now current) ≡ 16) × (length (now values) ≡ latestCount) × (now given ≡ replicate latestCount false) × (pieceRoom ≤ length (now out)) ⌝ }
     ensures { λ r. ⌜ SeasonArrives (seasonAs r (now (kept .exit)) (now (current .exit)) (now (values .exit)) (now (given .exit))) ⌝ }
 {
     let mut a = records_pieces::nothing_yet();
@@ -67,11 +72,11 @@ fn read_all(
 
 // What is kept of the open series has room for every cell within the panel's limits, as in `pulltest`.
 fn main() {
-    let mut kept = [0u8; 16384];
+    let mut kept = [0u8; KEPT_LENGTH];
     let mut current = [0u8; 16];
-    let mut values = [0.0; 20];
-    let mut given = [false; 20];
-    let mut out = [0u8; 118272];
+    let mut values = [0.0; LATEST_COUNT];
+    let mut given = [false; LATEST_COUNT];
+    let mut out = [0u8; PIECE_ROOM];
     let a = read_all(&mut kept, &mut current, &mut values, &mut given, &mut out);
     let m = records_season::end(a, &mut out, 0);
     io::write_all(1, &out[..m]);

@@ -2,6 +2,8 @@
 ghost use mathlib.Core.Path.{_≡_};
 ghost use lib.ListN.{length};
 ghost use Rattle.records_pieces.specs.joints.Arrived.{arrivedAs, Arrives};
+use records::KEPT_LENGTH;
+use records_answer_text::TEXT_ROOM;
 use records_pieces::Arrival;
 
 // The next piece of standard input: 4,096 bytes, or what is left of it, and then it was the last.
@@ -36,9 +38,9 @@ fn read_all(kept: &mut [u8], current: &mut [u8]) -> Arrival
 
 // What is kept of a file has room for every cell within the panel's limits; a longer file is refused whatever it holds (`arrived-number`, records_arrived).
 fn main() {
-    let mut kept = [0u8; 16384];
+    let mut kept = [0u8; KEPT_LENGTH];
     let mut current = [0u8; 16];
-    let mut out = [0u8; 512];
+    let mut out = [0u8; TEXT_ROOM];
     let a = read_all(&mut kept, &mut current);
     let m = records_arrived::text_arrived(a, &kept, &mut out);
     io::write_all(1, &out[..m]);

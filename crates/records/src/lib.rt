@@ -1,27 +1,58 @@
 // The record files: their definitions (specs/), and what the table of kinds says of one kind.
 
-// The numbers of the kinds of record, as specs/KindNumbers.antt has them.
+// The numbers of the kinds of record, as specs/format/KindNumbers.antt has them.
 pub const KIND_X: usize = 1;
+
 pub const KIND_Z: usize = 2;
+
 pub const KIND_BLOCK: usize = 3;
+
 pub const KIND_THETA: usize = 4;
+
 pub const KIND_WEIGHT: usize = 5;
+
 pub const KIND_PHI: usize = 6;
+
 pub const KIND_SIGMA2: usize = 7;
+
 pub const KIND_BETA: usize = 8;
+
 pub const KIND_CONTRAST: usize = 9;
+
 pub const KIND_BETA_H: usize = 10;
+
 pub const KIND_SCALED_PHI: usize = 11;
+
 pub const KIND_SCALED_PHI_A: usize = 12;
+
 pub const KIND_SCALED_P: usize = 13;
+
 pub const KIND_W: usize = 14;
+
 pub const KIND_ARCHIVED_PHI: usize = 15;
+
 pub const KIND_ARCHIVED_PHI_A: usize = 16;
+
 pub const KIND_ARCHIVED_P: usize = 17;
+
 pub const KIND_ARCHIVED_SIGMA2: usize = 18;
+
 pub const KIND_V: usize = 30;
+
 pub const KIND_JACOBIAN: usize = 31;
+
 pub const KIND_A: usize = 32;
+
+// The bytes of an entry, of an answer of seven, and of the longest archive; the panel's limit of specimens; and what the programs keep of a file, which has room for every record within that limit.
+pub const ENTRY_LENGTH: usize = 24;
+
+pub const ANSWER_LENGTH: usize = 168;
+
+pub const ARCHIVE_LENGTH: usize = 7184;
+
+pub const PANEL_LIMIT: usize = 24;
+
+pub const KEPT_LENGTH: usize = 16384;
 
 // Which file it is: a Kenward and Roger series, a Satterthwaite test, an archive, or the second file that is lent with one.
 pub enum Shape {

@@ -15,10 +15,10 @@ use Rattle.tests.specs.declared.Number.{Number}
 use Rattle.tests.specs.declared.Number.the-variants.{Is, None}
 use Rattle.tests.specs.declared.Entry.{Entry}
 use Rattle.tests.specs.Answer.{numberOf, isGiven, noEntry}
-use Rattle.records.specs.Bytes.{byte, word, long, bytesOf}
+use Rattle.records.specs.format.Bytes.{byte, word, long, bytesOf}
 use Rattle.records_little_endian.proofs.StoreLaws.{sets-append}
 use Rattle.records_little_endian.proofs.ReadLaws.{length-bytes, long-back, byte-after, long-after}
-use Rattle.records.specs.Layout.{bitsOf, flag, tail, entryBytes, answerBytes, numberFrom, entryFrom}
+use Rattle.records.specs.format.Layout.{bitsOf, flag, tail, entryBytes, answerBytes, numberFrom, entryFrom}
 
 pub length-entry : (e : Entry) → length (entryBytes e) ≡ 24
 unfolding entryBytes bytesOf

@@ -4,8 +4,9 @@ ghost use Prim.Native.Nat.{_+_, _≤_};
 ghost use lib.ListN.{length};
 ghost use lib.Seq.{sets};
 ghost use Rattle.tests.specs.Answer.{isGiven};
-ghost use Rattle.records.specs.Layout.{bitsOf, flag, entryBytes, answerBytes};
+ghost use Rattle.records.specs.format.Layout.{bitsOf, flag, entryBytes, answerBytes, answerLength, entryLength};
 use arithmetic::plain::to_bits;
+use records::ENTRY_LENGTH;
 use records_little_endian::put_long;
 use records_little_endian::put8;
 use tests::Entry;
@@ -39,7 +40,7 @@ fn flag_of(b: bool) -> u8
 
 // An entry's 24 bytes, put from a place on.
 pub fn put_entry(a: &mut [u8], at: usize, e: Entry)
-    requires { ⌜ at + 24 ≤ length (now a) ⌝ }
+    requires { ⌜ at + entryLength ≤ length (now a) ⌝ }
     ensures { λ _. ⌜ now (a .exit) ≡ sets (now (a .entry)) at (entryBytes e) ⌝ }
 {
     let f = e.f;
@@ -64,13 +65,13 @@ pub fn put_entry(a: &mut [u8], at: usize, e: Entry)
 
 // The seven entries, which fill the answer bytes whole.
 pub fn put_answer(a: &mut [u8], es: [Entry; 7])
-    requires { ⌜ length (now a) ≡ 168 ⌝ }
+    requires { ⌜ length (now a) ≡ answerLength ⌝ }
     ensures { λ _. ⌜ now (a .exit) ≡ answerBytes es ⌝ }
 {
     let mut i = 0;
     while i < 7 {
         let e = es[i];
-        put_entry(a, 24 * i, e);
+        put_entry(a, ENTRY_LENGTH * i, e);
         i += 1;
     }
 }

@@ -7,7 +7,7 @@ use lib.Ieee.{ofBits, toBits, binary64}
 use Rattle.tests.specs.declared.Number.the-variants.{Is, None}
 use Rattle.tests.specs.declared.Entry.{Entry}
 use Rattle.tests.specs.Answer.{noEntry}
-use Rattle.records.specs.Text.{codes, digit, hexadecimal, decimal, numberText, markText, fieldsText, coefficientLine, testLine, coefficientLines, refusalText, linesText, textOf}
+use Rattle.records.specs.text.Text.{codes, digit, hexadecimal, decimal, numberText, markText, fieldsText, coefficientLine, testLine, coefficientLines, refusalText, linesText, textOf}
 
 -- F 9 and df 1 of rank 1
 abbrev nine : Entry

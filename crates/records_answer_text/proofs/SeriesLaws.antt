@@ -11,7 +11,7 @@ use borrow.Author.Tests.{lt-ltb, le-ltb, ne-eqb}
 use Rattle.tests.specs.declared.Entry.{Entry}
 use Rattle.tests.specs.Answer.{noEntry}
 use Rattle.tests.specs.Used.{inUse}
-use Rattle.records.specs.Text.{coefficientText, contrastText, coefficientLine, testLine, coefficientLines, linesText, coefficientTexts, seriesText}
+use Rattle.records.specs.text.Text.{coefficientText, contrastText, coefficientLine, testLine, coefficientLines, linesText, coefficientTexts, seriesText}
 
 not-back : (a b : Bool) → a ≡ not b → b ≡ not a
 not-back a true e = sym (ap not e)

@@ -12,7 +12,7 @@ use borrow.Author.Tests.{lt-ltb, le-ltb, eq-eqb, ne-eqb}
 use Rattle.tests.specs.declared.Number.the-variants.{Is}
 use Rattle.tests.specs.declared.Entry.{Entry}
 use Rattle.tests.specs.Answer.{noEntry}
-use Rattle.records.specs.Text.{codes, digit, hexadecimal, decimal, fieldsText, coefficientLine, coefficientLines, testLine, refusalText, linesText, textOf}
+use Rattle.records.specs.text.Text.{codes, digit, hexadecimal, decimal, fieldsText, coefficientLine, coefficientLines, testLine, refusalText, linesText, textOf}
 use Rattle.records_answer_text.specs.joints.Cursor.{Put}
 use Rattle.records_answer_text.proofs.CursorLaws.{then, stay, named}
 

@@ -4,11 +4,14 @@ ghost use mathlib.Core.Path.{_≡_};
 ghost use mathlib.Core.List.{[], _∷_};
 ghost use Prim.Native.Nat.{_+_, _≤_, _<_};
 ghost use lib.ListN.{length};
-ghost use Rattle.records.specs.Text.{digit, hexadecimal, decimal, numberText, markText, fieldsText, coefficientLine, testLine, coefficientLines, refusalText, linesText, textOf};
-ghost use Rattle.records_answer_text.specs.joints.Cursor.{Put};
+ghost use Rattle.records.specs.text.Text.{digit, hexadecimal, decimal, numberText, markText, fieldsText, coefficientLine, testLine, coefficientLines, refusalText, linesText, textOf};
+ghost use Rattle.records_answer_text.specs.joints.Cursor.{Put, linesRoom};
 use arithmetic::plain::to_bits;
 use tests::Entry;
 use tests::Number;
+
+// What `pulltest` lends for the text of a series.
+pub const TEXT_ROOM: usize = 512;
 
 // A given text, byte by byte.
 pub fn put_text(out: &mut [u8], at: usize, text: &[u8]) -> usize
@@ -166,18 +169,18 @@ fn put_coefficients(out: &mut [u8], at: usize, es: [Entry; 7]) -> usize
 
 // The lines of the entries in use.
 fn put_lines(out: &mut [u8], at: usize, es: [Entry; 7]) -> usize
-    requires { ⌜ at + 439 ≤ length (now out) ⌝ }
-    ensures { λ r. ⌜ Put 439 (now (out .entry)) at (linesText es) (now (out .exit)) r ⌝ }
+    requires { ⌜ at + linesRoom ≤ length (now out) ⌝ }
+    ensures { λ r. ⌜ Put linesRoom (now (out .entry)) at (linesText es) (now (out .exit)) r ⌝ }
 {
     let contrast = es[6];
     let at = put_coefficients(out, at, es);
     put_test(out, at, contrast)
 }
 
-// All that is printed of a run: its refusal, or its lines. 439 bytes are what six coefficients' lines and a contrast's take at most; a refusal takes fewer.
+// All that is printed of a run: its refusal, or its lines. `linesRoom` bytes are what six coefficients' lines and a contrast's take at most; a refusal takes fewer.
 pub fn put_run(out: &mut [u8], at: usize, number: u32, es: [Entry; 7]) -> usize
-    requires { ⌜ at + 439 ≤ length (now out) ⌝ }
-    ensures { λ r. ⌜ Put 439 (now (out .entry)) at (textOf number es) (now (out .exit)) r ⌝ }
+    requires { ⌜ at + linesRoom ≤ length (now out) ⌝ }
+    ensures { λ r. ⌜ Put linesRoom (now (out .entry)) at (textOf number es) (now (out .exit)) r ⌝ }
 {
     if number != 0 {
         return put_refusal(out, at, number);

@@ -10,15 +10,15 @@ use lib.Seq.{sets}
 use Rattle.algebra.specs.Small.{Rows}
 use Rattle.adjustment.specs.Adjusted.{Stack}
 use Rattle.records.specs.declared.Kind.{Kind}
-use Rattle.records.specs.Scan.{total}
-use Rattle.records.specs.Kinds.{width, Table, kindAt, kindNumbers, byRowAndColumn, byCount, archiveKinds}
-use Rattle.records.specs.Cells.{slots, firstSlot}
-use Rattle.records.specs.Written.{sequence, kindFile, fileOf}
-use Rattle.records.specs.Archive.{Archive, sizesAt, archived, archiveContent, archiveBytes}
-use Rattle.records.proofs.ScanLaws.{total-more, total-le}
-use Rattle.records.proofs.WrittenLaws.{length-front, length-file}
-use Rattle.records.proofs.Limits.{each-numbered}
-use Rattle.records.proofs.ArchiveLengths.{archive-slots}
+use Rattle.records.specs.format.Scan.{total}
+use Rattle.records.specs.format.Kinds.{width, Table, kindAt, kindNumbers, byRowAndColumn, byCount, archiveKinds}
+use Rattle.records.specs.format.Cells.{slots, firstSlot}
+use Rattle.records.specs.format.Written.{sequence, kindFile, fileOf}
+use Rattle.records.specs.readers.Archive.{Archive, sizesAt, archived, archiveContent, archiveBytes}
+use Rattle.records.proofs.format.ScanLaws.{total-more, total-le}
+use Rattle.records.proofs.format.WrittenLaws.{length-front, length-file}
+use Rattle.records.proofs.readers.Limits.{each-numbered}
+use Rattle.records.proofs.calls.ArchiveLengths.{archive-slots}
 use Rattle.records_archive_bytes.specs.joints.Parts.{archiveFrom, cellBytes, lineBytes, sheetBytes, matricesBytes}
 use Rattle.records_archive_bytes.proofs.StoredLaws.{pieces-next}
 

@@ -10,13 +10,13 @@ use lib.Ieee.{Float, binary64, toBits}
 use Rattle.records.specs.declared.Field.{Field}
 use Rattle.records.specs.declared.Field.the-variants.{Index, Number, Unused}
 use Rattle.records.specs.declared.Kind.{Kind}
-use Rattle.records.specs.Bytes.{bytesOf}
-use Rattle.records.specs.Kinds.{width, indexOf}
-use Rattle.records.specs.Cells.{slots}
-use Rattle.records.specs.Written.{recordOf, fieldOf, cellRecord, sequence}
-use Rattle.records.specs.Archive.{Archive, archived, archiveContent}
+use Rattle.records.specs.format.Bytes.{bytesOf}
+use Rattle.records.specs.format.Kinds.{width, indexOf}
+use Rattle.records.specs.format.Cells.{slots}
+use Rattle.records.specs.format.Written.{recordOf, fieldOf, cellRecord, sequence}
+use Rattle.records.specs.readers.Archive.{Archive, archived, archiveContent}
 use Rattle.records_archive_bytes.specs.joints.Parts.{cellBytes, lineBytes, sheetBytes}
-use Rattle.records.proofs.WrittenLaws.{sequence-length-of}
+use Rattle.records.proofs.format.WrittenLaws.{sequence-length-of}
 use Rattle.records_little_endian.proofs.StoreLaws.{sets-append}
 
 -- ---- one record

@@ -3,16 +3,16 @@ ghost use mathlib.Core.Path.{_≡_};
 ghost use Prim.Native.Nat.{_+_, _*_, _<_, _≤_};
 ghost use lib.ListN.{length};
 ghost use lib.Seq.{sets};
-ghost use Rattle.records.specs.Kinds.{width};
-ghost use Rattle.records.specs.Cells.{slots};
-ghost use Rattle.records.specs.Written.{recordOf};
-ghost use Rattle.records.specs.Archive.{sizesAt, archived, archiveBytes};
+ghost use Rattle.records.specs.format.Kinds.{width};
+ghost use Rattle.records.specs.format.Cells.{slots};
+ghost use Rattle.records.specs.format.Written.{recordOf};
+ghost use Rattle.records.specs.readers.Archive.{sizesAt, archived, archiveBytes, archiveLength};
 ghost use Rattle.records_archive_bytes.specs.joints.Parts.{archiveFrom, cellBytes, lineBytes, sheetBytes, matricesBytes};
 use records::Kind;
 use records::Shape;
 use records::Sizes;
 use records_kinds::index_of;
-use records_kinds::kind_of;
+use records_kinds::kind_at;
 use records_kinds::width;
 use records_little_endian::put_long;
 use records_little_endian::put8;
@@ -229,7 +229,7 @@ pub fn put_archive(
     w: &[[f64; 6]; 6],
     sigma2: f64,
 ) -> usize
-    requires { ⌜ (p ≤ 6) × (n ≤ 4) × (7184 ≤ length (now out)) ⌝ }
+    requires { ⌜ (p ≤ 6) × (n ≤ 4) × (archiveLength ≤ length (now out)) ⌝ }
     ensures { λ r. ⌜ r ≡ length (archiveBytes (archiveFrom p n (now (phi .entry)) (now («phi_a» .entry)) (now (ps .entry)) (now (w .entry)) sigma2)) ⌝ }
     ensures { λ _. ⌜ now (out .exit) ≡ sets (now (out .entry)) 0 (archiveBytes (archiveFrom p n (now (phi .entry)) (now («phi_a» .entry)) (now (ps .entry)) (now (w .entry)) sigma2)) ⌝ }
 {
@@ -240,7 +240,7 @@ pub fn put_archive(
         at = put_kind(
             out,
             at,
-            kind_of(Shape::Archived, z, k),
+            kind_at(Shape::Archived, z, k),
             k,
             phi,
             phi_a,

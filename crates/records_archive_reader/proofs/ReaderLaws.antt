@@ -19,15 +19,15 @@ use Rattle.algebra.proofs.TableLaws.{table-at}
 use Rattle.adjustment.specs.Adjusted.{matrixAt, stack}
 use Rattle.records.specs.declared.Kind.{Kind}
 use Rattle.records.specs.declared.Sizes.{Sizes}
-use Rattle.records.specs.Scan.{any}
-use Rattle.records.specs.Kinds.{width, Table, kindAt, kindNumbers, kindsOf, archiveKinds, archiveTable}
-use Rattle.records.specs.Cells.{slots, firstSlot, slotCount, offset, slot}
-use Rattle.records.specs.File.{count, beyond, notFinite}
-use Rattle.records.specs.Reader.{formedNumber}
-use Rattle.records.specs.Archive.{reader, sizesAt, archived, coefficients, parameters, sizes, kinds, cellValue, archiveOf, misscaled, valueReasons, scaledReasons, reasons, refusal}
-use Rattle.records.proofs.ScanLaws.{any-same}
-use Rattle.records.proofs.Slots.{Inside, any-cells}
-use Rattle.records.proofs.ReaderLaws.{own-decides, accepted-formed}
+use Rattle.records.specs.format.Scan.{any}
+use Rattle.records.specs.format.Kinds.{width, Table, kindAt, kindNumbers, kindsOf, archiveKinds, archiveTable}
+use Rattle.records.specs.format.Cells.{slots, firstSlot, slotCount, offset, slot}
+use Rattle.records.specs.format.File.{count, beyond, notFinite}
+use Rattle.records.specs.readers.Reader.{formedNumber}
+use Rattle.records.specs.readers.Archive.{reader, sizesAt, archived, coefficients, parameters, sizes, kinds, cellValue, archiveOf, misscaled, valueReasons, scaledReasons, reasons, refusal}
+use Rattle.records.proofs.format.ScanLaws.{any-same}
+use Rattle.records.proofs.format.Slots.{Inside, any-cells}
+use Rattle.records.proofs.readers.ReaderLaws.{own-decides, accepted-formed}
 use Rattle.records_sheet.specs.joints.Sheet.{firstSlots, sheetAfter}
 use Rattle.records_sheet.proofs.Sheets.{cell-value, length-sheet}
 use Rattle.records_sheet_parts.specs.joints.Parts.{cellsAt, stackAt}

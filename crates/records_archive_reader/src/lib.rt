@@ -4,10 +4,10 @@ ghost use mathlib.Core.Bool.{false};
 ghost use Prim.Native.Nat.{_+_, _≤_};
 ghost use lib.ListN.{length, replicate};
 ghost use Rattle.arithmetic.specs.Numbers.{plusZero};
-ghost use Rattle.records.specs.Kinds.{archiveKinds, archiveTable};
-ghost use Rattle.records.specs.Cells.{slotCount};
-ghost use Rattle.records.specs.File.{count};
-ghost use Rattle.records.specs.Archive.{kinds, refusal};
+ghost use Rattle.records.specs.format.Kinds.{archiveKinds, archiveTable};
+ghost use Rattle.records.specs.format.Cells.{slotCount};
+ghost use Rattle.records.specs.format.File.{count};
+ghost use Rattle.records.specs.readers.Archive.{kinds, refusal};
 ghost use Rattle.records_sheet.specs.joints.Sheet.{firstSlots, sheetAfter};
 ghost use Rattle.records_archive_reader.specs.joints.Checks.{differs, inUnits, notScaled, misscaledIn, numbersRefusal};
 use records::KIND_ARCHIVED_P;
@@ -69,9 +69,30 @@ fn misscaled(z: Sizes, firsts: &[usize; 34], sheet: &[f64]) -> bool
     let square = p * p;
     let squares = z.parameters * square;
     let sigma2 = sheet[firsts[KIND_ARCHIVED_SIGMA2]];
-    let phi = any_not_scaled(false, sheet, firsts[KIND_SCALED_PHI], firsts[KIND_ARCHIVED_PHI], square, sigma2);
-    let phi_a = any_not_scaled(false, sheet, firsts[KIND_SCALED_PHI_A], firsts[KIND_ARCHIVED_PHI_A], square, sigma2);
-    let ps = any_not_scaled(true, sheet, firsts[KIND_SCALED_P], firsts[KIND_ARCHIVED_P], squares, sigma2);
+    let phi = any_not_scaled(
+        false,
+        sheet,
+        firsts[KIND_SCALED_PHI],
+        firsts[KIND_ARCHIVED_PHI],
+        square,
+        sigma2,
+    );
+    let phi_a = any_not_scaled(
+        false,
+        sheet,
+        firsts[KIND_SCALED_PHI_A],
+        firsts[KIND_ARCHIVED_PHI_A],
+        square,
+        sigma2,
+    );
+    let ps = any_not_scaled(
+        true,
+        sheet,
+        firsts[KIND_SCALED_P],
+        firsts[KIND_ARCHIVED_P],
+        squares,
+        sigma2,
+    );
     phi | phi_a | ps
 }
 

@@ -13,11 +13,11 @@ use Rattle.algebra.proofs.ReasonLaws.{first-append}
 use Rattle.tests.specs.declared.Entry.{Entry}
 use Rattle.tests.specs.Answer.{noEntry}
 use Rattle.tests.specs.Entries.{runRefusal, runEntries}
-use Rattle.records.specs.File.{lengthReasons, formReasons}
-use Rattle.records.specs.Order.{orderReasons}
-use Rattle.records.specs.Archive as archive
-use Rattle.records.specs.SecondFile as second
-use Rattle.records.specs.ArchiveCall.{archiveRun, archiveTestReasons, fromArchiveReasons, fromArchiveNumber, fromArchiveEntries}
+use Rattle.records.specs.format.File.{lengthReasons, formReasons}
+use Rattle.records.specs.format.Order.{orderReasons}
+use Rattle.records.specs.readers.Archive as archive
+use Rattle.records.specs.readers.SecondFile as second
+use Rattle.records.specs.calls.ArchiveCall.{archiveRun, archiveTestReasons, fromArchiveReasons, fromArchiveNumber, fromArchiveEntries}
 
 module _ (c : Cutoffs) (s t : List ℕ) where
   -- the second file's number, for the archive's coefficients

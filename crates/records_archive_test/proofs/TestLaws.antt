@@ -14,13 +14,13 @@ use Rattle.algebra.specs.Small.{Rows}
 use Rattle.tests.specs.KenwardRoger.{Scaled, runOf}
 use Rattle.tests_run.specs.joints.Units.{responseUnits}
 use Rattle.records.specs.declared.Sizes.{Sizes}
-use Rattle.records.specs.Kinds.{width, kindAt, kindsOf, kindNumbers, archiveKinds, archiveTable, testKinds, testTable, limits}
-use Rattle.records.specs.Cells.{firstSlot, slotCount}
-use Rattle.records.specs.File.{count, present}
-use Rattle.records.specs.Archive as archive
-use Rattle.records.specs.SecondFile as second
-use Rattle.records.specs.ArchiveCall.{inResponseUnits, archiveRun}
-use Rattle.records.proofs.Limits.{slot-count}
+use Rattle.records.specs.format.Kinds.{width, kindAt, kindsOf, kindNumbers, archiveKinds, archiveTable, testKinds, testTable, limits}
+use Rattle.records.specs.format.Cells.{firstSlot, slotCount}
+use Rattle.records.specs.format.File.{count, present}
+use Rattle.records.specs.readers.Archive as archive
+use Rattle.records.specs.readers.SecondFile as second
+use Rattle.records.specs.calls.ArchiveCall.{inResponseUnits, archiveRun}
+use Rattle.records.proofs.readers.Limits.{slot-count}
 use Rattle.records_sheet.specs.joints.Sheet.{firstSlots, sheetAfter}
 use Rattle.records_sheet.proofs.Sheets.{length-sheet}
 use Rattle.records_sheet.proofs.Bounds.{cond-le}

@@ -4,15 +4,18 @@ ghost use Prim.Native.Nat.{_≤_};
 ghost use mathlib.Core.Bool.{cond};
 ghost use lib.Dec.{eqb};
 ghost use lib.ListN.{length};
-ghost use Rattle.records.specs.Layout.{answerBytes};
-ghost use Rattle.records.specs.CutoffTable.{builtInTable};
+ghost use Rattle.records.specs.format.Layout.{answerBytes, answerLength};
+ghost use Rattle.records.specs.readers.CutoffTable.{builtInTable};
 ghost use Rattle.algebra.specs.Kind.{marks};
 ghost use Rattle.tests.specs.KenwardRoger.{runOf};
 ghost use Rattle.tests_run.specs.joints.Units.{responseUnits};
-ghost use Rattle.records.specs.Archive.{coefficients};
-ghost use Rattle.records.specs.SecondFile.{beta, betaH, contrastRows, contrast};
-ghost use Rattle.records.specs.ArchiveCall.{archiveRun, fromArchiveNumber, fromArchiveEntries, testingReturned, testingWritten};
+ghost use Rattle.records.specs.readers.Archive.{coefficients};
+ghost use Rattle.records.specs.readers.SecondFile.{beta, betaH, contrastRows, contrast};
+ghost use Rattle.records.specs.calls.ArchiveCall.{archiveRun, fromArchiveNumber, fromArchiveEntries, testingReturned, testingWritten};
 ghost use Rattle.records_archive_test.specs.joints.Read.{ArchiveRead, SecondRead};
+use arithmetic_cutoffs::Cutoffs;
+use arithmetic_cutoffs::document_cutoffs;
+use records::ANSWER_LENGTH;
 use records::KIND_ARCHIVED_P;
 use records::KIND_ARCHIVED_PHI;
 use records::KIND_ARCHIVED_PHI_A;
@@ -21,8 +24,6 @@ use records::KIND_BETA;
 use records::KIND_BETA_H;
 use records::KIND_CONTRAST;
 use records::KIND_W;
-use arithmetic_cutoffs::Cutoffs;
-use arithmetic_cutoffs::document_cutoffs;
 use records::Shape;
 use records_answer_bytes::put_answer;
 use records_sheet_parts::cells_at;
@@ -132,9 +133,9 @@ pub fn judge(c: Cutoffs, s: &[u8], t: &[u8], told: &mut u32) -> [Entry; 7]
     answer_of(refused, es, told)
 }
 
-// The answer to an archive and a second file with these cutoffs, in 168 lent bytes. A refusal returns its number alone and leaves the bytes as they are.
+// The answer to an archive and a second file with these cutoffs, in the lent answer bytes. A refusal returns its number alone and leaves the bytes as they are.
 fn fill_tests(c: Cutoffs, archive: &[u8], tests: &[u8], answer: &mut [u8]) -> u32
-    requires { ⌜ length (now answer) ≡ 168 ⌝ }
+    requires { ⌜ length (now answer) ≡ answerLength ⌝ }
     ensures { λ r. ⌜ r ≡ fromArchiveNumber c (now (archive .entry)) (now (tests .entry)) ⌝ }
     ensures { λ _. ⌜ now (answer .exit) ≡ cond (eqb (fromArchiveNumber c (now (archive .entry)) (now (tests .entry))) 0) (answerBytes (fromArchiveEntries c (now (archive .entry)) (now (tests .entry)))) (now (answer .entry)) ⌝ }
 {
@@ -152,7 +153,7 @@ pub fn test_with(table: &[u8], archive: &[u8], tests: &[u8], answer: &mut [u8]) 
     ensures { λ r. ⌜ r ≡ testingReturned (now (table .entry)) (now (archive .entry)) (now (tests .entry)) (now (answer .entry)) ⌝ }
     ensures { λ _. ⌜ now (answer .exit) ≡ testingWritten (now (table .entry)) (now (archive .entry)) (now (tests .entry)) (now (answer .entry)) ⌝ }
 {
-    if answer.len() != 168 {
+    if answer.len() != ANSWER_LENGTH {
         return 1;
     }
     if records_cutoffs::bad_table(table) {
@@ -166,7 +167,7 @@ pub fn test(archive: &[u8], tests: &[u8], answer: &mut [u8]) -> u32
     ensures { λ r. ⌜ r ≡ testingReturned builtInTable (now (archive .entry)) (now (tests .entry)) (now (answer .entry)) ⌝ }
     ensures { λ _. ⌜ now (answer .exit) ≡ testingWritten builtInTable (now (archive .entry)) (now (tests .entry)) (now (answer .entry)) ⌝ }
 {
-    if answer.len() != 168 {
+    if answer.len() != ANSWER_LENGTH {
         return 1;
     }
     fill_tests(document_cutoffs(), archive, tests, answer)

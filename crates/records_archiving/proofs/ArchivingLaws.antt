@@ -15,19 +15,19 @@ use Rattle.algebra.specs.Reasons.{first}
 use Rattle.algebra.proofs.ReasonLaws.{first-append}
 use Rattle.adjustment.specs.Covariance.{matrices}
 use Rattle.adjustment.specs.Adjusted.{Stack, adjustmentReasons, adjustmentRefusal}
-use Rattle.records.specs.File.{lengthReasons, formReasons}
-use Rattle.records.specs.Order.{orderReasons}
-use Rattle.records.specs.Series.{coefficients, blockReasons, sizeReasons, valueReasons, reasons, refusal, design, phi, sigma2}
-use Rattle.records.specs.KenwardRogerCall.{adjusted}
-use Rattle.records.specs.CutoffTable.{badTable, cutoffsIn}
-use Rattle.records.specs.Kinds.{archiveKinds}
-use Rattle.records.specs.Archive.{sizesAt, archiveContent, archiveBytes}
-use Rattle.records.specs.ArchiveCall.{seriesArchive, seriesReasons, seriesRefusal, archivingCall, told, archivingReturned, archivingWritten}
-use Rattle.records.specs.Call.{Call, callReturned, callWritten}
-use Rattle.records.proofs.CallLaws.{fileAdjustmentRefusal, other-length, other-table, own-answer}
-use Rattle.records.proofs.WrittenLaws.{length-file}
+use Rattle.records.specs.format.File.{lengthReasons, formReasons}
+use Rattle.records.specs.format.Order.{orderReasons}
+use Rattle.records.specs.readers.Series.{coefficients, blockReasons, sizeReasons, valueReasons, reasons, refusal, design, phi, sigma2}
+use Rattle.records.specs.calls.KenwardRogerCall.{adjusted}
+use Rattle.records.specs.readers.CutoffTable.{badTable, cutoffsIn}
+use Rattle.records.specs.format.Kinds.{archiveKinds}
+use Rattle.records.specs.readers.Archive.{sizesAt, archiveContent, archiveBytes}
+use Rattle.records.specs.calls.ArchiveCall.{seriesArchive, seriesReasons, seriesRefusal, archivingCall, told, archivingReturned, archivingWritten}
+use Rattle.records.specs.calls.Call.{Call, callReturned, callWritten}
+use Rattle.records.proofs.calls.CallLaws.{fileAdjustmentRefusal, other-length, other-table, own-answer}
+use Rattle.records.proofs.format.WrittenLaws.{length-file}
 use Rattle.records_archive_bytes.specs.joints.Parts.{archiveFrom}
-use Rattle.records.proofs.ArchiveLengths.{archive-slots}
+use Rattle.records.proofs.calls.ArchiveLengths.{archive-slots}
 
 -- ---- what is archived, from the parts as the code has them
 pub series-archive-is : (c : Cutoffs) (s : List ℕ) (p N : ℕ) (m phiA w : Rows) (ps : Stack) (x : Float) → p ≡ coefficients s → N ≡ matrices (design s) → m ≡ phi s → phiA ≡ adjusted c s .phiA → ps ≡ adjusted c s .ps → w ≡ adjusted c s .w → x ≡ sigma2 s

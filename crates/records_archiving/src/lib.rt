@@ -5,24 +5,30 @@ ghost use lib.ListN.{length};
 ghost use lib.Seq.{sets};
 ghost use mathlib.Core.Bool.{cond};
 ghost use lib.Dec.{eqb};
-ghost use Rattle.records.specs.Series.{sizes, kinds};
-ghost use Rattle.records.specs.KenwardRogerCall.{adjusted};
-ghost use Rattle.records.specs.Archive.{archiveBytes};
-ghost use Rattle.records.specs.CutoffTable.{builtInTable};
-ghost use Rattle.records.specs.ArchiveCall.{seriesArchive, seriesRefusal, archivingReturned, archivingWritten};
+ghost use Rattle.records.specs.readers.Series.{sizes, kinds};
+ghost use Rattle.records.specs.calls.KenwardRogerCall.{adjusted};
+ghost use Rattle.records.specs.readers.Archive.{archiveBytes, archiveLength};
+ghost use Rattle.records.specs.readers.CutoffTable.{builtInTable};
+ghost use Rattle.records.specs.calls.ArchiveCall.{seriesArchive, seriesRefusal, archivingReturned, archivingWritten};
+ghost use Rattle.records.specs.format.Kinds.{panelLimit};
 ghost use Rattle.records_sheet.specs.joints.Sheet.{firstSlots};
 ghost use Rattle.records_refusals.specs.joints.Room.{Room, SeriesRead, SeriesShort};
-use records::KIND_PHI;
-use records::KIND_SIGMA2;
 use arithmetic_cutoffs::Cutoffs;
 use arithmetic_cutoffs::document_cutoffs;
+use records::ARCHIVE_LENGTH;
+use records::KIND_PHI;
+use records::KIND_SIGMA2;
+use records::PANEL_LIMIT;
 use records::Shape;
 use records::Sizes;
 use records_archive_bytes::put_archive;
+use records_kenward_roger::PANEL_CELLS;
+use records_kenward_roger::PANEL_NARROW;
+use records_kenward_roger::PANEL_WORK;
 
 // A length as a number that a call returns.
 fn told(length: usize) -> u32
-    requires { ⌜ length ≤ 7184 ⌝ }
+    requires { ⌜ length ≤ archiveLength ⌝ }
     ensures { λ r. ⌜ r ≡ length ⌝ }
 {
     length as u32
@@ -41,7 +47,7 @@ fn put_series(
     w: &[[f64; 6]; 6],
     archive: &mut [u8],
 ) -> u32
-    requires { ⌜ SeriesShort limit (now s) z (now firsts) (now sheet) × (length (now archive) ≡ 7184) ⌝ }
+    requires { ⌜ SeriesShort limit (now s) z (now firsts) (now sheet) × (length (now archive) ≡ archiveLength) ⌝ }
     requires { ⌜ (now «phi_a» ≡ adjusted c (now s) .phiA) × (now ps ≡ adjusted c (now s) .ps) × (now w ≡ adjusted c (now s) .w) ⌝ }
     ensures { λ r. ⌜ r ≡ length (archiveBytes (seriesArchive c (now (s .entry)))) ⌝ }
     ensures { λ _. ⌜ now (archive .exit) ≡ sets (now (archive .entry)) 0 (archiveBytes (seriesArchive c (now (s .entry)))) ⌝ }
@@ -67,7 +73,7 @@ fn adjust_and_put(
     narrow: &mut [f64],
     archive: &mut [u8],
 ) -> u32
-    requires { ⌜ SeriesRead limit (now s) (sizes (now s)) (firstSlots (kinds (now s))) (now sheet) × (length (now archive) ≡ 7184) ⌝ }
+    requires { ⌜ SeriesRead limit (now s) (sizes (now s)) (firstSlots (kinds (now s))) (now sheet) × (length (now archive) ≡ archiveLength) ⌝ }
     requires { ⌜ (6 * (limit * limit) ≤ length (now work)) × (36 * limit ≤ length (now narrow)) ⌝ }
     ensures { λ r. ⌜ r ≡ cond (eqb (seriesRefusal limit c (now (s .entry))) 0) (length (archiveBytes (seriesArchive c (now (s .entry))))) (seriesRefusal limit c (now (s .entry))) ⌝ }
     ensures { λ _. ⌜ now (archive .exit) ≡ cond (eqb (seriesRefusal limit c (now (s .entry))) 0) (sets (now (archive .entry)) 0 (archiveBytes (seriesArchive c (now (s .entry))))) (now (archive .entry)) ⌝ }
@@ -123,7 +129,7 @@ pub fn archive_series(
     narrow: &mut [f64],
     archive: &mut [u8],
 ) -> u32
-    requires { ⌜ Room limit (now flags) (now sheet) × (6 * (limit * limit) ≤ length (now work)) × (36 * limit ≤ length (now narrow)) × (length (now archive) ≡ 7184) ⌝ }
+    requires { ⌜ Room limit (now flags) (now sheet) × (6 * (limit * limit) ≤ length (now work)) × (36 * limit ≤ length (now narrow)) × (length (now archive) ≡ archiveLength) ⌝ }
     ensures { λ r. ⌜ r ≡ cond (eqb (seriesRefusal limit c (now (s .entry))) 0) (length (archiveBytes (seriesArchive c (now (s .entry))))) (seriesRefusal limit c (now (s .entry))) ⌝ }
     ensures { λ _. ⌜ now (archive .exit) ≡ cond (eqb (seriesRefusal limit c (now (s .entry))) 0) (sets (now (archive .entry)) 0 (archiveBytes (seriesArchive c (now (s .entry))))) (now (archive .entry)) ⌝ }
 {
@@ -136,16 +142,16 @@ pub fn archive_series(
 
 // The same at the panel, whose limit is 24 specimens: room for every cell that it allows, for six squares of 24 rows of 24 and for six parts of 24 rows of 6.
 fn archive_panel(c: Cutoffs, s: &[u8], archive: &mut [u8]) -> u32
-    requires { ⌜ length (now archive) ≡ 7184 ⌝ }
-    ensures { λ r. ⌜ r ≡ cond (eqb (seriesRefusal 24 c (now (s .entry))) 0) (length (archiveBytes (seriesArchive c (now (s .entry))))) (seriesRefusal 24 c (now (s .entry))) ⌝ }
-    ensures { λ _. ⌜ now (archive .exit) ≡ cond (eqb (seriesRefusal 24 c (now (s .entry))) 0) (sets (now (archive .entry)) 0 (archiveBytes (seriesArchive c (now (s .entry))))) (now (archive .entry)) ⌝ }
+    requires { ⌜ length (now archive) ≡ archiveLength ⌝ }
+    ensures { λ r. ⌜ r ≡ cond (eqb (seriesRefusal panelLimit c (now (s .entry))) 0) (length (archiveBytes (seriesArchive c (now (s .entry))))) (seriesRefusal panelLimit c (now (s .entry))) ⌝ }
+    ensures { λ _. ⌜ now (archive .exit) ≡ cond (eqb (seriesRefusal panelLimit c (now (s .entry))) 0) (sets (now (archive .entry)) 0 (archiveBytes (seriesArchive c (now (s .entry))))) (now (archive .entry)) ⌝ }
 {
-    let mut flags = [false; 1024];
-    let mut sheet = [0.0; 1024];
-    let mut work = [0.0; 3456];
-    let mut narrow = [0.0; 864];
+    let mut flags = [false; PANEL_CELLS];
+    let mut sheet = [0.0; PANEL_CELLS];
+    let mut work = [0.0; PANEL_WORK];
+    let mut narrow = [0.0; PANEL_NARROW];
     archive_series(
-        24,
+        PANEL_LIMIT,
         c,
         s,
         &mut flags,
@@ -158,10 +164,10 @@ fn archive_panel(c: Cutoffs, s: &[u8], archive: &mut [u8]) -> u32
 
 // The call with a lab's table: the records, and 7,184 bytes for the archive. 1 for the lent length, 14 for the table; then the archive's length, or the number of the refusal, and then the bytes stay as they are.
 pub fn archive_with(table: &[u8], records: &[u8], archive: &mut [u8]) -> u32
-    ensures { λ r. ⌜ r ≡ archivingReturned 24 (now (table .entry)) (now (records .entry)) (now (archive .entry)) ⌝ }
-    ensures { λ _. ⌜ now (archive .exit) ≡ archivingWritten 24 (now (table .entry)) (now (records .entry)) (now (archive .entry)) ⌝ }
+    ensures { λ r. ⌜ r ≡ archivingReturned panelLimit (now (table .entry)) (now (records .entry)) (now (archive .entry)) ⌝ }
+    ensures { λ _. ⌜ now (archive .exit) ≡ archivingWritten panelLimit (now (table .entry)) (now (records .entry)) (now (archive .entry)) ⌝ }
 {
-    if archive.len() != 7184 {
+    if archive.len() != ARCHIVE_LENGTH {
         return 1;
     }
     if records_cutoffs::bad_table(table) {
@@ -172,11 +178,11 @@ pub fn archive_with(table: &[u8], records: &[u8], archive: &mut [u8]) -> u32
 
 // The call without a table: the one with the built-in table, whose numbers are at hand.
 pub fn archive(records: &[u8], archive: &mut [u8]) -> u32
-    ensures { λ r. ⌜ r ≡ archivingReturned 24 builtInTable (now (records .entry)) (now (archive .entry)) ⌝ }
-    ensures { λ _. ⌜ now (archive .exit) ≡ archivingWritten 24 builtInTable (now (records .entry)) (now (archive .entry)) ⌝ }
+    ensures { λ r. ⌜ r ≡ archivingReturned panelLimit builtInTable (now (records .entry)) (now (archive .entry)) ⌝ }
+    ensures { λ _. ⌜ now (archive .exit) ≡ archivingWritten panelLimit builtInTable (now (records .entry)) (now (archive .entry)) ⌝ }
 {
     let lent = archive.len();
-    if lent != 7184 {
+    if lent != ARCHIVE_LENGTH {
         return 1;
     }
     archive_panel(document_cutoffs(), records, archive)

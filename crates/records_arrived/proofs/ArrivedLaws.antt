@@ -14,13 +14,13 @@ use Rattle.tests.specs.declared.Entry.{Entry}
 use Rattle.tests.specs.Answer.{noEntry}
 use Rattle.algebra.specs.Reasons.{first}
 use Rattle.algebra.proofs.ReasonLaws.{passed}
-use Rattle.records.specs.Bytes.{byte}
-use Rattle.records.specs.File.{count, lengthReasons}
-use Rattle.records.specs.Order.{falls, orderReasons}
-use Rattle.records.specs.Series.{reasons, refusal}
-use Rattle.records.specs.KenwardRogerCall.{number, entries}
+use Rattle.records.specs.format.Bytes.{byte}
+use Rattle.records.specs.format.File.{count, lengthReasons}
+use Rattle.records.specs.format.Order.{falls, orderReasons}
+use Rattle.records.specs.readers.Series.{reasons, refusal}
+use Rattle.records.specs.calls.KenwardRogerCall.{number, entries}
 use Rattle.records.specs.declared.Shape.the-variants.{Series}
-use Rattle.records.proofs.Limits.{slot-count}
+use Rattle.records.proofs.readers.Limits.{slot-count}
 use Rattle.records_order.proofs.KeyLaws.{falls-each}
 use Rattle.records_refusals.proofs.Length.{too-long}
 use Rattle.records_kenward_roger.proofs.Numbers.{early-number, no-entries}
@@ -28,7 +28,7 @@ use Rattle.records_pieces.specs.declared.Arrival.{Arrival}
 use Rattle.records_pieces.specs.joints.Arrived.{Arrived, arrivedAs, nothingYet, feds, joinedPieces, Came}
 use Rattle.records_pieces.proofs.PieceLaws.{pieces-as-whole, fed-length}
 use Rattle.records_pieces.proofs.CameLaws.{file-came}
-use Rattle.records_arrived.specs.joints.ArrivedCall.{keptFile, unkeptNumber, arrivedNumber, arrivedEntries}
+use Rattle.records_arrived.specs.joints.ArrivedCall.{keptFile, unkeptNumber, arrivedNumber, arrivedEntries, keptLength}
 
 -- ---- three files of which nothing need be kept
 -- one that is cut
@@ -42,7 +42,7 @@ unfolding refusal reasons lengthReasons orderReasons first
 fallen-refusal s h f = rw (h, f)
 
 -- one of more records than the panel's limits allow cells
-long-refusal : (s : List ℕ) → 16384 ≤ length s → falls s ≡ false → refusal 24 s ≡ 2
+long-refusal : (s : List ℕ) → keptLength ≤ length s → falls s ≡ false → refusal 24 s ≡ 2
 long-refusal s h f = let e = slot-count 24 Series in too-long 24 (omega arith) s (omega arith) f
 
 -- ---- its number and its entries, by whether something need be kept
@@ -64,7 +64,7 @@ module _ (c : Cutoffs) (a : Arrival) (kept : List ℕ) (n : ℕ) (q : n ≡ unke
   entries-kept z = rw (← q, z)
 
 -- ---- a file of bytes that came
-module _ (c : Cutoffs) (s : List ℕ) (bytes : (i : ℕ) → byte s i < 256) (st : Arrived) (room : length (st .kept) ≡ 16384) (k : Came s st) where
+module _ (c : Cutoffs) (s : List ℕ) (bytes : (i : ℕ) → byte s i < 256) (st : Arrived) (room : length (st .kept) ≡ keptLength) (k : Came s st) where
   abbrev a : Arrival
   a = st .arrival
 
@@ -74,10 +74,10 @@ module _ (c : Cutoffs) (s : List ℕ) (bytes : (i : ℕ) → byte s i < 256) (st
   cut-is : eqb (a .part) 0 ≡ eqb (length s % 16) 0
   cut-is = ap (λ (n : ℕ). eqb n 0) (k .part)
 
-  longer-is : a .longer ≡ true → 16384 ≤ length s
+  longer-is : a .longer ≡ true → keptLength ≤ length s
   longer-is h = go (decLt (length (st .kept) / 16) (count s))
     where
-      go : Dec (length (st .kept) / 16 < count s) → 16384 ≤ length s
+      go : Dec (length (st .kept) / 16 < count s) → keptLength ≤ length s
       go (yes l) = omega arith
       go (no l) = absurd (true≢false (sym h ∙ k .longer ∙ le-ltb (length (st .kept) / 16) (count s) (omega arith)))
 
@@ -132,11 +132,11 @@ module _ (c : Cutoffs) (s : List ℕ) (bytes : (i : ℕ) → byte s i < 256) (st
 pub pieces-came : (pieces : List (List ℕ)) (kept current : List ℕ) → length current ≡ 16 → Came (joinedPieces pieces) (feds pieces (arrivedAs nothingYet kept current))
 pieces-came pieces kept current h = rw (pieces-as-whole pieces (arrivedAs nothingYet kept current)) (file-came (joinedPieces pieces) kept current h)
 
-module _ (c : Cutoffs) (pieces : List (List ℕ)) (bytes : (i : ℕ) → byte (joinedPieces pieces) i < 256) (kept current : List ℕ) (room : length kept ≡ 16384) (sixteen : length current ≡ 16) where
+module _ (c : Cutoffs) (pieces : List (List ℕ)) (bytes : (i : ℕ) → byte (joinedPieces pieces) i < 256) (kept current : List ℕ) (room : length kept ≡ keptLength) (sixteen : length current ≡ 16) where
   abbrev afterPieces : Arrived
   afterPieces = feds pieces (arrivedAs nothingYet kept current)
 
-  same-room : length (afterPieces .kept) ≡ 16384
+  same-room : length (afterPieces .kept) ≡ keptLength
   same-room = ap (λ (st : Arrived). length (st .kept)) (pieces-as-whole pieces (arrivedAs nothingYet kept current)) ∙ fed-length (joinedPieces pieces) (arrivedAs nothingYet kept current) ∙ room
 
   pub pieces-number : arrivedNumber c (afterPieces .arrival) (afterPieces .kept) ≡ number 24 c (joinedPieces pieces)

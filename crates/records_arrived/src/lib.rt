@@ -4,9 +4,11 @@ ghost use Prim.Native.Nat.{_*_, _≤_};
 ghost use lib.ListN.{length};
 ghost use lib.Seq.{sets};
 ghost use Rattle.arithmetic_cutoffs.specs.Cutoffs.{documentCutoffs};
-ghost use Rattle.records.specs.Text.{textOf};
+ghost use Rattle.records.specs.text.Text.{textOf};
 ghost use Rattle.records_arrived.specs.joints.ArrivedCall.{unkeptNumber, arrivedNumber, arrivedEntries};
+ghost use Rattle.records_answer_text.specs.joints.Cursor.{textRoom};
 use arithmetic_cutoffs::document_cutoffs;
+use records_answer_text::TEXT_ROOM;
 use records_answer_text::put_run;
 use records_kenward_roger::judge_panel;
 use records_pieces::Arrival;
@@ -53,9 +55,9 @@ pub fn judge_arrived(a: Arrival, kept: &[u8], told: &mut u32) -> [Entry; 7]
 }
 
 // Its text from the front of `out`, whose other bytes stay, and the text's length.
-pub fn text_arrived(a: Arrival, kept: &[u8], out: &mut [u8; 512]) -> usize
+pub fn text_arrived(a: Arrival, kept: &[u8], out: &mut [u8; TEXT_ROOM]) -> usize
     requires { ⌜ 16 * a .records ≤ length (now kept) ⌝ }
-    ensures { λ r. ⌜ (r ≡ length (textOf (arrivedNumber documentCutoffs a (now (kept .entry))) (arrivedEntries documentCutoffs a (now (kept .entry))))) × (r ≤ 512) ⌝ }
+    ensures { λ r. ⌜ (r ≡ length (textOf (arrivedNumber documentCutoffs a (now (kept .entry))) (arrivedEntries documentCutoffs a (now (kept .entry))))) × (r ≤ textRoom) ⌝ }
     ensures { λ r. ⌜ now (out .exit) ≡ sets (now (out .entry)) 0 (textOf (arrivedNumber documentCutoffs a (now (kept .entry))) (arrivedEntries documentCutoffs a (now (kept .entry)))) ⌝ }
 {
     let mut number: u32 = 0;

@@ -7,9 +7,9 @@ use lib.Dec.{ltb}
 use Rattle.algebra.specs.Table.{row}
 use Rattle.adjustment.specs.declared.Block.{Block}
 use Rattle.adjustment.specs.Blocks.{noBlock, blockAt, places}
-use Rattle.records.specs.Scan.{any, total}
-use Rattle.records.specs.Series.{blockCount, blockOf, sizes, badSize, misfit}
-use Rattle.records.proofs.ScanLaws.{any-same, total-same}
+use Rattle.records.specs.format.Scan.{any, total}
+use Rattle.records.specs.readers.Series.{blockCount, blockOf, sizes, badSize, misfit}
+use Rattle.records.proofs.format.ScanLaws.{any-same, total-same}
 use Rattle.records_series.proofs.Accepted.{block-read}
 use Rattle.records_block_limits.specs.joints.Checks.{wrongBlock, parametersIn, columnsIn, badSizeIn, misfitIn}
 

@@ -2,7 +2,7 @@
 ghost use mathlib.Core.Path.{_≡_};
 ghost use Prim.Native.Nat.{ℕ, _≤_};
 ghost use Rattle.adjustment.specs.Blocks.{blockAt};
-ghost use Rattle.records.specs.Scan.{any};
+ghost use Rattle.records.specs.format.Scan.{any};
 ghost use Rattle.records_block_limits.specs.joints.Checks.{wrongBlock, parametersIn, columnsIn, badSizeIn, misfitIn};
 use records::Sizes;
 

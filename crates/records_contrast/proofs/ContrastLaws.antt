@@ -9,12 +9,12 @@ use lib.ListN.{getD}
 use lib.Ieee.{Float, nan}
 use Rattle.arithmetic.specs.Numbers.{isZero}
 use Rattle.records.specs.declared.Sizes.{Sizes}
-use Rattle.records.specs.Scan.{any}
-use Rattle.records.specs.Kinds.{kindAt, kindsOf}
-use Rattle.records.specs.Cells.{firstSlot, slotCount}
-use Rattle.records.specs.File.{count, beyond, cell}
-use Rattle.records.proofs.ScanLaws.{any-same}
-use Rattle.records.proofs.Slots.{any-flat}
+use Rattle.records.specs.format.Scan.{any}
+use Rattle.records.specs.format.Kinds.{kindAt, kindsOf}
+use Rattle.records.specs.format.Cells.{firstSlot, slotCount}
+use Rattle.records.specs.format.File.{count, beyond, cell}
+use Rattle.records.proofs.format.ScanLaws.{any-same}
+use Rattle.records.proofs.format.Slots.{any-flat}
 use Rattle.records_sheet.specs.joints.Sheet.{sheetAfter}
 use Rattle.records_sheet_parts.proofs.Read.{Flat, flat-cell}
 use Rattle.records_contrast.specs.joints.Contrast.{nonzeros, zeroContrastIn}

@@ -7,8 +7,8 @@ use lib.Dec.{eqb}
 use lib.Ieee.{Float, lt}
 use borrow.Author.Tests.{eq-eqb, ne-eqb}
 use Rattle.arithmetic.specs.Numbers.{isFinite}
-use Rattle.records.specs.File.{kindOf, rowOf, columnOf, paddingOf, countOf, valueOf}
-use Rattle.records.specs.CutoffTable.{floorOf, badCutoff}
+use Rattle.records.specs.format.File.{kindOf, rowOf, columnOf, paddingOf, countOf, valueOf}
+use Rattle.records.specs.readers.CutoffTable.{floorOf, badCutoff}
 
 -- seven conditions, of which one holds
 module _ (k r d p n f v : Bool) where

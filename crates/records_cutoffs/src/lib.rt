@@ -2,8 +2,8 @@
 ghost use mathlib.Core.Path.{_≡_};
 ghost use Prim.Native.Nat.{_<_};
 ghost use lib.ListN.{length};
-ghost use Rattle.records.specs.File.{count};
-ghost use Rattle.records.specs.CutoffTable.{floorOf, badCutoff, badTable, cutoffsIn};
+ghost use Rattle.records.specs.format.File.{count};
+ghost use Rattle.records.specs.readers.CutoffTable.{floorOf, badCutoff, badTable, cutoffsIn};
 use arithmetic_cutoffs::Cutoffs;
 use records_file::value_at;
 
@@ -19,7 +19,7 @@ fn bad_cutoff(table: &[u8], i: usize) -> bool
     requires { ⌜ i < count (now table) ⌝ }
     ensures { λ r. ⌜ r ≡ badCutoff (now (table .entry)) i ⌝ }
 {
-    if records_file::kind_at(table, i) != 20 {
+    if records_file::kind_of(table, i) != 20 {
         return true;
     }
     if records_file::row_at(table, i) != i {

@@ -26,12 +26,12 @@ use Rattle.tests.specs.Answer.{numberOf, floatOf, noEntry}
 use Rattle.tests.specs.VarianceDf.{entryAt, relativeGradient, gradientValues, relativeVariance, dfOfRelative, varianceDf}
 use Rattle.tests.specs.PooledDf.{tolerance, allWithin, anyLow, expected, pooled, getFstatDdf}
 use Rattle.tests.specs.Satterthwaite.{Inputs, squaresOver, gradientAt, capped, componentDf, componentDfs, anyNone, severalDf, variances, directions, jxStack, fOne, fSeveral, dfOne, dfSeveral, oneRow, severalRows, satterthwaite}
-use Rattle.records.specs.Layout.{entryBytes, answerBytes, entryFrom}
-use Rattle.records.specs.Parameters.{contrastRows, refusal, inputs}
-use Rattle.records.specs.CutoffTable.{cutoffsIn}
-use Rattle.records.proofs.CallLaws.{accepted-fills}
-use Rattle.records.specs.SatterthwaiteCall.{testCall, outcome, number, entry, returned, written}
-use Rattle.records.proofs.CutoffLaws.{cap-fits}
+use Rattle.records.specs.format.Layout.{entryBytes, answerBytes, entryFrom}
+use Rattle.records.specs.readers.Parameters.{contrastRows, refusal, inputs}
+use Rattle.records.specs.readers.CutoffTable.{cutoffsIn}
+use Rattle.records.proofs.calls.CallLaws.{accepted-fills}
+use Rattle.records.specs.calls.SatterthwaiteCall.{testCall, outcome, number, entry, returned, written}
+use Rattle.records.proofs.readers.CutoffLaws.{cap-fits}
 use Rattle.records_answer_bytes.proofs.LayoutLaws.{Held, number-held, read-back}
 use Rattle.records_ddf.proofs.Judged.{judged-early, contrast-rows-within}
 use Rattle.tests.specs.Both.{isPositive, squareOne}

@@ -14,12 +14,12 @@ use Rattle.tests.specs.declared.Entry.{Entry}
 use Rattle.tests.specs.Satterthwaite.{Inputs, satterthwaite as test}
 use Rattle.tests_ddf.specs.joints.Parts.{inputsOf}
 use Rattle.records.specs.declared.Sizes.{Sizes}
-use Rattle.records.specs.Scan.{any}
-use Rattle.records.specs.Kinds.{width, Table, kindAt, kindsOf, kindNumbers, satterthwaiteKinds}
-use Rattle.records.specs.Cells.{slots, firstSlot, slotCount}
-use Rattle.records.specs.File.{count, beyond}
-use Rattle.records.specs.Parameters.{coefficients, contrastRows, parameters, sizes, kinds, jacobians, inputs}
-use Rattle.records.specs.SatterthwaiteCall.{outcome}
+use Rattle.records.specs.format.Scan.{any}
+use Rattle.records.specs.format.Kinds.{width, Table, kindAt, kindsOf, kindNumbers, satterthwaiteKinds}
+use Rattle.records.specs.format.Cells.{slots, firstSlot, slotCount}
+use Rattle.records.specs.format.File.{count, beyond}
+use Rattle.records.specs.readers.Parameters.{coefficients, contrastRows, parameters, sizes, kinds, jacobians, inputs}
+use Rattle.records.specs.calls.SatterthwaiteCall.{outcome}
 use Rattle.records_sheet.proofs.Bounds.{cond-le}
 use Rattle.records_sheet.specs.joints.Sheet.{firstSlots, sheetAfter}
 use Rattle.records_sheet.proofs.Sheets.{firsts-at, ends-within}

@@ -13,15 +13,15 @@ use Rattle.algebra.specs.Reasons.{first}
 use Rattle.tests.specs.declared.Entry.{Entry}
 use Rattle.tests.specs.Answer.{noEntry}
 use Rattle.records.specs.declared.Sizes.{Sizes}
-use Rattle.records.specs.Layout.{entryBytes}
-use Rattle.records.specs.Scan.{any}
-use Rattle.records.specs.File.{count, notFinite}
-use Rattle.records.specs.Reader.{formedNumber}
-use Rattle.records.specs.Parameters.{reader, contrastRows, sizes, valueReasons, reasons, refusal}
-use Rattle.records.specs.CutoffTable.{badTable, cutoffsIn}
-use Rattle.records.specs.SatterthwaiteCall.{outcome, number, entry}
-use Rattle.records.proofs.ReaderLaws.{own-decides, accepted-formed}
-use Rattle.records.proofs.CallLaws.{satterthwaite-number-is}
+use Rattle.records.specs.format.Layout.{entryBytes}
+use Rattle.records.specs.format.Scan.{any}
+use Rattle.records.specs.format.File.{count, notFinite}
+use Rattle.records.specs.readers.Reader.{formedNumber}
+use Rattle.records.specs.readers.Parameters.{reader, contrastRows, sizes, valueReasons, reasons, refusal}
+use Rattle.records.specs.readers.CutoffTable.{badTable, cutoffsIn}
+use Rattle.records.specs.calls.SatterthwaiteCall.{outcome, number, entry}
+use Rattle.records.proofs.readers.ReaderLaws.{own-decides, accepted-formed}
+use Rattle.records.proofs.calls.CallLaws.{satterthwaite-number-is}
 use Rattle.records_answer_bytes.proofs.LayoutLaws.{length-entry}
 use Rattle.records_little_endian.proofs.StoreLaws.{sets-all}
 use Rattle.records_form.proofs.FormLaws.{FormedSizes, formed-sizes}

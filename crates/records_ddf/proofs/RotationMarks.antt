@@ -24,16 +24,16 @@ use Rattle.tests.specs.VarianceDf.{relativeGradient, gradientValues, relativeVa
 use Rattle.tests.specs.Both.{isPositive, squareOne, stackSeen}
 use Rattle.tests.specs.PooledDf.{tolerance, allWithin, anyLow, expected, pooled, getFstatDdf}
 use Rattle.tests.specs.Satterthwaite.{column, contrastOf, transformed, transformedAll, gradientOne, eigenvalues, notPositive, variancesOf, directionsOf, projected, squaresOver, jxAll, gradientAt, capped, componentDf, componentDfs, anyNone, severalDf, componentsSeen, Inputs, Outcome, ldRows, vRows, jStack, rotatedV, variances, directions, jxStack, fOne, fSeveral, dfOne, dfSeveral, startSeen, seenOne, seenSeveral, oneRow, severalRows, satterthwaite}
-use Rattle.records.specs.Bytes.{word, long, bytesOf}
+use Rattle.records.specs.format.Bytes.{word, long, bytesOf}
 use Rattle.algebra.specs.Reasons.{first}
-use Rattle.records.specs.Scan.{any, most, last}
-use Rattle.records.specs.Kinds.{kindAt, holds, width, indexOf, valueHolds, satterthwaiteKinds, limits}
-use Rattle.records.specs.File.{outOf, badRecord, isCell, again, has, cell as fileCell, rows, columns, beyond, missing, notFinite, lengthReasons, formReasons}
-use Rattle.records.specs.Written.{recordOf, sequence}
-use Rattle.records.specs.Order.{numbersMatrix, matrixOf, standsBefore, falls, orderReasons}
-use Rattle.records.specs.Parameters.{sizes, valueReasons, reasons, refusal, jacobians, inputs}
-use Rattle.records.specs.SatterthwaiteCall.{outcome, number, entry}
-use Rattle.records.specs.CutoffTable.{floorOf, badCutoff, badTable, cutoffsIn, cutoffAt, cutoffBytes}
+use Rattle.records.specs.format.Scan.{any, most, last}
+use Rattle.records.specs.format.Kinds.{kindAt, holds, width, indexOf, valueHolds, satterthwaiteKinds, limits}
+use Rattle.records.specs.format.File.{outOf, badRecord, isCell, again, has, cell as fileCell, rows, columns, beyond, missing, notFinite, lengthReasons, formReasons}
+use Rattle.records.specs.format.Written.{recordOf, sequence}
+use Rattle.records.specs.format.Order.{numbersMatrix, matrixOf, standsBefore, falls, orderReasons}
+use Rattle.records.specs.readers.Parameters.{sizes, valueReasons, reasons, refusal, jacobians, inputs}
+use Rattle.records.specs.calls.SatterthwaiteCall.{outcome, number, entry}
+use Rattle.records.specs.readers.CutoffTable.{floorOf, badCutoff, badTable, cutoffsIn, cutoffAt, cutoffBytes}
 use Rattle.records_ddf.proofs.Judged.{judged-taken}
 use Rattle.records_ddf.proofs.Bench.{fileI, sent, answered, file-sends, file-taken}
 

@@ -6,23 +6,24 @@ ghost use Prim.Native.Nat.{_≤_};
 ghost use lib.ListN.{length, replicate};
 ghost use Rattle.arithmetic.specs.Numbers.{plusZero};
 ghost use Rattle.tests.specs.Satterthwaite.{satterthwaite as testOf};
-ghost use Rattle.records.specs.Kinds.{satterthwaiteKinds, satterthwaite};
-ghost use Rattle.records.specs.Cells.{slotCount};
-ghost use Rattle.records.specs.Layout.{entryBytes};
-ghost use Rattle.records.specs.CutoffTable.{builtInTable};
-ghost use Rattle.records.specs.File.{count};
-ghost use Rattle.records.specs.Parameters.{kinds, refusal};
+ghost use Rattle.records.specs.format.Kinds.{satterthwaiteKinds, satterthwaite};
+ghost use Rattle.records.specs.format.Cells.{slotCount};
+ghost use Rattle.records.specs.format.Layout.{entryBytes, entryLength};
+ghost use Rattle.records.specs.readers.CutoffTable.{builtInTable};
+ghost use Rattle.records.specs.format.File.{count};
+ghost use Rattle.records.specs.readers.Parameters.{kinds, refusal};
 ghost use Rattle.records_sheet.specs.joints.Sheet.{firstSlots, sheetAfter};
 ghost use Rattle.records_ddf.specs.joints.Gathered.{inputsFrom};
-ghost use Rattle.records.specs.SatterthwaiteCall.{number as fileNumber, entry, returned, written};
+ghost use Rattle.records.specs.calls.SatterthwaiteCall.{number as fileNumber, entry, returned, written};
+use arithmetic_cutoffs::Cutoffs;
+use arithmetic_cutoffs::document_cutoffs;
+use records::ENTRY_LENGTH;
 use records::KIND_A;
 use records::KIND_BETA;
 use records::KIND_BETA_H;
 use records::KIND_CONTRAST;
 use records::KIND_JACOBIAN;
 use records::KIND_V;
-use arithmetic_cutoffs::Cutoffs;
-use arithmetic_cutoffs::document_cutoffs;
 use records::Sizes;
 use records_answer_bytes::put_entry;
 use records_sheet_parts::cells_at;
@@ -105,9 +106,9 @@ pub fn judge(c: Cutoffs, s: &[u8], number: &mut u32) -> Entry
     e
 }
 
-// The answer to a file with these cutoffs, in 24 lent bytes. A refusal returns its number alone and leaves the bytes as they are.
+// The answer to a file with these cutoffs, in the lent entry's bytes. A refusal returns its number alone and leaves the bytes as they are.
 fn fill_entry(c: Cutoffs, records: &[u8], answer: &mut [u8]) -> u32
-    requires { ⌜ length (now answer) ≡ 24 ⌝ }
+    requires { ⌜ length (now answer) ≡ entryLength ⌝ }
     ensures { λ r. ⌜ r ≡ fileNumber c (now (records .entry)) ⌝ }
     ensures { λ _. ⌜ now (answer .exit) ≡ cond (eqb (fileNumber c (now (records .entry))) 0) (entryBytes (entry c (now (records .entry)))) (now (answer .entry)) ⌝ }
 {
@@ -125,7 +126,7 @@ pub fn call_with(table: &[u8], records: &[u8], answer: &mut [u8]) -> u32
     ensures { λ r. ⌜ r ≡ returned (now (table .entry)) (now (records .entry)) (now (answer .entry)) ⌝ }
     ensures { λ _. ⌜ now (answer .exit) ≡ written (now (table .entry)) (now (records .entry)) (now (answer .entry)) ⌝ }
 {
-    if answer.len() != 24 {
+    if answer.len() != ENTRY_LENGTH {
         return 1;
     }
     if records_cutoffs::bad_table(table) {
@@ -139,7 +140,7 @@ pub fn call(records: &[u8], answer: &mut [u8]) -> u32
     ensures { λ r. ⌜ r ≡ returned builtInTable (now (records .entry)) (now (answer .entry)) ⌝ }
     ensures { λ _. ⌜ now (answer .exit) ≡ written builtInTable (now (records .entry)) (now (answer .entry)) ⌝ }
 {
-    if answer.len() != 24 {
+    if answer.len() != ENTRY_LENGTH {
         return 1;
     }
     fill_entry(document_cutoffs(), records, answer)

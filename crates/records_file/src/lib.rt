@@ -1,8 +1,8 @@
 // The fields of the records of a file.
 ghost use mathlib.Core.Path.{_≡_};
 ghost use Prim.Native.Nat.{_<_};
-ghost use Rattle.records.specs.Scan.{any};
-ghost use Rattle.records.specs.File.{count, kindOf, rowOf, columnOf, paddingOf, countOf, bitsOf, firstValueOf, valueOf, notFinite};
+ghost use Rattle.records.specs.format.Scan.{any};
+ghost use Rattle.records.specs.format.File.{count, kindOf, rowOf, columnOf, paddingOf, countOf, bitsOf, firstValueOf, valueOf, notFinite};
 
 // A byte as an index.
 pub fn index(x: u8) -> usize
@@ -12,7 +12,7 @@ pub fn index(x: u8) -> usize
 }
 
 // The fields of record i.
-pub fn kind_at(s: &[u8], i: usize) -> u8
+pub fn kind_of(s: &[u8], i: usize) -> u8
     requires { ⌜ i < count (now s) ⌝ }
     ensures { λ r. ⌜ r ≡ kindOf (now (s .entry)) i ⌝ }
 {

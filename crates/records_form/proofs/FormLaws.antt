@@ -10,19 +10,19 @@ use lib.Ieee.{Float}
 use borrow.Author.Tests.{eq-eqb, ne-eqb}
 use Rattle.algebra.specs.Reasons.{first}
 use Rattle.algebra.proofs.ReasonLaws.{line, first-none, first-only}
-use Rattle.records.specs.Scan.{any}
+use Rattle.records.specs.format.Scan.{any}
 use Rattle.records.specs.declared.Sizes.{Sizes}
-use Rattle.records.specs.Kinds.{kindsOf, kindNumbers, kenwardRogerKinds, satterthwaiteKinds, archiveKinds, testKinds, limits}
-use Rattle.records.specs.Cells.{slotCount}
-use Rattle.records.specs.File.{count, badRecord, again, missing, beyond, lengthReasons, formReasons}
-use Rattle.records.specs.Order.{falls, orderReasons}
-use Rattle.records.specs.Reader.{Reader, limitKinds, fileKinds, formedNumber}
-use Rattle.records.specs.Series.{sizes as seriesSizes}
-use Rattle.records.specs.Parameters.{sizes as parameterSizes}
-use Rattle.records.specs.Archive.{sizesAt, sizes as archiveSizes}
-use Rattle.records.specs.SecondFile.{sizes as secondSizes}
-use Rattle.records.proofs.Limits.{Below, series-below, parameters-below, archive-below, second-below, fewer-slots}
-use Rattle.records.proofs.ReaderLaws.{WellFormed, well-formed}
+use Rattle.records.specs.format.Kinds.{kindsOf, kindNumbers, kenwardRogerKinds, satterthwaiteKinds, archiveKinds, testKinds, limits}
+use Rattle.records.specs.format.Cells.{slotCount}
+use Rattle.records.specs.format.File.{count, badRecord, again, missing, beyond, lengthReasons, formReasons}
+use Rattle.records.specs.format.Order.{falls, orderReasons}
+use Rattle.records.specs.readers.Reader.{Reader, limitKinds, fileKinds, formedNumber}
+use Rattle.records.specs.readers.Series.{sizes as seriesSizes}
+use Rattle.records.specs.readers.Parameters.{sizes as parameterSizes}
+use Rattle.records.specs.readers.Archive.{sizesAt, sizes as archiveSizes}
+use Rattle.records.specs.readers.SecondFile.{sizes as secondSizes}
+use Rattle.records.proofs.readers.Limits.{Below, series-below, parameters-below, archive-below, second-below, fewer-slots}
+use Rattle.records.proofs.readers.ReaderLaws.{WellFormed, well-formed}
 use Rattle.records_sizes.specs.joints.Gathered.{sizesOf, readerOf}
 use Rattle.records_sheet.specs.joints.Sheet.{Small, sheetAfter}
 use Rattle.records_sheet.proofs.Sheets.{below-small}

@@ -27,13 +27,13 @@ use Rattle.tests.specs.Moments.{four, positive, rhoOf, generalDf, rankOne, dfOf
 use Rattle.tests.specs.KenwardRoger.{Scaled, scaledBy, tested, unitRow, coefficientTest, contrastTest, Run, withTest, coefficientsTo, runOf}
 use Rattle.tests.specs.Used.{inUse}
 use Rattle.tests_run.proofs.Used.{all-alike, unused-entry, in-use-is}
-use Rattle.records.specs.Series.{coefficients, contrastRows, refusal, beta, betaH, contrast}
-use Rattle.records.specs.Layout.{entryBytes, answerBytes, entryFrom}
-use Rattle.records.specs.CutoffTable.{cutoffsIn}
-use Rattle.records.specs.Text.{textOf, seriesText}
-use Rattle.records.proofs.CallLaws.{accepted-fills}
-use Rattle.records.specs.KenwardRogerCall.{seriesCall, scaled, run, number, entries, returned, written}
-use Rattle.records.proofs.AcceptedSeries.{AcceptedSeries, accepted-series}
+use Rattle.records.specs.readers.Series.{coefficients, contrastRows, refusal, beta, betaH, contrast}
+use Rattle.records.specs.format.Layout.{entryBytes, answerBytes, entryFrom}
+use Rattle.records.specs.readers.CutoffTable.{cutoffsIn}
+use Rattle.records.specs.text.Text.{textOf, seriesText}
+use Rattle.records.proofs.calls.CallLaws.{accepted-fills}
+use Rattle.records.specs.calls.KenwardRogerCall.{seriesCall, scaled, run, number, entries, returned, written}
+use Rattle.records.proofs.readers.AcceptedSeries.{AcceptedSeries, accepted-series}
 use Rattle.records_series.proofs.Accepted.{limits}
 use Rattle.records_answer_bytes.proofs.LayoutLaws.{Held, number-held, unused-zero, read-back, determined}
 use Rattle.records_answer_text.proofs.TextLaws.{text-accepted}

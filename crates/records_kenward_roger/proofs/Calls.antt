@@ -27,15 +27,15 @@ use Rattle.tests.specs.KenwardRoger.{Scaled, runOf}
 use Rattle.tests_run.specs.joints.Units.{responseUnits}
 use Rattle.tests_run.proofs.RunLaws.{response-units-is}
 use Rattle.records.specs.declared.Sizes.{Sizes}
-use Rattle.records.specs.Kinds.{width, kindAt, kindsOf, kindNumbers, kenwardRogerKinds, limits}
-use Rattle.records.specs.Cells.{firstSlot, slotCount}
-use Rattle.records.specs.File.{count, present}
-use Rattle.records.specs.Shortened.{keptSpecimens, shortened}
-use Rattle.records.specs.Series.{specimens, coefficients, zColumns, blockCount, thetas, contrastRows, weightCount, sizes, kinds, blockOf, asSent, design, phi, sigma2, beta, betaH, contrast}
-use Rattle.records.specs.KenwardRogerCall.{adjusted, scaled, run}
-use Rattle.records.proofs.AcceptedSeries.{AcceptedSeries, accepted-series}
-use Rattle.records.proofs.Limits.{Below}
-use Rattle.records.proofs.ShortLaws.{short-n}
+use Rattle.records.specs.format.Kinds.{width, kindAt, kindsOf, kindNumbers, kenwardRogerKinds, limits}
+use Rattle.records.specs.format.Cells.{firstSlot, slotCount}
+use Rattle.records.specs.format.File.{count, present}
+use Rattle.records.specs.readers.Shortened.{keptSpecimens, shortened}
+use Rattle.records.specs.readers.Series.{specimens, coefficients, zColumns, blockCount, thetas, contrastRows, weightCount, sizes, kinds, blockOf, asSent, design, phi, sigma2, beta, betaH, contrast}
+use Rattle.records.specs.calls.KenwardRogerCall.{adjusted, scaled, run}
+use Rattle.records.proofs.readers.AcceptedSeries.{AcceptedSeries, accepted-series}
+use Rattle.records.proofs.readers.Limits.{Below}
+use Rattle.records.proofs.readers.ShortLaws.{short-n}
 use Rattle.records_sheet.proofs.Sheets.{firsts-at, next-start, ends-within, below-small}
 use Rattle.records_sheet.proofs.Bounds.{all-bound}
 use Rattle.records_sheet_parts.specs.joints.Parts.{numbersAt, cellsAt}

@@ -9,12 +9,12 @@ use Rattle.arithmetic.specs.Numbers.{isZero, isFinite}
 use Rattle.algebra.specs.Kind.{floats}
 use Rattle.algebra.specs.Product.{at}
 use Rattle.tests_basis.proofs.RankStart.{Contrast}
-use Rattle.records.specs.Scan.{any}
-use Rattle.records.specs.Series.{coefficients, contrastRows, kinds, cellValue, zeroContrast, contrast}
-use Rattle.records.proofs.ScanLaws.{any-found}
-use Rattle.records.proofs.CellLaws.{cell-finite}
-use Rattle.records.proofs.AcceptedSeries.{AcceptedSeries}
-use Rattle.records.proofs.SeriesInput.{contrast-at, contrast-fits}
+use Rattle.records.specs.format.Scan.{any}
+use Rattle.records.specs.readers.Series.{coefficients, contrastRows, kinds, cellValue, zeroContrast, contrast}
+use Rattle.records.proofs.format.ScanLaws.{any-found}
+use Rattle.records.proofs.format.CellLaws.{cell-finite}
+use Rattle.records.proofs.readers.AcceptedSeries.{AcceptedSeries}
+use Rattle.records.proofs.readers.SeriesInput.{contrast-at, contrast-fits}
 use Rattle.records_series.proofs.Accepted.{limits}
 
 module _ (w : ℕ) (some : 1 ≤ w) (s : List ℕ) (facts : AcceptedSeries w s) where

@@ -10,9 +10,9 @@ use Rattle.arithmetic_cutoffs.specs.declared.Cutoffs.{Cutoffs}
 use Rattle.tests.specs.declared.Entry.{Entry}
 use Rattle.tests.specs.Answer.{noEntry}
 use Rattle.tests.specs.Entries.{runRefusal, runEntries}
-use Rattle.records.specs.Series.{refusal, design}
-use Rattle.records.specs.KenwardRogerCall.{adjusted, run, number, entries, rotations, specimensRun}
-use Rattle.records.proofs.CallLaws.{fileAdjustmentRefusal, number-is}
+use Rattle.records.specs.readers.Series.{refusal, design}
+use Rattle.records.specs.calls.KenwardRogerCall.{adjusted, run, number, entries, rotations, specimensRun}
+use Rattle.records.proofs.calls.CallLaws.{fileAdjustmentRefusal, number-is}
 use Rattle.records_kenward_roger.specs.joints.Left.{Judges}
 
 -- ---- the number and the entries, by who refuses

@@ -15,16 +15,16 @@ use Rattle.algebra.proofs.FoldLaws.{length-span}
 use Rattle.algebra.proofs.TableLaws.{row-at, table-at, table-ext}
 use Rattle.algebra_large.specs.joints.Slab.{rowsAt}
 use Rattle.algebra_large.proofs.SlabLaws.{rowsAt-at, shape-table, shape-rowsAt, shape-ext}
-use Rattle.records.specs.Scan.{any}
-use Rattle.records.specs.Kinds.{width, Table, kindAt, kindsOf, kenwardRogerKinds}
-use Rattle.records.specs.Cells.{slots, firstSlot, slotCount}
-use Rattle.records.specs.File.{count, beyond, present}
-use Rattle.records.specs.Shortened.{torn, keptSpecimens}
-use Rattle.records.specs.Series.{specimens, coefficients, zColumns, weightCount, sizes, kinds, cellValue, asSent, design}
-use Rattle.records.proofs.ScanLaws.{total-le}
-use Rattle.records.proofs.Slots.{packed}
-use Rattle.records.proofs.KeptLaws.{kept-few}
-use Rattle.records.proofs.ShortLaws.{row-ext, kept-below, short-x, short-z, short-weights}
+use Rattle.records.specs.format.Scan.{any}
+use Rattle.records.specs.format.Kinds.{width, Table, kindAt, kindsOf, kenwardRogerKinds}
+use Rattle.records.specs.format.Cells.{slots, firstSlot, slotCount}
+use Rattle.records.specs.format.File.{count, beyond, present}
+use Rattle.records.specs.readers.Shortened.{torn, keptSpecimens}
+use Rattle.records.specs.readers.Series.{specimens, coefficients, zColumns, weightCount, sizes, kinds, cellValue, asSent, design}
+use Rattle.records.proofs.format.ScanLaws.{total-le}
+use Rattle.records.proofs.format.Slots.{packed}
+use Rattle.records.proofs.readers.KeptLaws.{kept-few}
+use Rattle.records.proofs.readers.ShortLaws.{row-ext, kept-below, short-x, short-z, short-weights}
 use Rattle.records_sheet.specs.joints.Sheet.{sheetAfter}
 use Rattle.records_sheet.proofs.Sheets.{next-start, ends-within, length-sheet}
 use Rattle.records_sheet_parts.specs.joints.Parts.{numbersAt, cellsAt}

@@ -6,14 +6,20 @@ ghost use lib.ListN.{length};
 ghost use lib.Seq.{sets};
 ghost use Rattle.arithmetic_cutoffs.specs.Cutoffs.{documentCutoffs};
 ghost use lib.Dec.{eqb};
-ghost use Rattle.records.specs.Layout.{answerBytes};
-ghost use Rattle.records.specs.CutoffTable.{builtInTable};
-ghost use Rattle.records.specs.Text.{textOf};
-ghost use Rattle.records.specs.Series.{sizes, kinds, design};
+ghost use Rattle.records.specs.format.Layout.{answerBytes, answerLength};
+ghost use Rattle.records.specs.readers.CutoffTable.{builtInTable};
+ghost use Rattle.records.specs.text.Text.{textOf};
+ghost use Rattle.records.specs.readers.Series.{sizes, kinds, design};
 ghost use Rattle.records_sheet.specs.joints.Sheet.{firstSlots};
 ghost use Rattle.records_refusals.specs.joints.Room.{Room, SeriesRead, SeriesShort};
-ghost use Rattle.records.specs.KenwardRogerCall.{adjusted, run, number, entries, returned, written};
+ghost use Rattle.records.specs.calls.KenwardRogerCall.{adjusted, run, number, entries, returned, written};
+ghost use Rattle.records.specs.format.Kinds.{panelLimit};
 ghost use Rattle.records_kenward_roger.specs.joints.Left.{Adjusts, Judges};
+ghost use Rattle.records_answer_text.specs.joints.Cursor.{textRoom};
+use adjustment_kr_vcov_adj::vcov_adj16_with_pw;
+use arithmetic_cutoffs::Cutoffs;
+use arithmetic_cutoffs::document_cutoffs;
+use records::ANSWER_LENGTH;
 use records::KIND_BETA;
 use records::KIND_BETA_H;
 use records::KIND_BLOCK;
@@ -24,18 +30,24 @@ use records::KIND_THETA;
 use records::KIND_WEIGHT;
 use records::KIND_X;
 use records::KIND_Z;
-use adjustment_kr_vcov_adj::vcov_adj16_with_pw;
-use arithmetic_cutoffs::Cutoffs;
-use arithmetic_cutoffs::document_cutoffs;
+use records::PANEL_LIMIT;
 use records::Shape;
 use records::Sizes;
 use records_answer_bytes::put_answer;
+use records_answer_text::TEXT_ROOM;
 use records_answer_text::put_run;
 use records_sheet_parts::cells_at;
 use records_sheet_parts::six_at;
 use tests::Entry;
 use tests_entries::answer_of;
 use tests_entries::no_entry;
+
+// What is lent at the panel: a place for each of the 835 cells that its limit allows and some more, six squares of 24 rows of 24, and six parts of 24 rows of 6.
+pub const PANEL_CELLS: usize = 1024;
+
+pub const PANEL_WORK: usize = 3456;
+
+pub const PANEL_NARROW: usize = 864;
 
 // The adjustment of a series that the reader takes, from its sheet, on which n specimens are left that are not torn, in lent slices with room for six squares of as many rows, and for six parts of so many
 // rows of 6: no more is cleared than the series uses. Returns 0, or 9, 10 or 4: then what is lent for answers stays as it is.
@@ -253,14 +265,14 @@ pub fn judge_panel(
     made: &mut usize,
     pulled: &mut usize,
 ) -> [Entry; 7]
-    ensures { λ r. ⌜ Judges 24 c (now (s .entry)) r (now (told .exit)) (now (made .exit)) (now (pulled .exit)) ⌝ }
+    ensures { λ r. ⌜ Judges panelLimit c (now (s .entry)) r (now (told .exit)) (now (made .exit)) (now (pulled .exit)) ⌝ }
 {
-    let mut flags = [false; 1024];
-    let mut sheet = [0.0; 1024];
-    let mut work = [0.0; 3456];
-    let mut narrow = [0.0; 864];
+    let mut flags = [false; PANEL_CELLS];
+    let mut sheet = [0.0; PANEL_CELLS];
+    let mut work = [0.0; PANEL_WORK];
+    let mut narrow = [0.0; PANEL_NARROW];
     judge(
-        24,
+        PANEL_LIMIT,
         c,
         s,
         &mut flags,
@@ -273,11 +285,11 @@ pub fn judge_panel(
     )
 }
 
-// The answer to a file with these cutoffs, in 168 lent bytes. A refusal returns its number alone and leaves the bytes as they are.
+// The answer to a file with these cutoffs, in the lent answer bytes. A refusal returns its number alone and leaves the bytes as they are.
 fn fill_answer(c: Cutoffs, records: &[u8], answer: &mut [u8]) -> u32
-    requires { ⌜ length (now answer) ≡ 168 ⌝ }
-    ensures { λ r. ⌜ r ≡ number 24 c (now (records .entry)) ⌝ }
-    ensures { λ _. ⌜ now (answer .exit) ≡ cond (eqb (number 24 c (now (records .entry))) 0) (answerBytes (entries 24 c (now (records .entry)))) (now (answer .entry)) ⌝ }
+    requires { ⌜ length (now answer) ≡ answerLength ⌝ }
+    ensures { λ r. ⌜ r ≡ number panelLimit c (now (records .entry)) ⌝ }
+    ensures { λ _. ⌜ now (answer .exit) ≡ cond (eqb (number panelLimit c (now (records .entry))) 0) (answerBytes (entries panelLimit c (now (records .entry)))) (now (answer .entry)) ⌝ }
 {
     let mut number: u32 = 0;
     let mut made: usize = 0;
@@ -292,10 +304,10 @@ fn fill_answer(c: Cutoffs, records: &[u8], answer: &mut [u8]) -> u32
 
 // The call with a lab's table: 1 for the lent length, 14 for the table, and then the answer to the records with its cutoffs.
 pub fn call_with(table: &[u8], records: &[u8], answer: &mut [u8]) -> u32
-    ensures { λ r. ⌜ r ≡ returned 24 (now (table .entry)) (now (records .entry)) (now (answer .entry)) ⌝ }
-    ensures { λ _. ⌜ now (answer .exit) ≡ written 24 (now (table .entry)) (now (records .entry)) (now (answer .entry)) ⌝ }
+    ensures { λ r. ⌜ r ≡ returned panelLimit (now (table .entry)) (now (records .entry)) (now (answer .entry)) ⌝ }
+    ensures { λ _. ⌜ now (answer .exit) ≡ written panelLimit (now (table .entry)) (now (records .entry)) (now (answer .entry)) ⌝ }
 {
-    if answer.len() != 168 {
+    if answer.len() != ANSWER_LENGTH {
         return 1;
     }
     if records_cutoffs::bad_table(table) {
@@ -306,19 +318,19 @@ pub fn call_with(table: &[u8], records: &[u8], answer: &mut [u8]) -> u32
 
 // The call without a table: the one with the built-in table, whose numbers are at hand.
 pub fn call(records: &[u8], answer: &mut [u8]) -> u32
-    ensures { λ r. ⌜ r ≡ returned 24 builtInTable (now (records .entry)) (now (answer .entry)) ⌝ }
-    ensures { λ _. ⌜ now (answer .exit) ≡ written 24 builtInTable (now (records .entry)) (now (answer .entry)) ⌝ }
+    ensures { λ r. ⌜ r ≡ returned panelLimit builtInTable (now (records .entry)) (now (answer .entry)) ⌝ }
+    ensures { λ _. ⌜ now (answer .exit) ≡ written panelLimit builtInTable (now (records .entry)) (now (answer .entry)) ⌝ }
 {
-    if answer.len() != 168 {
+    if answer.len() != ANSWER_LENGTH {
         return 1;
     }
     fill_answer(document_cutoffs(), records, answer)
 }
 
 // What `pulltest` prints of a file: its text from the front of `out`, whose other bytes stay, and the text's length.
-pub fn text(records: &[u8], out: &mut [u8; 512]) -> usize
-    ensures { λ r. ⌜ (r ≡ length (textOf (number 24 documentCutoffs (now (records .entry))) (entries 24 documentCutoffs (now (records .entry))))) × (r ≤ 512) ⌝ }
-    ensures { λ r. ⌜ now (out .exit) ≡ sets (now (out .entry)) 0 (textOf (number 24 documentCutoffs (now (records .entry))) (entries 24 documentCutoffs (now (records .entry)))) ⌝ }
+pub fn text(records: &[u8], out: &mut [u8; TEXT_ROOM]) -> usize
+    ensures { λ r. ⌜ (r ≡ length (textOf (number panelLimit documentCutoffs (now (records .entry))) (entries panelLimit documentCutoffs (now (records .entry))))) × (r ≤ textRoom) ⌝ }
+    ensures { λ r. ⌜ now (out .exit) ≡ sets (now (out .entry)) 0 (textOf (number panelLimit documentCutoffs (now (records .entry))) (entries panelLimit documentCutoffs (now (records .entry)))) ⌝ }
 {
     let mut number: u32 = 0;
     let mut made: usize = 0;

@@ -2,7 +2,7 @@
 use Prim.Native.Nat.{ℕ}
 use mathlib.Core.Path.{_≡_, sym, ap, _∙_}
 use Rattle.records.specs.declared.Kind.{Kind}
-use Rattle.records.specs.Kinds.{Table, kindAt}
+use Rattle.records.specs.format.Kinds.{Table, kindAt}
 
 -- the kind of the record and what the table says of it
 pub record Known (t : Table) (kind l : ℕ) (k : Kind) : Type 0 where

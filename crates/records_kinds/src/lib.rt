@@ -1,7 +1,7 @@
-// The tables of kinds, as code: what sizes leave each kind, and what a field may hold. File 0 is a Kenward and Roger series, 1 a Satterthwaite test, 2 an archive, any other the second file that is lent with one.
+// The tables of kinds, as code: what sizes leave each kind, and what a field may hold, for any of the four files (`Shape`).
 ghost use mathlib.Core.Path.{_≡_};
 ghost use mathlib.Core.Bool.{cond};
-ghost use Rattle.records.specs.Kinds.{holds, width, indexOf, valueHolds, byRowAndColumn, byRow, byCount, alone, absentIsZero, byBlock, unread, kindAt, kenwardRogerKinds, satterthwaiteKinds, archiveKinds, testKinds, kindsOf, limits};
+ghost use Rattle.records.specs.format.Kinds.{holds, width, indexOf, valueHolds, byRowAndColumn, byRow, byCount, alone, absentIsZero, byBlock, unread, kindAt, kenwardRogerKinds, satterthwaiteKinds, archiveKinds, testKinds, kindsOf, limits};
 use records::Field;
 use records::Kind;
 use records::Shape;
@@ -219,7 +219,7 @@ fn test_kind(z: Sizes, kind: u8) -> Kind
 }
 
 // What the sizes leave a kind of the file.
-pub fn kind_of(call: Shape, z: Sizes, kind: u8) -> Kind
+pub fn kind_at(call: Shape, z: Sizes, kind: u8) -> Kind
     ensures { λ r. ⌜ r ≡ kindAt (kindsOf call z) kind ⌝ }
 {
     match call {

@@ -3,20 +3,20 @@ ghost use mathlib.Core.Path.{_≡_};
 ghost use mathlib.Core.Bool.{not, _||_};
 ghost use lib.Dec.{eqb};
 ghost use Prim.Native.Nat.{_<_};
-ghost use Rattle.records.specs.Scan.{any};
-ghost use Rattle.records.specs.Kinds.{kindsOf, valueHolds};
-ghost use Rattle.records.specs.File.{count, paddingOf, bitsOf, outOf, badRecord, beyond};
+ghost use Rattle.records.specs.format.Scan.{any};
+ghost use Rattle.records.specs.format.Kinds.{kindsOf, valueHolds};
+ghost use Rattle.records.specs.format.File.{count, paddingOf, bitsOf, outOf, badRecord, beyond};
 use records::Kind;
 use records::Shape;
 use records::Sizes;
 use records_file::bits_at;
 use records_file::column_at;
 use records_file::count_at;
-use records_file::kind_at;
+use records_file::kind_of;
 use records_file::padding_at;
 use records_file::row_at;
 use records_kinds::holds;
-use records_kinds::kind_of;
+use records_kinds::kind_at;
 
 // Record i lies outside what a kind has.
 fn out_of(k: Kind, s: &[u8], i: usize) -> bool
@@ -57,13 +57,13 @@ pub fn any_bad(call: Shape, limit: Sizes, s: &[u8]) -> bool
 {
     let n = s.len() / 16;
     let mut last: u8 = 0;
-    let mut k = kind_of(call, limit, 0);
+    let mut k = kind_at(call, limit, 0);
     let mut i = 0;
     while i < n {
-        let kind = kind_at(s, i);
+        let kind = kind_of(s, i);
         if kind != last {
             last = kind;
-            k = kind_of(call, limit, kind);
+            k = kind_at(call, limit, kind);
         }
         if bad_record(k, s, i) {
             return true;
@@ -79,13 +79,13 @@ pub fn any_beyond(call: Shape, z: Sizes, s: &[u8]) -> bool
 {
     let n = s.len() / 16;
     let mut last: u8 = 0;
-    let mut k = kind_of(call, z, 0);
+    let mut k = kind_at(call, z, 0);
     let mut i = 0;
     while i < n {
-        let kind = kind_at(s, i);
+        let kind = kind_of(s, i);
         if kind != last {
             last = kind;
-            k = kind_of(call, z, kind);
+            k = kind_at(call, z, kind);
         }
         if out_of(k, s, i) {
             return true;

@@ -6,7 +6,7 @@ use mathlib.Core.Path.{_≡_, refl, sym, ap, _∙_}
 use mathlib.Core.List.{List, _++_}
 use lib.ListN.{length}
 use lib.Seq.{getD-append-add}
-use Rattle.records.specs.Bytes.{byte, word, long, bytesOf}
+use Rattle.records.specs.format.Bytes.{byte, word, long, bytesOf}
 
 pub length-bytes : (w : ℕ) → length (bytesOf 8 w) ≡ 8
 unfolding bytesOf

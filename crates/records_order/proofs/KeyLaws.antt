@@ -8,11 +8,11 @@ use mathlib.Core.Bool.{Bool, true, false, not, _||_, cond}
 use mathlib.Core.List.{List}
 use lib.Dec.{ltb}
 use borrow.Author.Tests.{lt-ltb, le-ltb}
-use Rattle.records.specs.Bytes.{byte, word}
-use Rattle.records.specs.Scan.{any}
-use Rattle.records.specs.File.{count, kindOf, rowOf, columnOf, countOf}
-use Rattle.records.specs.Order.{numbersMatrix, matrixOf, standsBefore, falls}
-use Rattle.records.proofs.InOrder.{by-digits}
+use Rattle.records.specs.format.Bytes.{byte, word}
+use Rattle.records.specs.format.Scan.{any}
+use Rattle.records.specs.format.File.{count, kindOf, rowOf, columnOf, countOf}
+use Rattle.records.specs.format.Order.{numbersMatrix, matrixOf, standsBefore, falls}
+use Rattle.records.proofs.format.InOrder.{by-digits}
 use Rattle.records_order.specs.joints.Keys.{keyOf, leastKey, fallsAt}
 
 -- ---- a pass over the records, with the key of the record at hand and the least that it may have

@@ -1,12 +1,12 @@
 // Whether the records of a file rise: by kind, then by the count where it numbers a matrix, then row and column. One pass, with one comparison of whole numbers for a pair.
 ghost use mathlib.Core.Path.{_≡_};
 ghost use Prim.Native.Nat.{_<_};
-ghost use Rattle.records.specs.File.{count, kindOf};
-ghost use Rattle.records.specs.Order.{numbersMatrix, matrixOf, falls};
+ghost use Rattle.records.specs.format.File.{count, kindOf};
+ghost use Rattle.records.specs.format.Order.{numbersMatrix, matrixOf, falls};
 ghost use Rattle.records_order.specs.joints.Keys.{keyOf};
 use records_file::column_at;
 use records_file::count_at;
-use records_file::kind_at;
+use records_file::kind_of;
 use records_file::row_at;
 
 // A kind's count numbers a matrix.
@@ -21,7 +21,7 @@ fn matrix_at(s: &[u8], i: usize) -> usize
     requires { ⌜ i < count (now s) ⌝ }
     ensures { λ r. ⌜ (r ≡ matrixOf (now (s .entry)) i) × (r < 4294967296) ⌝ }
 {
-    if numbers_matrix(records_file::index(kind_at(s, i))) {
+    if numbers_matrix(records_file::index(kind_of(s, i))) {
         return count_at(s, i);
     }
     0
@@ -39,7 +39,7 @@ pub fn key_at(s: &[u8], i: usize) -> u64
     requires { ⌜ i < count (now s) ⌝ }
     ensures { λ r. ⌜ (r ≡ keyOf (now (s .entry)) i) × (r < 72057594037927936) ⌝ }
 {
-    let kind = key_part(records_file::index(kind_at(s, i)));
+    let kind = key_part(records_file::index(kind_of(s, i)));
     let matrix = key_part(matrix_at(s, i));
     let row = key_part(row_at(s, i));
     let column = key_part(column_at(s, i));

@@ -12,12 +12,12 @@ use lib.ListN.{length, set, take, drop, length-set, length-append, take-append-d
 use lib.Seq.{getD-set-same, getD-set-other, getD-append-add, getD-take, length-take-le}
 use borrow.Author.Tests.{le-leb, lt-leb, lt-ltb, le-ltb, eq-eqb, ne-eqb}
 use Rattle.algebra.proofs.FoldLaws.{length-span, span-at, span-other}
-use Rattle.records.specs.Bytes.{byte}
-use Rattle.records.specs.Scan.{any}
-use Rattle.records.specs.File.{count, kindOf, rowOf, columnOf, countOf}
-use Rattle.records.specs.Order.{matrixOf}
-use Rattle.records.proofs.ScanLaws.{any-more, any-same}
-use Rattle.records.proofs.WrittenLaws.{word-same}
+use Rattle.records.specs.format.Bytes.{byte}
+use Rattle.records.specs.format.Scan.{any}
+use Rattle.records.specs.format.File.{count, kindOf, rowOf, columnOf, countOf}
+use Rattle.records.specs.format.Order.{matrixOf}
+use Rattle.records.proofs.format.ScanLaws.{any-more, any-same}
+use Rattle.records.proofs.format.WrittenLaws.{word-same}
 use Rattle.records_order.specs.joints.Keys.{keyOf, leastKey, fallsAt}
 use Rattle.records_order.proofs.KeyLaws.{next-least}
 use Rattle.records_pieces.specs.declared.Arrival.{Arrival}

@@ -11,7 +11,7 @@ use lib.ListN.{length, set, take, length-set}
 use lib.Seq.{take-suc, take-length}
 use borrow.Author.Tests.{le-leb, lt-leb, eq-eqb, ne-eqb}
 use Rattle.algebra.proofs.FoldLaws.{length-span}
-use Rattle.records.specs.Bytes.{byte}
+use Rattle.records.specs.format.Bytes.{byte}
 use Rattle.records_order.specs.joints.Keys.{keyOf}
 use Rattle.records_pieces.specs.declared.Arrival.{Arrival}
 use Rattle.records_pieces.specs.joints.Arrived.{Arrived, arrivedAs, oneMore, keptOne, passedOne, withRecord, takeRecord, takeByte, fed, feds, joinedPieces, Open}

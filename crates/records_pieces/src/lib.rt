@@ -4,7 +4,7 @@ ghost use Prim.Native.Nat.{ℕ, _+_, _*_, _<_, _≤_};
 ghost use mathlib.Core.Bool.{_||_};
 ghost use lib.Dec.{ltb};
 ghost use lib.ListN.{length};
-ghost use Rattle.records.specs.Bytes.{byte};
+ghost use Rattle.records.specs.format.Bytes.{byte};
 ghost use Rattle.records_pieces.specs.joints.Arrived.{arrivedAs, nothingYet, withRecord, takeRecord, takeByte, fed, Open};
 use records_order::key_at;
 

@@ -10,16 +10,16 @@ use borrow.Author.Tests.{eq-eqb, eqb-true, eqb-false}
 use Rattle.algebra.specs.Reasons.{first}
 use Rattle.algebra.proofs.ReasonLaws.{Line, first-only}
 use Rattle.records.specs.declared.Sizes.{Sizes}
-use Rattle.records.specs.Scan.{any}
-use Rattle.records.specs.Kinds.{Table, kindsOf, kenwardRoger}
-use Rattle.records.specs.Cells.{slotCount}
-use Rattle.records.specs.File.{count, kindOf, cellRow, cellColumn, cellCount, isCell, again, beyond, lengthReasons, formReasons}
-use Rattle.records.specs.Order.{falls, orderReasons}
-use Rattle.records.specs.Reader.{limitKinds, fileKinds, formedNumber}
-use Rattle.records.specs.Series.{reader, sizes, refusal}
-use Rattle.records.proofs.ReaderLaws.{well-formed}
-use Rattle.records.proofs.ScanLaws.{any-none}
-use Rattle.records.proofs.Slots.{sized-inside, slot-cell}
+use Rattle.records.specs.format.Scan.{any}
+use Rattle.records.specs.format.Kinds.{Table, kindsOf, kenwardRoger}
+use Rattle.records.specs.format.Cells.{slotCount}
+use Rattle.records.specs.format.File.{count, kindOf, cellRow, cellColumn, cellCount, isCell, again, beyond, lengthReasons, formReasons}
+use Rattle.records.specs.format.Order.{falls, orderReasons}
+use Rattle.records.specs.readers.Reader.{limitKinds, fileKinds, formedNumber}
+use Rattle.records.specs.readers.Series.{reader, sizes, refusal}
+use Rattle.records.proofs.readers.ReaderLaws.{well-formed}
+use Rattle.records.proofs.format.ScanLaws.{any-none}
+use Rattle.records.proofs.format.Slots.{sized-inside, slot-cell}
 use Rattle.records_sheet.specs.joints.Sheet.{slotOf}
 use Rattle.records_sheet.proofs.Sheets.{slot-of-fits}
 use Rattle.records_form.proofs.FormLaws.{sizes-fit}

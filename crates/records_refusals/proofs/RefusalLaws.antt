@@ -14,17 +14,17 @@ use Rattle.algebra.proofs.ReasonLaws.{passed}
 use Rattle.adjustment.specs.declared.Block.{Block}
 use Rattle.adjustment.specs.Blocks.{noBlock}
 use Rattle.records.specs.declared.Sizes.{Sizes}
-use Rattle.records.specs.Scan.{any}
-use Rattle.records.specs.Kinds.{width, Table, kindAt, kindsOf, kenwardRogerKinds, limits}
-use Rattle.records.specs.Cells.{firstSlot, slotCount}
-use Rattle.records.specs.File.{count, beyond, notFinite, present}
-use Rattle.records.specs.Reader.{formedNumber}
-use Rattle.records.specs.Shortened.{torn, allTorn, keptSpecimens}
-use Rattle.records.specs.Series.{reader, specimens, coefficients, blockCount, sizes, cellValue, sigma2, blockOf, asSent, miscounted, badSize, badWeight, misfit, zeroContrast, blockReasons, sizeReasons, valueReasons, reasons, refusal}
-use Rattle.records.proofs.ScanLaws.{any-same, any-hit}
-use Rattle.records.proofs.KeptLaws.{kept-same}
-use Rattle.records.proofs.ShortLaws.{torn-is}
-use Rattle.records.proofs.ReaderLaws.{reader-is, form-refuses, own-decides, accepted-formed, accepted-own}
+use Rattle.records.specs.format.Scan.{any}
+use Rattle.records.specs.format.Kinds.{width, Table, kindAt, kindsOf, kenwardRogerKinds, limits}
+use Rattle.records.specs.format.Cells.{firstSlot, slotCount}
+use Rattle.records.specs.format.File.{count, beyond, notFinite, present}
+use Rattle.records.specs.readers.Reader.{formedNumber}
+use Rattle.records.specs.readers.Shortened.{torn, allTorn, keptSpecimens}
+use Rattle.records.specs.readers.Series.{reader, specimens, coefficients, blockCount, sizes, cellValue, sigma2, blockOf, asSent, miscounted, badSize, badWeight, misfit, zeroContrast, blockReasons, sizeReasons, valueReasons, reasons, refusal}
+use Rattle.records.proofs.format.ScanLaws.{any-same, any-hit}
+use Rattle.records.proofs.readers.KeptLaws.{kept-same}
+use Rattle.records.proofs.readers.ShortLaws.{torn-is}
+use Rattle.records.proofs.readers.ReaderLaws.{reader-is, form-refuses, own-decides, accepted-formed, accepted-own}
 use Rattle.records_sheet.specs.joints.Sheet.{firstSlots, sheetAfter}
 use Rattle.records_sheet.proofs.Sheets.{firsts-at, ends-within}
 use Rattle.records_sheet_parts.proofs.Read.{Flat, flat-slots, line-cell, alone-cell}

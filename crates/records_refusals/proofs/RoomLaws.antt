@@ -7,14 +7,14 @@ use mathlib.Core.List.{List}
 use lib.ListN.{length}
 use lib.Ieee.{Float}
 use Rattle.records.specs.declared.Sizes.{Sizes}
-use Rattle.records.specs.Kinds.{kindsOf, kindNumbers, kenwardRogerKinds, kenwardRoger, limits}
-use Rattle.records.specs.Cells.{slotCount}
-use Rattle.records.specs.File.{count}
-use Rattle.records.specs.Shortened.{keptSpecimens}
-use Rattle.records.specs.Series.{refusal, sizes, kinds, asSent, design}
-use Rattle.records.proofs.AcceptedSeries.{accepted-series}
-use Rattle.records.proofs.Limits.{Below, series-below, fewer-slots}
-use Rattle.records.proofs.ShortLaws.{short-n}
+use Rattle.records.specs.format.Kinds.{kindsOf, kindNumbers, kenwardRogerKinds, kenwardRoger, limits}
+use Rattle.records.specs.format.Cells.{slotCount}
+use Rattle.records.specs.format.File.{count}
+use Rattle.records.specs.readers.Shortened.{keptSpecimens}
+use Rattle.records.specs.readers.Series.{refusal, sizes, kinds, asSent, design}
+use Rattle.records.proofs.readers.AcceptedSeries.{accepted-series}
+use Rattle.records.proofs.readers.Limits.{Below, series-below, fewer-slots}
+use Rattle.records.proofs.readers.ShortLaws.{short-n}
 use Rattle.records_sheet.specs.joints.Sheet.{Small, firstSlots, sheetAfter}
 use Rattle.records_sheet.proofs.Sheets.{length-sheet, below-small}
 use Rattle.records_torn.specs.joints.Packed.{keptIn, shortSheet}

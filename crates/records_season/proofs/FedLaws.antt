@@ -15,15 +15,15 @@ use Rattle.arithmetic_cutoffs.specs.Cutoffs.{documentCutoffs}
 use Rattle.tests.specs.declared.Number.{Number}
 use Rattle.tests.specs.declared.Entry.{Entry}
 use Rattle.tests.specs.Answer.{noEntry}
-use Rattle.records.specs.Bytes.{byte}
-use Rattle.records.specs.Scan.{last}
-use Rattle.records.specs.File.{count}
-use Rattle.records.specs.KenwardRogerCall.{number, entries}
-use Rattle.records.specs.Text.{refusalText, textOf}
-use Rattle.records.specs.Season.{closes, begins, seriesBefore, seriesTo, seriesIn, leftOver, worst, latest, seriesLines, contrastF, fsOf, worstLine, closedText, textsTo, closedTexts, leftText, seasonText, printed, added}
-use Rattle.records.proofs.ScanLaws.{or-false}
-use Rattle.records.proofs.SeasonLaws.{closes-same, part-series, part-left, whole-series, whole-left, closed-series, closed-left, left-whole, left-length, left-byte, series-byte}
-use Rattle.records.proofs.SeasonTexts.{fs-are, texts-more, printed-grows, added-is, added-both, added-nothing}
+use Rattle.records.specs.format.Bytes.{byte}
+use Rattle.records.specs.format.Scan.{last}
+use Rattle.records.specs.format.File.{count}
+use Rattle.records.specs.calls.KenwardRogerCall.{number, entries}
+use Rattle.records.specs.text.Text.{refusalText, textOf}
+use Rattle.records.specs.text.Season.{closes, begins, seriesBefore, seriesTo, seriesIn, leftOver, worst, latest, seriesLines, contrastF, fsOf, worstLine, closedText, textsTo, closedTexts, leftText, seasonText, printed, added}
+use Rattle.records.proofs.format.ScanLaws.{or-false}
+use Rattle.records.proofs.text.SeasonLaws.{closes-same, part-series, part-left, whole-series, whole-left, closed-series, closed-left, left-whole, left-length, left-byte, series-byte}
+use Rattle.records.proofs.text.SeasonTexts.{fs-are, texts-more, printed-grows, added-is, added-both, added-nothing}
 use Rattle.records_answer_text.specs.joints.Cursor.{Put}
 use Rattle.records_answer_text.proofs.CursorLaws.{then, stay, named}
 use Rattle.records_answer_text.proofs.TextLaws.{getD-any}
@@ -31,9 +31,9 @@ use Rattle.records_pieces.specs.declared.Arrival.{Arrival}
 use Rattle.records_pieces.specs.joints.Arrived.{Arrived, arrivedAs, nothingYet, wholeOnes, takeByte, joinedPieces, Came}
 use Rattle.records_pieces.proofs.PieceLaws.{byte-length}
 use Rattle.records_pieces.proofs.CameLaws.{byte-came, wholes-came, nothing-came, joined-bytes}
-use Rattle.records_arrived.specs.joints.ArrivedCall.{arrivedNumber, arrivedEntries}
+use Rattle.records_arrived.specs.joints.ArrivedCall.{arrivedNumber, arrivedEntries, keptLength}
 use Rattle.records_arrived.proofs.ArrivedLaws.{arrived-number, arrived-entries}
-use Rattle.records_season.specs.joints.SeasonCame.{SeasonState, seasonOf, seasonAs, lastTwenty, withLatest, worstText, arrivedF, arrivedText, SeasonCame, SeasonArrives, Fed, addedBy}
+use Rattle.records_season.specs.joints.SeasonCame.{SeasonState, seasonOf, seasonAs, lastTwenty, withLatest, worstText, arrivedF, arrivedText, SeasonCame, SeasonArrives, Fed, addedBy, closedRoom}
 use Rattle.records_season.proofs.WindowCode.{window-empty}
 use Rattle.records_season.proofs.WindowLaws.{window-start, window-more, window-worst, map-more}
 
@@ -155,8 +155,8 @@ module _ (a : Arrival) (kept current : List ℕ) (window : List Number) (b : ℕ
 
   -- the sixteenth of a record that closes
   pub closing-fed : a .part ≡ 15 → closes (set current 15 b) 0 ≡ true → (window' : List Number) → window' ≡ withLatest (arrivedF (wholeOnes a) kept) window
-      → (out : List ℕ) (at : ℕ) (out' : List ℕ) (at' : ℕ) → Put 462 out at (arrivedText (wholeOnes a) kept window) out' at' → (after : Arrival) → after ≡ nothingYet
-      → Fed (b ∷ []) 462 before out at (seasonOf after kept (set current 15 b) window') out' at'
+      → (out : List ℕ) (at : ℕ) (out' : List ℕ) (at' : ℕ) → Put closedRoom out at (arrivedText (wholeOnes a) kept window) out' at' → (after : Arrival) → after ≡ nothingYet
+      → Fed (b ∷ []) closedRoom before out at (seasonOf after kept (set current 15 b) window') out' at'
   closing-fed e y window' w out at out' at' p after z = rw z (record {
     state = λ s k. closed-state s before k b small e (sym (closes-now s before k b small e) ∙ y) (set current 15 b) window' (length-set current 15 b ∙ k .unclosed .ready .sixteen) w;
     wrote = λ s k. named p (sym (closed-added s before k b small e (sym (closes-now s before k b small e) ∙ y))) (omega arith);
@@ -209,11 +209,11 @@ pub fed-more : (piece : List ℕ) (i : ℕ) {m n p : ℕ} {A B C : SeasonState} 
 fed-more piece i h e p q = rw (add-one, take-suc piece i 0 h, ← e) (fed-then p q)
 
 -- and all of it
-pub fed-all : (piece : List ℕ) (i p : ℕ) {A B : SeasonState} {o o' : List ℕ} {at at' : ℕ} → i ≡ length piece → Fed (take i piece) (462 * ((p + i) / 16)) A o at B o' at' → Fed piece (462 * ((p + length piece) / 16)) A o at B o' at'
+pub fed-all : (piece : List ℕ) (i p : ℕ) {A B : SeasonState} {o o' : List ℕ} {at at' : ℕ} → i ≡ length piece → Fed (take i piece) (closedRoom * ((p + i) / 16)) A o at B o' at' → Fed piece (closedRoom * ((p + length piece) / 16)) A o at B o' at'
 fed-all piece i p e f = rw (e, take-length piece) at f
 
 -- ---- some bytes came
-pub start-arrives : (a : Arrival) (kept current : List ℕ) (values : List Float) (given : List Bool) → a ≡ nothingYet → length kept ≡ 16384 → length current ≡ 16 → length values ≡ 20 → given ≡ replicate 20 false → SeasonArrives (seasonAs a kept current values given)
+pub start-arrives : (a : Arrival) (kept current : List ℕ) (values : List Float) (given : List Bool) → a ≡ nothingYet → length kept ≡ keptLength → length current ≡ 16 → length values ≡ 20 → given ≡ replicate 20 false → SeasonArrives (seasonAs a kept current values given)
 unfolding seriesIn leftOver seriesTo begins last
 start-arrives a kept current values given z h l v g = rw (z, g) (record { file = []; came = record { bytes = λ i. omega arith; room = h; unclosed = nothing-came kept current l; window = window-empty values 20 v ∙ window-start } })
 

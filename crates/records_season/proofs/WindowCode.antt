@@ -16,7 +16,7 @@ use Rattle.algebra.specs.Fold.{span}
 use Rattle.algebra.proofs.FoldLaws.{fold-next, length-span, span-at, span-other}
 use Rattle.tests.specs.declared.Number.{Number}
 use Rattle.tests.specs.declared.Number.the-variants.{Is, None}
-use Rattle.records.specs.Season.{worse, worstAfter, worst}
+use Rattle.records.specs.text.Season.{worse, worstAfter, worst}
 use Rattle.records_season.specs.joints.SeasonCame.{givenNumber, windowOf, withLatest}
 
 pub window-length : (vs : List Float) (gs : List Bool) → length vs ≡ length gs → length (windowOf vs gs) ≡ length vs

@@ -8,7 +8,7 @@ use lib.ListN.{length, drop, replicate, length-append, length-replicate, replica
 use lib.Seq.{drop-drop, drop-at, drop-append-le, drop-append-add}
 use Rattle.tests.specs.declared.Number.{Number}
 use Rattle.tests.specs.declared.Number.the-variants.{None}
-use Rattle.records.specs.Season.{worse, worstAfter, worst, latest}
+use Rattle.records.specs.text.Season.{worse, worstAfter, worst, latest}
 use Rattle.records_season.specs.joints.SeasonCame.{lastTwenty, withLatest}
 
 -- no series has been

@@ -8,11 +8,11 @@ ghost use lib.Dec.{eqb};
 ghost use lib.ListN.{length, replicate};
 ghost use lib.Ieee.{Float};
 ghost use Rattle.arithmetic_cutoffs.specs.Cutoffs.{documentCutoffs};
-ghost use Rattle.records.specs.Bytes.{byte};
-ghost use Rattle.records.specs.Scan.{any};
-ghost use Rattle.records.specs.Season.{closes, worse, worst, leftOver, leftText, added};
+ghost use Rattle.records.specs.format.Bytes.{byte};
+ghost use Rattle.records.specs.format.Scan.{any};
+ghost use Rattle.records.specs.text.Season.{closes, worse, worst, leftOver, leftText, added, latestCount};
 ghost use Rattle.records_answer_text.specs.joints.Cursor.{Put};
-ghost use Rattle.records_season.specs.joints.SeasonCame.{seasonAs, givenNumber, windowOf, withLatest, worstText, arrivedF, arrivedText, SeasonCame, SeasonArrives, Fed};
+ghost use Rattle.records_season.specs.joints.SeasonCame.{seasonAs, givenNumber, windowOf, withLatest, worstText, arrivedF, arrivedText, SeasonCame, SeasonArrives, Fed, closedRoom};
 use records_answer_text::put_number;
 use records_answer_text::put_refusal;
 use records_answer_text::put_run;
@@ -21,6 +21,13 @@ use records_arrived::judge_arrived;
 use records_pieces::Arrival;
 use records_pieces::nothing_yet;
 use tests::Number;
+
+// The latest series whose F's are kept, and all of them but the last; and what a piece of 4,096 bytes can add to the text, which closes 256 series at most.
+pub const LATEST_COUNT: usize = 20;
+
+const EARLIER_COUNT: usize = 19;
+
+pub const PIECE_ROOM: usize = 118272;
 
 // One of the fifteen bytes after a record's kind is set.
 fn other_byte_set(bytes: &[u8]) -> bool
@@ -73,11 +80,11 @@ fn given_number(x: f64, given: bool) -> Number
 
 // The worst of twenty, the oldest first.
 fn worst_of(values: &[f64], given: &[bool]) -> Number
-    requires { ⌜ (length (now values) ≡ 20) × (length (now given) ≡ 20) ⌝ }
+    requires { ⌜ (length (now values) ≡ latestCount) × (length (now given) ≡ latestCount) ⌝ }
     ensures { λ r. ⌜ r ≡ worst (windowOf (now (values .entry)) (now (given .entry))) ⌝ }
 {
     let mut w = Number::None;
-    for i in 0..20usize {
+    for i in 0..LATEST_COUNT {
         let f = given_number(values[i], given[i]);
         let next = worse(w, f);
         w = next;
@@ -87,21 +94,21 @@ fn worst_of(values: &[f64], given: &[bool]) -> Number
 
 // One more after twenty: the oldest goes.
 fn shift(values: &mut [f64], given: &mut [bool], x: f64, is_given: bool)
-    requires { ⌜ (length (now values) ≡ 20) × (length (now given) ≡ 20) ⌝ }
+    requires { ⌜ (length (now values) ≡ latestCount) × (length (now given) ≡ latestCount) ⌝ }
     ensures { λ r. ⌜ now (values .exit) ≡ withLatest x (now (values .entry)) ⌝ }
     ensures { λ r. ⌜ now (given .exit) ≡ withLatest «is_given» (now (given .entry)) ⌝ }
 {
-    for i in 0..19usize {
+    for i in 0..EARLIER_COUNT {
         values[i] = values[i + 1];
         given[i] = given[i + 1];
     }
-    values[19] = x;
-    given[19] = is_given;
+    values[EARLIER_COUNT] = x;
+    given[EARLIER_COUNT] = is_given;
 }
 
 // One more F.
 fn keep_latest(values: &mut [f64], given: &mut [bool], f: Number)
-    requires { ⌜ (length (now values) ≡ 20) × (length (now given) ≡ 20) ⌝ }
+    requires { ⌜ (length (now values) ≡ latestCount) × (length (now given) ≡ latestCount) ⌝ }
     ensures { λ r. ⌜ windowOf (now (values .exit)) (now (given .exit)) ≡ withLatest f (windowOf (now (values .entry)) (now (given .entry))) ⌝ }
 {
     match f {
@@ -129,10 +136,10 @@ fn close_series(
     out: &mut [u8],
     at: usize,
 ) -> usize
-    requires { ⌜ (length (now values) ≡ 20) × (length (now given) ≡ 20) ⌝ }
-    requires { ⌜ (16 * a .records ≤ length (now kept)) × (at + 462 ≤ length (now out)) ⌝ }
+    requires { ⌜ (length (now values) ≡ latestCount) × (length (now given) ≡ latestCount) ⌝ }
+    requires { ⌜ (16 * a .records ≤ length (now kept)) × (at + closedRoom ≤ length (now out)) ⌝ }
     ensures { λ r. ⌜ windowOf (now (values .exit)) (now (given .exit)) ≡ withLatest (arrivedF a (now (kept .entry))) (windowOf (now (values .entry)) (now (given .entry))) ⌝ }
-    ensures { λ r. ⌜ Put 462 (now (out .entry)) at (arrivedText a (now (kept .entry)) (windowOf (now (values .entry)) (now (given .entry)))) (now (out .exit)) r ⌝ }
+    ensures { λ r. ⌜ Put closedRoom (now (out .entry)) at (arrivedText a (now (kept .entry)) (windowOf (now (values .entry)) (now (given .entry)))) (now (out .exit)) r ⌝ }
 {
     let mut number: u32 = 0;
     let es = judge_arrived(a, kept, &mut number);
@@ -158,9 +165,9 @@ fn take_last_byte(
     out: &mut [u8],
     at: &mut usize,
 ) -> Arrival
-    requires { ⌜ (length (now values) ≡ 20) × (length (now given) ≡ 20) ⌝ }
-    requires { ⌜ SeasonArrives (seasonAs a (now kept) (now current) (now values) (now given)) × (a .part ≡ 15) × (now at + 462 ≤ length (now out)) ⌝ }
-    ensures { λ r. ⌜ Fed (b ∷ []) 462 (seasonAs a (now (kept .entry)) (now (current .entry)) (now (values .entry)) (now (given .entry))) (now (out .entry)) (now (at .entry)) (seasonAs r (now (kept .exit)) (now (current .exit)) (now (values .exit)) (now (given .exit))) (now (out .exit)) (now (at .exit)) ⌝ }
+    requires { ⌜ (length (now values) ≡ latestCount) × (length (now given) ≡ latestCount) ⌝ }
+    requires { ⌜ SeasonArrives (seasonAs a (now kept) (now current) (now values) (now given)) × (a .part ≡ 15) × (now at + closedRoom ≤ length (now out)) ⌝ }
+    ensures { λ r. ⌜ Fed (b ∷ []) closedRoom (seasonAs a (now (kept .entry)) (now (current .entry)) (now (values .entry)) (now (given .entry))) (now (out .entry)) (now (at .entry)) (seasonAs r (now (kept .exit)) (now (current .exit)) (now (values .exit)) (now (given .exit))) (now (out .exit)) (now (at .exit)) ⌝ }
 {
     current[15] = b;
     if closes(&current[..]) {
@@ -189,9 +196,9 @@ fn take_byte(
     out: &mut [u8],
     at: &mut usize,
 ) -> Arrival
-    requires { ⌜ (length (now values) ≡ 20) × (length (now given) ≡ 20) ⌝ }
-    requires { ⌜ SeasonArrives (seasonAs a (now kept) (now current) (now values) (now given)) × (now at + 462 * ((a .part + 1) / 16) ≤ length (now out)) ⌝ }
-    ensures { λ r. ⌜ Fed (b ∷ []) (462 * ((a .part + 1) / 16)) (seasonAs a (now (kept .entry)) (now (current .entry)) (now (values .entry)) (now (given .entry))) (now (out .entry)) (now (at .entry)) (seasonAs r (now (kept .exit)) (now (current .exit)) (now (values .exit)) (now (given .exit))) (now (out .exit)) (now (at .exit)) ⌝ }
+    requires { ⌜ (length (now values) ≡ latestCount) × (length (now given) ≡ latestCount) ⌝ }
+    requires { ⌜ SeasonArrives (seasonAs a (now kept) (now current) (now values) (now given)) × (now at + closedRoom * ((a .part + 1) / 16) ≤ length (now out)) ⌝ }
+    ensures { λ r. ⌜ Fed (b ∷ []) (closedRoom * ((a .part + 1) / 16)) (seasonAs a (now (kept .entry)) (now (current .entry)) (now (values .entry)) (now (given .entry))) (now (out .entry)) (now (at .entry)) (seasonAs r (now (kept .exit)) (now (current .exit)) (now (values .exit)) (now (given .exit))) (now (out .exit)) (now (at .exit)) ⌝ }
 {
     if a.part == 15 {
         return take_last_byte(a, b, kept, current, values, given, out, at);
@@ -199,7 +206,7 @@ fn take_byte(
     records_pieces::take_byte(a, b, kept, current)
 }
 
-// One more piece, of any length: what it adds to the text stands from the front of `out`, and `written` is its length. A series adds 462 bytes at most, the lines of six coefficients, of the contrast and of the worst, and
+// One more piece, of any length: what it adds to the text stands from the front of `out`, and `written` is its length. A series adds `closedRoom` bytes at most, the lines of six coefficients, of the contrast and of the worst, and
 // needs a record's sixteenth byte.
 pub fn feed(
     a: Arrival,
@@ -211,9 +218,9 @@ pub fn feed(
     out: &mut [u8],
     written: &mut usize,
 ) -> Arrival
-    requires { ⌜ (length (now values) ≡ 20) × (length (now given) ≡ 20) ⌝ }
-    requires { ⌜ SeasonArrives (seasonAs a (now kept) (now current) (now values) (now given)) × (462 * ((a .part + length (now piece)) / 16) ≤ length (now out)) ⌝ }
-    ensures { λ r. ⌜ Fed (now (piece .entry)) (462 * ((a .part + length (now (piece .entry))) / 16)) (seasonAs a (now (kept .entry)) (now (current .entry)) (now (values .entry)) (now (given .entry))) (now (out .entry)) 0 (seasonAs r (now (kept .exit)) (now (current .exit)) (now (values .exit)) (now (given .exit))) (now (out .exit)) (now (written .exit)) ⌝ }
+    requires { ⌜ (length (now values) ≡ latestCount) × (length (now given) ≡ latestCount) ⌝ }
+    requires { ⌜ SeasonArrives (seasonAs a (now kept) (now current) (now values) (now given)) × (closedRoom * ((a .part + length (now piece)) / 16) ≤ length (now out)) ⌝ }
+    ensures { λ r. ⌜ Fed (now (piece .entry)) (closedRoom * ((a .part + length (now (piece .entry))) / 16)) (seasonAs a (now (kept .entry)) (now (current .entry)) (now (values .entry)) (now (given .entry))) (now (out .entry)) 0 (seasonAs r (now (kept .exit)) (now (current .exit)) (now (values .exit)) (now (given .exit))) (now (out .exit)) (now (written .exit)) ⌝ }
     ensures { λ r. ⌜ now (written .exit) ≤ length (now (out .entry)) ⌝ }
 {
     *written = 0;

@@ -11,13 +11,13 @@ use borrow.Author.Tests.{eq-eqb, eqb-true, ne-eqb, not-false}
 use Rattle.algebra.specs.Reasons.{first}
 use Rattle.algebra.proofs.ReasonLaws.{passed}
 use Rattle.records.specs.declared.Sizes.{Sizes}
-use Rattle.records.specs.Scan.{any}
-use Rattle.records.specs.Kinds.{width, kindAt, kindsOf, testKinds}
-use Rattle.records.specs.Cells.{firstSlot, slotCount}
-use Rattle.records.specs.File.{count, beyond, notFinite}
-use Rattle.records.specs.Reader.{formedNumber}
-use Rattle.records.specs.SecondFile.{reader, coefficients, sizes, zeroContrast, formedFor, valueReasons, reasons, refusal}
-use Rattle.records.proofs.ReaderLaws.{own-decides, accepted-formed, accepted-own}
+use Rattle.records.specs.format.Scan.{any}
+use Rattle.records.specs.format.Kinds.{width, kindAt, kindsOf, testKinds}
+use Rattle.records.specs.format.Cells.{firstSlot, slotCount}
+use Rattle.records.specs.format.File.{count, beyond, notFinite}
+use Rattle.records.specs.readers.Reader.{formedNumber}
+use Rattle.records.specs.readers.SecondFile.{reader, coefficients, sizes, zeroContrast, formedFor, valueReasons, reasons, refusal}
+use Rattle.records.proofs.readers.ReaderLaws.{own-decides, accepted-formed, accepted-own}
 use Rattle.records_sheet.specs.joints.Sheet.{firstSlots, sheetAfter}
 use Rattle.records_sheet_parts.proofs.Read.{Flat, kind-starts, kind-fits}
 use Rattle.records_contrast.specs.joints.Contrast.{zeroContrastIn}

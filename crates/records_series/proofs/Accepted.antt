@@ -6,14 +6,14 @@ use mathlib.Core.List.{List}
 use native.Mathlib.Omega.{arith}
 use lib.Dec.{eqb, ltb}
 use borrow.Author.Tests.{eqb-true, eqb-false, ltb-false, not-false}
-use Rattle.records.specs.Scan.{any, total}
-use Rattle.records.specs.Kinds as table
-use Rattle.records.specs.Shortened.{shortened}
-use Rattle.records.specs.Series.{specimens, coefficients, zColumns, blockCount, thetas, contrastRows, blockOf, asSent, design, sizes, badSize, misfit}
+use Rattle.records.specs.format.Scan.{any, total}
+use Rattle.records.specs.format.Kinds as table
+use Rattle.records.specs.readers.Shortened.{shortened}
+use Rattle.records.specs.readers.Series.{specimens, coefficients, zColumns, blockCount, thetas, contrastRows, blockOf, asSent, design, sizes, badSize, misfit}
 use Rattle.adjustment.specs.Blocks.{places, noBlock, blockAt, columnsBefore, placesBefore}
-use Rattle.records.proofs.ScanLaws.{or-false, any-none, fold-total}
-use Rattle.records.proofs.Limits.{series-below}
-use Rattle.records.proofs.AcceptedSeries.{AcceptedSeries}
+use Rattle.records.proofs.format.ScanLaws.{or-false, any-none, fold-total}
+use Rattle.records.proofs.readers.Limits.{series-below}
+use Rattle.records.proofs.readers.AcceptedSeries.{AcceptedSeries}
 use mathlib.Core.Logic.{_⊎_, inl, inr, ⊎-elim}
 use Rattle.algebra.specs.Table.{row}
 use Rattle.algebra.proofs.FoldLaws.{fold-ext}

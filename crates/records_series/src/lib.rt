@@ -3,16 +3,16 @@ ghost use mathlib.Core.Path.{_≡_};
 ghost use Prim.Native.Nat.{ℕ, _≤_, _<_};
 ghost use Rattle.algebra.specs.Table.{row};
 ghost use Rattle.adjustment.specs.Blocks.{noBlock, blockAt};
-ghost use Rattle.records.specs.Scan.{any};
-ghost use Rattle.records.specs.File.{count, isCell};
-ghost use Rattle.records.specs.Series.{kinds, blockOf, miscounted};
+ghost use Rattle.records.specs.format.Scan.{any};
+ghost use Rattle.records.specs.format.File.{count, isCell};
+ghost use Rattle.records.specs.readers.Series.{kinds, blockOf, miscounted};
 
 // Record i is of block b.
 fn is_block(s: &[u8], b: usize, i: usize) -> bool
     requires { ⌜ i < count (now s) ⌝ }
     ensures { λ r. ⌜ r ≡ isCell (kinds (now (s .entry))) (now (s .entry)) 3 0 b 0 i ⌝ }
 {
-    if records_file::kind_at(s, i) != 3 {
+    if records_file::kind_of(s, i) != 3 {
         return false;
     }
     records_file::row_at(s, i) == b
@@ -79,7 +79,7 @@ fn miscounted(s: &[u8], i: usize) -> bool
     requires { ⌜ i < count (now s) ⌝ }
     ensures { λ r. ⌜ r ≡ miscounted (now (s .entry)) i ⌝ }
 {
-    if records_file::kind_at(s, i) != 3 {
+    if records_file::kind_of(s, i) != 3 {
         return false;
     }
     let k = records_file::column_at(s, i);

@@ -11,11 +11,11 @@ use Rattle.algebra.specs.Table.{row}
 use Rattle.algebra.proofs.FoldLaws.{fold-more}
 use Rattle.records.specs.declared.Kind.{Kind}
 use Rattle.records.specs.declared.Sizes.{Sizes}
-use Rattle.records.specs.Scan.{total}
-use Rattle.records.specs.Kinds.{width, Table, kindAt, byRowAndColumn, byCount, kindsOf, kenwardRogerKinds, satterthwaiteKinds, archiveKinds, testKinds}
-use Rattle.records.specs.Cells.{slots, firstSlot}
-use Rattle.records.proofs.ScanLaws.{total-more}
-use Rattle.records.proofs.Limits.{AllNumbered, each-numbered, each-file}
+use Rattle.records.specs.format.Scan.{total}
+use Rattle.records.specs.format.Kinds.{width, Table, kindAt, byRowAndColumn, byCount, kindsOf, kenwardRogerKinds, satterthwaiteKinds, archiveKinds, testKinds}
+use Rattle.records.specs.format.Cells.{slots, firstSlot}
+use Rattle.records.proofs.format.ScanLaws.{total-more}
+use Rattle.records.proofs.readers.Limits.{AllNumbered, each-numbered, each-file}
 use Rattle.records_sheet.specs.joints.Sheet.{Small}
 use Rattle.records.specs.declared.Shape.{Shape}
 

@@ -7,11 +7,11 @@ use native.Mathlib.Omega.{arith}
 use lib.ListN.{getD}
 use Rattle.records.specs.declared.Kind.{Kind}
 use Rattle.records.specs.declared.Sizes.{Sizes}
-use Rattle.records.specs.Kinds.{indexOf, Table, kindsOf, kindNumbers}
-use Rattle.records.specs.Cells.{firstSlot, slotCount, offset, slot}
-use Rattle.records.specs.File.{kindOf, rowOf, columnOf, countOf, outOf, beyond}
-use Rattle.records.proofs.Slots.{sized-inside, slot-below}
-use Rattle.records.proofs.Limits.{kind-below}
+use Rattle.records.specs.format.Kinds.{indexOf, Table, kindsOf, kindNumbers}
+use Rattle.records.specs.format.Cells.{firstSlot, slotCount, offset, slot}
+use Rattle.records.specs.format.File.{kindOf, rowOf, columnOf, countOf, outOf, beyond}
+use Rattle.records.proofs.format.Slots.{sized-inside, slot-below}
+use Rattle.records.proofs.readers.Limits.{kind-below}
 use Rattle.records_kinds.proofs.KnownKind.{Known}
 use Rattle.records_sheet.specs.joints.Sheet.{Small, firstSlots, slotOf}
 use Rattle.records_sheet.proofs.Sheets.{firsts-at}

@@ -17,14 +17,14 @@ use Rattle.algebra.proofs.FoldLaws.{fold-more, fold-start, fold-keeps, fold-ste
 use Rattle.algebra.proofs.TableLaws.{row-at}
 use Rattle.records.specs.declared.Kind.{Kind}
 use Rattle.records.specs.declared.Sizes.{Sizes}
-use Rattle.records.specs.Scan.{any, last}
-use Rattle.records.specs.Kinds.{width, Table, kindAt, kindsOf, kindNumbers, limits}
-use Rattle.records.specs.Cells.{slots, firstSlot, slotCount, slot}
-use Rattle.records.specs.File.{count, kindOf, cellRow, cellColumn, cellCount, valueOf, beyond, isCell, again, has, cell, missing}
+use Rattle.records.specs.format.Scan.{any, last}
+use Rattle.records.specs.format.Kinds.{width, Table, kindAt, kindsOf, kindNumbers, limits}
+use Rattle.records.specs.format.Cells.{slots, firstSlot, slotCount, slot}
+use Rattle.records.specs.format.File.{count, kindOf, cellRow, cellColumn, cellCount, valueOf, beyond, isCell, again, has, cell, missing}
 use Rattle.records_sheet.specs.joints.Sheet.{Small, firstSlots, slotOf, flagsAfter, sheetAfter, gap, missingIn}
-use Rattle.records.proofs.ScanLaws.{or-true, any-none, any-same, last-more, last-same, total-more, total-le}
-use Rattle.records.proofs.Slots.{Inside, sized-inside, slot-below, slot-cell, any-cells}
-use Rattle.records.proofs.Limits.{Below, kind-below}
+use Rattle.records.proofs.format.ScanLaws.{or-true, any-none, any-same, last-more, last-same, total-more, total-le}
+use Rattle.records.proofs.format.Slots.{Inside, sized-inside, slot-below, slot-cell, any-cells}
+use Rattle.records.proofs.readers.Limits.{Below, kind-below}
 use Rattle.records.specs.declared.Shape.{Shape}
 
 -- ---- a list into which each record stores a value at a place: what the last that stored at j stored there

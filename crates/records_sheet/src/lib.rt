@@ -1,25 +1,24 @@
-// A slot for each cell that a file's sizes leave its kinds: the cells that a file names twice, those that it names and those that it misses, and the number in each. File 0 is a Kenward and Roger series, 1 a Satterthwaite
-// test, 2 an archive, any other the second file that is lent with one.
+// A slot for each cell that a file's sizes leave its kinds: the cells that a file names twice, those that it names and those that it misses, and the number in each. A file is any of the four (`Shape`).
 ghost use mathlib.Core.Path.{_≡_};
 ghost use mathlib.Core.Bool.{false};
 ghost use Prim.Native.Nat.{_+_, _≤_, _<_};
 ghost use lib.ListN.{length, replicate};
 ghost use Rattle.arithmetic.specs.Numbers.{plusZero};
-ghost use Rattle.records.specs.Scan.{any};
-ghost use Rattle.records.specs.Kinds.{width, indexOf, kindsOf, kindNumbers};
-ghost use Rattle.records.specs.Cells.{slots, slotCount, offset};
-ghost use Rattle.records.specs.File.{count, rowOf, columnOf, countOf, outOf, beyond, again};
+ghost use Rattle.records.specs.format.Scan.{any};
+ghost use Rattle.records.specs.format.Kinds.{width, indexOf, kindsOf, kindNumbers};
+ghost use Rattle.records.specs.format.Cells.{slots, slotCount, offset};
+ghost use Rattle.records.specs.format.File.{count, rowOf, columnOf, countOf, outOf, beyond, again};
 ghost use Rattle.records_sheet.specs.joints.Sheet.{Small, firstSlots, flagsAfter, sheetAfter, gap, missingIn};
 use records::Kind;
 use records::Shape;
 use records::Sizes;
 use records_file::column_at;
 use records_file::count_at;
-use records_file::kind_at;
+use records_file::kind_of;
 use records_file::row_at;
 use records_file::value_at;
 use records_kinds::index_of;
-use records_kinds::kind_of;
+use records_kinds::kind_at;
 use records_kinds::width;
 
 // How many cells a kind has.
@@ -42,7 +41,7 @@ pub fn first_slots(call: Shape, z: Sizes) -> [usize; 34]
     let mut total: usize = 0;
     let mut k: u8 = 0;
     while k < 33 {
-        total = total + slots_of(kind_of(call, z, k));
+        total = total + slots_of(kind_at(call, z, k));
         k += 1;
         firsts[k as usize] = total;
     }
@@ -83,13 +82,13 @@ pub fn mark_cells(call: Shape, z: Sizes, firsts: &[usize; 34], s: &[u8], flags: 
 {
     let n = s.len() / 16;
     let mut last: u8 = 0;
-    let mut k = kind_of(call, z, 0);
+    let mut k = kind_at(call, z, 0);
     let mut i = 0;
     while i < n {
-        let kind = kind_at(s, i);
+        let kind = kind_of(s, i);
         if kind != last {
             last = kind;
-            k = kind_of(call, z, kind);
+            k = kind_at(call, z, kind);
         }
         let at = slot_at(k, firsts[kind as usize], s, i);
         if flags[at] {
@@ -109,13 +108,13 @@ pub fn fill_sheet(call: Shape, z: Sizes, firsts: &[usize; 34], s: &[u8], sheet: 
 {
     let n = s.len() / 16;
     let mut last: u8 = 0;
-    let mut k = kind_of(call, z, 0);
+    let mut k = kind_at(call, z, 0);
     let mut i = 0;
     while i < n {
-        let kind = kind_at(s, i);
+        let kind = kind_of(s, i);
         if kind != last {
             last = kind;
-            k = kind_of(call, z, kind);
+            k = kind_at(call, z, kind);
         }
         let at = slot_at(k, firsts[kind as usize], s, i);
         sheet[at] = value_at(s, i);
@@ -143,7 +142,7 @@ fn missing_in(call: Shape, z: Sizes, firsts: &[usize; 34], flags: &[bool], k: u8
     requires { ⌜ Small z × (now firsts ≡ firstSlots (kindsOf call z)) × (slotCount (kindsOf call z) ≤ length (now flags)) × (k < kindNumbers) ⌝ }
     ensures { λ b. ⌜ b ≡ missingIn (kindsOf call z) (now (flags .entry)) k ⌝ }
 {
-    let kind = kind_of(call, z, k);
+    let kind = kind_at(call, z, k);
     if kind.sparse {
         return false;
     }

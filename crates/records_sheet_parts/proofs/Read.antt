@@ -13,13 +13,13 @@ use Rattle.algebra.proofs.FoldLaws.{fold-ext, fold-keeps, fold-start}
 use Rattle.algebra.proofs.TableLaws.{table-ext}
 use Rattle.records.specs.declared.Kind.{Kind}
 use Rattle.records.specs.declared.Sizes.{Sizes}
-use Rattle.records.specs.Scan.{any, last}
-use Rattle.records.specs.Kinds.{width, kindAt, kindsOf, kindNumbers, Table}
-use Rattle.records.specs.Cells.{slots, firstSlot, slotCount, offset, slot}
-use Rattle.records.specs.File.{count, valueOf, beyond, isCell, cell}
-use Rattle.records.proofs.ScanLaws.{any-none, last-holds}
-use Rattle.records.proofs.Slots.{Inside, sized-inside, cell-names}
-use Rattle.records.proofs.ShortLaws.{row-ext}
+use Rattle.records.specs.format.Scan.{any, last}
+use Rattle.records.specs.format.Kinds.{width, kindAt, kindsOf, kindNumbers, Table}
+use Rattle.records.specs.format.Cells.{slots, firstSlot, slotCount, offset, slot}
+use Rattle.records.specs.format.File.{count, valueOf, beyond, isCell, cell}
+use Rattle.records.proofs.format.ScanLaws.{any-none, last-holds}
+use Rattle.records.proofs.format.Slots.{Inside, sized-inside, cell-names}
+use Rattle.records.proofs.readers.ShortLaws.{row-ext}
 use Rattle.records_sheet.specs.joints.Sheet.{firstSlots, sheetAfter}
 use Rattle.records_sheet.proofs.Sheets.{cell-value, firsts-at, ends-within}
 use Rattle.records_sheet_parts.specs.joints.Parts.{numbersAt, cellsAt, stackAt}

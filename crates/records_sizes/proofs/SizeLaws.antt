@@ -12,9 +12,9 @@ use borrow.Author.Tests.{eqb-true, eqb-false, ne-eqb}
 use Rattle.algebra.specs.Table.{row}
 use Rattle.algebra.proofs.FoldLaws.{length-span}
 use Rattle.algebra.proofs.TableLaws.{row-at}
-use Rattle.records.specs.Scan.{most}
-use Rattle.records.specs.Kinds.{kindNumbers}
-use Rattle.records.proofs.ScanLaws.{most-more}
+use Rattle.records.specs.format.Scan.{most}
+use Rattle.records.specs.format.Kinds.{kindNumbers}
+use Rattle.records.proofs.format.ScanLaws.{most-more}
 
 -- ---- a whole row
 length-row : {A : Type 0} (z : A) (n : ℕ) (f : ℕ → A) → length (row z n n f) ≡ n

@@ -1,19 +1,19 @@
-// The sizes of a file, from the largest indices of its records, by its number: 0 is a Kenward and Roger series, 1 a Satterthwaite test, 2 an archive, any other the second file that is lent with one.
+// The sizes of a file, from the largest indices of its records, by which of the four it is (`Shape`).
 ghost use mathlib.Core.Path.{_≡_};
 ghost use Prim.Native.Nat.{max};
 ghost use Rattle.algebra.specs.Table.{row};
-ghost use Rattle.records.specs.Kinds.{kindNumbers};
-ghost use Rattle.records.specs.File.{rows, columns};
-ghost use Rattle.records.specs.Series.{sizes as seriesSizes};
-ghost use Rattle.records.specs.Parameters.{sizes as parameterSizes};
-ghost use Rattle.records.specs.Archive.{sizes as archiveSizes};
-ghost use Rattle.records.specs.SecondFile.{sizes as secondSizes};
+ghost use Rattle.records.specs.format.Kinds.{kindNumbers};
+ghost use Rattle.records.specs.format.File.{rows, columns};
+ghost use Rattle.records.specs.readers.Series.{sizes as seriesSizes};
+ghost use Rattle.records.specs.readers.Parameters.{sizes as parameterSizes};
+ghost use Rattle.records.specs.readers.Archive.{sizes as archiveSizes};
+ghost use Rattle.records.specs.readers.SecondFile.{sizes as secondSizes};
 ghost use Rattle.records_sizes.specs.joints.Gathered.{sizesOf};
 use records::Shape;
 use records::Sizes;
 use records_file::column_at;
 use records_file::index;
-use records_file::kind_at;
+use records_file::kind_of;
 use records_file::row_at;
 
 fn larger(a: usize, b: usize) -> usize
@@ -37,7 +37,7 @@ fn rows_of(s: &[u8]) -> [usize; 33]
     let mut tops = [0usize; 33];
     let mut i = 0;
     while i < n {
-        let k = index(kind_at(s, i));
+        let k = index(kind_of(s, i));
         if k < 33 {
             tops[k] = larger(tops[k], row_at(s, i) + 1);
         }
@@ -53,7 +53,7 @@ fn columns_of(s: &[u8]) -> [usize; 33]
     let mut tops = [0usize; 33];
     let mut i = 0;
     while i < n {
-        let k = index(kind_at(s, i));
+        let k = index(kind_of(s, i));
         if k < 33 {
             tops[k] = larger(tops[k], column_at(s, i) + 1);
         }

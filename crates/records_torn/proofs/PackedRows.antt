@@ -16,8 +16,8 @@ use Rattle.algebra.proofs.FoldLaws.{fold-more, fold-start, fold-ext}
 use Rattle.algebra.proofs.TableLaws.{table-at}
 use Rattle.algebra_large.specs.joints.Slab.{putRow, putRows}
 use Rattle.algebra_large.proofs.SlabLaws.{row-in, putRow-ext, length-putRows, putRows-other, putRows-at}
-use Rattle.records.specs.Shortened.{keptBelow}
-use Rattle.records.proofs.KeptLaws.{kept-same}
+use Rattle.records.specs.readers.Shortened.{keptBelow}
+use Rattle.records.proofs.readers.KeptLaws.{kept-same}
 use Rattle.records_torn.specs.joints.Packed.{tornAt, packedRows}
 
 -- row i of the packing: row number i of those that ks names

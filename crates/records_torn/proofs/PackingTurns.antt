@@ -11,8 +11,8 @@ use lib.Ieee.{Float, nan}
 use Rattle.arithmetic.specs.Numbers.{isZero}
 use Rattle.algebra_large.specs.joints.Slab.{putRow}
 use Rattle.algebra_large.proofs.SlabLaws.{row-in, length-putRow, putRow-ext}
-use Rattle.records.specs.Shortened.{keptBelow}
-use Rattle.records.proofs.KeptLaws.{kept-skip, kept-take}
+use Rattle.records.specs.readers.Shortened.{keptBelow}
+use Rattle.records.proofs.readers.KeptLaws.{kept-skip, kept-take}
 use Rattle.records_torn.specs.joints.Packed.{Packs, tornAt, packedRows}
 use Rattle.records_torn.proofs.PackedRows.{packed-other, packed-none, packed-next}
 

@@ -9,11 +9,11 @@ use mathlib.Core.Logic.{_⊎_, inl, inr, ⊎-elim}
 use lib.ListN.{length, getD}
 use lib.Ieee.{Float, nan}
 use Rattle.records.specs.declared.Sizes.{Sizes}
-use Rattle.records.specs.Kinds.{width, kindAt, kenwardRogerKinds, kindsOf}
-use Rattle.records.specs.Cells.{slots, firstSlot, slotCount}
-use Rattle.records.specs.Shortened.{keptBelow}
-use Rattle.records.proofs.Slots.{packed}
-use Rattle.records.proofs.KeptLaws.{kept-few, kept-all, kept-self}
+use Rattle.records.specs.format.Kinds.{width, kindAt, kenwardRogerKinds, kindsOf}
+use Rattle.records.specs.format.Cells.{slots, firstSlot, slotCount}
+use Rattle.records.specs.readers.Shortened.{keptBelow}
+use Rattle.records.proofs.format.Slots.{packed}
+use Rattle.records.proofs.readers.KeptLaws.{kept-few, kept-all, kept-self}
 use Rattle.records_sheet.proofs.Sheets.{next-start, ends-within}
 use Rattle.records_torn.specs.joints.Packed.{tornAt, packedRows, keptIn, shortSheet}
 use Rattle.records_torn.proofs.PackedRows.{length-packed, packed-at, packed-other}

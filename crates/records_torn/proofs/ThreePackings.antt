@@ -8,10 +8,10 @@ use mathlib.Core.List.{List}
 use lib.ListN.{length, getD}
 use lib.Ieee.{Float}
 use Rattle.records.specs.declared.Sizes.{Sizes}
-use Rattle.records.specs.Kinds.{kindsOf}
-use Rattle.records.specs.Cells.{firstSlot, slotCount}
-use Rattle.records.specs.Shortened.{keptBelow}
-use Rattle.records.proofs.KeptLaws.{kept-few}
+use Rattle.records.specs.format.Kinds.{kindsOf}
+use Rattle.records.specs.format.Cells.{firstSlot, slotCount}
+use Rattle.records.specs.readers.Shortened.{keptBelow}
+use Rattle.records.proofs.readers.KeptLaws.{kept-few}
 use Rattle.records_sheet.specs.joints.Sheet.{firstSlots}
 use Rattle.records_sheet.proofs.Sheets.{firsts-at}
 use Rattle.records_torn.specs.joints.Packed.{Packs, tornAt, packedRows, keptIn, shortSheet}

@@ -4,7 +4,7 @@
 // line with a lab's table is replay_with_table's.
 ghost use Prim.Native.Nat.{_+_, _<_, _≤_};
 ghost use lib.ListN.{length};
-ghost use Rattle.records.specs.File.{count};
+ghost use Rattle.records.specs.format.File.{count};
 use arithmetic_cutoffs::document_cutoffs;
 use records_answer_text::put_run;
 use tests_entries::no_entry;
@@ -74,7 +74,7 @@ fn take_own(file: &[u8], i: usize, own: &mut [u8], held: usize) -> usize
     requires { ⌜ (i < count (now file)) × (held ≤ 1024) × (1024 ≤ length (now own)) ⌝ }
     ensures { λ r. ⌜ r ≤ 1024 ⌝ }
 {
-    let kind = records_file::kind_at(file, i);
+    let kind = records_file::kind_of(file, i);
     if kind < 8 {
         return held;
     }

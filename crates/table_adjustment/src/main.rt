@@ -3,11 +3,15 @@ mod print;
 
 ghost use mathlib.Core.Path.{_≡_};
 ghost use Prim.Native.Nat.{_≤_};
-ghost use Rattle.records.specs.Series.{sizes, kinds};
+ghost use Rattle.records.specs.readers.Series.{sizes, kinds};
 ghost use Rattle.records_sheet.specs.joints.Sheet.{firstSlots};
 ghost use Rattle.records_refusals.specs.joints.Room.{SeriesRead};
 use arithmetic_cutoffs::document_cutoffs;
 use records::Shape;
+use records_answer_text::TEXT_ROOM;
+use records_kenward_roger::PANEL_CELLS;
+use records_kenward_roger::PANEL_NARROW;
+use records_kenward_roger::PANEL_WORK;
 
 // No series has more than m.
 fn at_most(n: usize, m: usize) -> usize
@@ -26,8 +30,8 @@ fn print_adjustment(file: &[u8], sheet: &mut [f64])
     let p = at_most(z.coefficients, 6);
     let n = at_most(z.thetas, 3) + 1;
     let blank = algebra_products::zeros();
-    let mut work = [0.0; 3456];
-    let mut narrow = [0.0; 864];
+    let mut work = [0.0; PANEL_WORK];
+    let mut narrow = [0.0; PANEL_NARROW];
     let mut phi_a = blank;
     let mut ps = [blank; 4];
     let mut w = blank;
@@ -55,7 +59,7 @@ fn print_adjustment(file: &[u8], sheet: &mut [f64])
 
 // What `pulltest` prints, and whether that is a refusal: no other line begins with an r.
 fn print_tests(file: &[u8]) -> bool {
-    let mut out = [0u8; 512];
+    let mut out = [0u8; TEXT_ROOM];
     let n = records_kenward_roger::text(file, &mut out);
     io::write_all(1, &out[..n]);
     out[0] == b'r'
@@ -65,8 +69,8 @@ fn print_case(file: &[u8]) {
     if print_tests(file) {
         return;
     }
-    let mut flags = [false; 1024];
-    let mut sheet = [0.0; 1024];
+    let mut flags = [false; PANEL_CELLS];
+    let mut sheet = [0.0; PANEL_CELLS];
     if records_refusals::refusal(24, file, &mut flags, &mut sheet) == 0 {
         print_adjustment(file, &mut sheet);
     }

@@ -1,7 +1,7 @@
 -- `records_answer_bytes::bits_of` meets its contract.
 use borrow.Author.Needs.{needs}
 use mathlib.Core.Path.{sym, ap, _∙_}
-use Rattle.records.specs.Layout.{bitsOf}
+use Rattle.records.specs.format.Layout.{bitsOf}
 use Rattle.records_answer_bytes.proofs.bits_of.Statement.{statement}
 use Rattle.records_answer_bytes.proofs.bits_of.Tie as tie
 

@@ -11,7 +11,7 @@ use lib.ListN.{length, getD, take}
 use lib.Seq.{sets, take-all}
 use Rattle.tests.specs.declared.Number.the-variants.{Is}
 use Rattle.tests.specs.declared.Entry.{Entry}
-use Rattle.records.specs.Layout.{answerBytes, entryBytes}
+use Rattle.records.specs.format.Layout.{answerBytes, entryBytes}
 use Rattle.records_little_endian.proofs.StoreLaws.{sets-all}
 use Rattle.records_answer_bytes.proofs.LayoutLaws.{length-answer, store}
 use Rattle.records_answer_bytes.proofs.put_answer.Statement.{statement}

@@ -1,7 +1,7 @@
 -- `records_answer_text::letter` meets its contract.
 use mathlib.Core.Path.{sym}
 use borrow.Author.Tests.{lt-ltb, le-ltb}
-use Rattle.records.specs.Text.{digit}
+use Rattle.records.specs.text.Text.{digit}
 use borrow.Author.Needs.{needs}
 use Rattle.records_answer_text.proofs.letter.Statement.{statement}
 use Rattle.records_answer_text.proofs.letter.Tie as tie

@@ -1,6 +1,6 @@
 -- `records_answer_text::put_coefficient` meets its contract.
 use denote.Ref.{now}
-use Rattle.records.specs.Text.{codes}
+use Rattle.records.specs.text.Text.{codes}
 use Rattle.records_answer_text.proofs.CursorLaws.{then}
 use Rattle.records_answer_text.proofs.TextLaws.{coefficient-unused, coefficient-used}
 use borrow.Author.Needs.{needs}

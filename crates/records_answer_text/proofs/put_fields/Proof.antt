@@ -1,5 +1,5 @@
 -- `records_answer_text::put_fields` meets its contract: seven texts one after another.
-use Rattle.records.specs.Text.{codes, fieldsText}
+use Rattle.records.specs.text.Text.{codes, fieldsText}
 use Rattle.records_answer_text.proofs.CursorLaws.{then}
 use borrow.Author.Needs.{needs}
 use Rattle.records_answer_text.proofs.put_fields.Statement.{statement}

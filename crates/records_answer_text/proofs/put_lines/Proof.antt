@@ -5,7 +5,7 @@ use mathlib.Core.Path.{_≡_, ap}
 use mathlib.Core.List.{List, _++_}
 use lib.ListN.{getD}
 use Rattle.tests.specs.Answer.{noEntry}
-use Rattle.records.specs.Text.{coefficientLines, testLine, linesText}
+use Rattle.records.specs.text.Text.{coefficientLines, testLine, linesText}
 use Rattle.records_answer_text.proofs.CursorLaws.{then, named}
 use Rattle.records_answer_text.proofs.TextLaws.{past, getD-any}
 use borrow.Author.Needs.{needs}

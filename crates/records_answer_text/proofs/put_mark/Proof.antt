@@ -1,7 +1,7 @@
 -- `records_answer_text::put_mark` meets its contract.
 use native.Mathlib.Omega.{arith}
 use mathlib.Core.Path.{_≡_, sym}
-use Rattle.records.specs.Text.{codes, markText}
+use Rattle.records.specs.text.Text.{codes, markText}
 use Rattle.records_answer_text.proofs.CursorLaws.{named}
 use borrow.Author.Needs.{needs}
 use Rattle.records_answer_text.proofs.put_mark.Statement.{statement}

@@ -1,7 +1,7 @@
 -- `records_answer_text::put_number` meets its contract.
 use native.Mathlib.Omega.{arith}
 use mathlib.Core.Path.{_≡_, sym, ap, _∙_}
-use Rattle.records.specs.Text.{codes, hexadecimal, numberText}
+use Rattle.records.specs.text.Text.{codes, hexadecimal, numberText}
 use Rattle.records_answer_text.proofs.CursorLaws.{named}
 use borrow.Author.Needs.{needs}
 use Rattle.records_answer_text.proofs.put_number.Statement.{statement}

@@ -1,5 +1,5 @@
 -- `records_answer_text::put_refusal` meets its contract.
-use Rattle.records.specs.Text.{codes, refusalText}
+use Rattle.records.specs.text.Text.{codes, refusalText}
 use Rattle.records_answer_text.proofs.CursorLaws.{then}
 use borrow.Author.Needs.{needs}
 use Rattle.records_answer_text.proofs.put_refusal.Statement.{statement}

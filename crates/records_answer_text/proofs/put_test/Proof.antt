@@ -1,6 +1,6 @@
 -- `records_answer_text::put_test` meets its contract.
 use denote.Ref.{now}
-use Rattle.records.specs.Text.{codes}
+use Rattle.records.specs.text.Text.{codes}
 use Rattle.records_answer_text.proofs.CursorLaws.{then}
 use Rattle.records_answer_text.proofs.TextLaws.{test-unused, test-used}
 use borrow.Author.Needs.{needs}

@@ -1,6 +1,6 @@
 -- `records_archive_bytes::archived` meets its contract.
 use borrow.Author.Tests.{ne-eqb}
-use Rattle.records.specs.Archive.{archived}
+use Rattle.records.specs.readers.Archive.{archived}
 use borrow.Author.Needs.{needs}
 use Rattle.records_archive_bytes.proofs.archived.Statement.{statement}
 use Rattle.records_archive_bytes.proofs.archived.Tie as tie

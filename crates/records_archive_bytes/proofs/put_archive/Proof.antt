@@ -5,9 +5,9 @@ use mathlib.Core.Path.{_≡_, refl, ap, _∙_}
 use denote.Ref.{now}
 use lib.ListN.{length}
 use Rattle.records.specs.declared.Sizes.{Sizes}
-use Rattle.records.specs.Kinds.{kindAt, kindsOf, archiveKinds}
-use Rattle.records.specs.Cells.{slots}
-use Rattle.records.specs.Archive.{sizesAt}
+use Rattle.records.specs.format.Kinds.{kindAt, kindsOf, archiveKinds}
+use Rattle.records.specs.format.Cells.{slots}
+use Rattle.records.specs.readers.Archive.{sizesAt}
 use Rattle.records_archive_bytes.proofs.FrontLaws.{narrow, kind-room, Front, front-none, front-more, front-all}
 use Rattle.records_archive_bytes.proofs.put_archive.Statement.{statement}
 use Rattle.records_archive_bytes.proofs.put_archive.Tie as tie
@@ -25,17 +25,17 @@ sizes-at-requires c κs = tt
 loop-holds : tie.Need-loop-holds Inv-loop μ-loop
 loop-holds c = (omega arith, c .sizes-at .ensures, refl, front-none _ _ _ _ _ _ _ _)
 
-kind-of-requires : tie.Need-kind-of-requires Inv-loop μ-loop
-kind-of-requires c κs = tt
+kind-at-requires : tie.Need-kind-at-requires Inv-loop μ-loop
+kind-at-requires c κs = tt
 
 put-kind-requires : tie.Need-put-kind-requires Inv-loop μ-loop
 put-kind-requires c κs =
     let l = c .before .before .before in
     let b = l .before .before .before in
-    let e : c .kind-of .result ≡ kindAt (archiveKinds (sizesAt (b .args .p) (b .args .n))) (l .loop .k) = c .kind-of .ensures ∙ ap (λ (y : Sizes). kindAt (kindsOf Archived y) (l .loop .k)) (l .loop .inv .1) in
+    let e : c .kind-at .result ≡ kindAt (archiveKinds (sizesAt (b .args .p) (b .args .n))) (l .loop .k) = c .kind-at .ensures ∙ ap (λ (y : Sizes). kindAt (kindsOf Archived y) (l .loop .k)) (l .loop .inv .1) in
     let m = narrow (b .args .p) (b .args .n) (b .pre .0) (b .pre .1) (l .loop .k) in
     let r = kind-room (b .args .p) (b .args .n) (b .pre .0) (b .pre .1) (l .loop .k) (omega arith) in
-    let q : slots (c .kind-of .result) ≡ slots (kindAt (archiveKinds (sizesAt (b .args .p) (b .args .n))) (l .loop .k)) = ap slots e in
+    let q : slots (c .kind-at .result) ≡ slots (kindAt (archiveKinds (sizesAt (b .args .p) (b .args .n))) (l .loop .k)) = ap slots e in
     let f = l .loop .inv .3 .place in
     (omega arith, rw e (m .number), rw e (m .row), rw e (m .column))
 
@@ -51,12 +51,12 @@ loop-again c =
     let d = c .before .before .before in
     let l = d .before .before .before in
     let g = l .before .before .before .args in
-    let e : d .kind-of .result ≡ kindAt (archiveKinds (sizesAt (g .p) (g .n))) (l .loop .k) = d .kind-of .ensures ∙ ap (λ (y : Sizes). kindAt (kindsOf Archived y) (l .loop .k)) (l .loop .inv .1) in
+    let e : d .kind-at .result ≡ kindAt (archiveKinds (sizesAt (g .p) (g .n))) (l .loop .k) = d .kind-at .ensures ∙ ap (λ (y : Sizes). kindAt (kindsOf Archived y) (l .loop .k)) (l .loop .inv .1) in
     let k : length (p .last .0) ≡ length (l .loop .out) = p .kept .0 in (
       omega arith,
       l .loop .inv .1,
       omega arith,
-      front-more (g .p) (g .n) (now (g .phi)) (now (g .phi-a)) (now (g .ps)) (now (g .w)) (g .sigma2) (now (g .out)) (l .loop .out) (p .last .0) (l .loop .k) (l .loop .at) (p .result) (d .kind-of .result) (l .loop .inv .3) e (p .ensures .0) (p .ensures .1),
+      front-more (g .p) (g .n) (now (g .phi)) (now (g .phi-a)) (now (g .ps)) (now (g .w)) (g .sigma2) (now (g .out)) (l .loop .out) (p .last .0) (l .loop .k) (l .loop .at) (p .result) (d .kind-at .result) (l .loop .inv .3) e (p .ensures .0) (p .ensures .1),
     )
 
 same-length : tie.Need-same-length Inv-loop μ-loop
@@ -76,7 +76,7 @@ put-archive-spec =
     μ-loop
     sizes-at-requires
     loop-holds
-    kind-of-requires
+    kind-at-requires
     put-kind-requires
     add-k
     loop-less

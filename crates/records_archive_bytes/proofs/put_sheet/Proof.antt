@@ -5,8 +5,8 @@ use mathlib.Core.Path.{_≡_, refl, ap}
 use denote.Ref.{now}
 use lib.ListN.{length}
 use lib.Seq.{sets}
-use Rattle.records.specs.Kinds.{width}
-use Rattle.records.specs.Written.{sequence}
+use Rattle.records.specs.format.Kinds.{width}
+use Rattle.records.specs.format.Written.{sequence}
 use Rattle.records_archive_bytes.specs.joints.Parts.{archiveFrom, lineBytes, sheetBytes}
 use Rattle.records_archive_bytes.proofs.StoredLaws.{pieces-none, pieces-more, piece-ends-as, length-line}
 use Rattle.records_archive_bytes.proofs.put_sheet.Statement.{statement}

@@ -1,6 +1,6 @@
 -- `records_archive_bytes::sizes_at` meets its contract.
 use mathlib.Core.Path.{refl}
-use Rattle.records.specs.Archive.{sizesAt}
+use Rattle.records.specs.readers.Archive.{sizesAt}
 use Rattle.records_archive_bytes.proofs.sizes_at.Statement.{statement}
 use Rattle.records_archive_bytes.proofs.sizes_at.Tie as tie
 

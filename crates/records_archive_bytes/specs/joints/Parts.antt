@@ -6,9 +6,9 @@ use lib.Ieee.{Float}
 use Rattle.algebra.specs.Small.{Rows}
 use Rattle.adjustment.specs.Adjusted.{Stack}
 use Rattle.records.specs.declared.Kind.{Kind}
-use Rattle.records.specs.Kinds.{width}
-use Rattle.records.specs.Written.{cellRecord, sequence}
-use Rattle.records.specs.Archive.{Archive, archiveContent}
+use Rattle.records.specs.format.Kinds.{width}
+use Rattle.records.specs.format.Written.{cellRecord, sequence}
+use Rattle.records.specs.readers.Archive.{Archive, archiveContent}
 
 abbrev pub archiveFrom : ℕ → ℕ → Rows → Rows → Stack → Rows → Float → Archive
 archiveFrom p N phi phiA ps w sigma2 = record { coefficients = p; parameters = N; phi = phi; phiA = phiA; ps = ps; w = w; sigma2 = sigma2 }

@@ -6,8 +6,8 @@ use lib.ListN.{length, getD}
 use lib.Ieee.{Float, nan}
 use denote.Ref.{now}
 use native.Mathlib.Omega.{arith}
-use Rattle.records.specs.Scan.{any}
-use Rattle.records.proofs.ScanLaws.{any-miss, any-hit}
+use Rattle.records.specs.format.Scan.{any}
+use Rattle.records.proofs.format.ScanLaws.{any-miss, any-hit}
 use Rattle.records_archive_reader.specs.joints.Checks.{differs, notScaled}
 use Rattle.records_archive_reader.proofs.any_not_scaled.Statement.{statement}
 use Rattle.records_archive_reader.proofs.any_not_scaled.Tie as tie

@@ -3,9 +3,9 @@ use mathlib.Core.Path.{_≡_, sym, _∙_}
 use native.Mathlib.Omega.{arith}
 use denote.Ref.{now}
 use Rattle.records.specs.declared.Shape.the-variants.{Archived}
-use Rattle.records.specs.Reader.{formedNumber}
-use Rattle.records.specs.Archive.{reader, reasons, refusal}
-use Rattle.records.proofs.ReaderLaws.{form-refuses}
+use Rattle.records.specs.readers.Reader.{formedNumber}
+use Rattle.records.specs.readers.Archive.{reader, reasons, refusal}
+use Rattle.records.proofs.readers.ReaderLaws.{form-refuses}
 use Rattle.records_form.proofs.FormLaws.{FormedSizes, formed-sizes, sheet-from}
 use Rattle.records_archive_reader.proofs.ReaderLaws.{value-refused, sheet-room, numbers-refused}
 use borrow.Author.Needs.{needs}

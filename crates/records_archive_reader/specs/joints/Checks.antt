@@ -8,10 +8,10 @@ use lib.ListN.{getD}
 use lib.Ieee.{Float, nan, binary64, mul, div, le, toBits}
 use Rattle.arithmetic.specs.Numbers.{plusZero}
 use Rattle.records.specs.declared.Sizes.{Sizes}
-use Rattle.records.specs.Scan.{any}
-use Rattle.records.specs.Kinds.{Table, archiveKinds}
-use Rattle.records.specs.KindNumbers.{kindScaledPhi, kindScaledPhiA, kindScaledP, kindArchivedPhi, kindArchivedPhiA, kindArchivedP, kindArchivedSigma2}
-use Rattle.records.specs.Cells.{firstSlot}
+use Rattle.records.specs.format.Scan.{any}
+use Rattle.records.specs.format.Kinds.{Table, archiveKinds}
+use Rattle.records.specs.format.KindNumbers.{kindScaledPhi, kindScaledPhiA, kindScaledP, kindArchivedPhi, kindArchivedPhiA, kindArchivedP, kindArchivedSigma2}
+use Rattle.records.specs.format.Cells.{firstSlot}
 
 unfoldable pub differs : Float → Float → Bool
 differs x y = not (eqb (toBits binary64 x) (toBits binary64 y))

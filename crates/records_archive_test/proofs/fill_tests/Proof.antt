@@ -1,9 +1,9 @@
 -- `records_archive_test::fill_tests` meets its contract.
 use mathlib.Core.Path.{ap, _∙_}
 use denote.Ref.{now}
-use Rattle.records.specs.Layout.{answerBytes}
-use Rattle.records.specs.ArchiveCall.{fromArchiveNumber, fromArchiveEntries}
-use Rattle.records.proofs.CallLaws.{kept-bytes, filled-bytes}
+use Rattle.records.specs.format.Layout.{answerBytes}
+use Rattle.records.specs.calls.ArchiveCall.{fromArchiveNumber, fromArchiveEntries}
+use Rattle.records.proofs.calls.CallLaws.{kept-bytes, filled-bytes}
 use borrow.Author.Needs.{needs}
 use Rattle.records_archive_test.proofs.fill_tests.Statement.{statement}
 use Rattle.records_archive_test.proofs.fill_tests.Tie as tie

@@ -3,8 +3,8 @@ use Prim.Native.Nat.{ℕ}
 use mathlib.Core.Path.{_≡_, refl, sym, ap, _∙_}
 use denote.Ref.{now}
 use lib.Ieee.{ofBits}
-use Rattle.records.specs.Archive as archive
-use Rattle.records.specs.SecondFile as second
+use Rattle.records.specs.readers.Archive as archive
+use Rattle.records.specs.readers.SecondFile as second
 use Rattle.records_archive_test.proofs.TestLaws.{archive-sheet, tests-sheet, archive-taken, second-taken, archive-p}
 use Rattle.records_archive_test.proofs.NumberLaws.{archive-refuses, second-refuses, tests-answer}
 use borrow.Author.Needs.{needs}

@@ -1,10 +1,10 @@
 -- `records_archive_test::test` meets its contract.
 use mathlib.Core.Path.{refl, sym, _∙_}
 use denote.Ref.{now}
-use Rattle.records.specs.CutoffTable.{builtInTable}
-use Rattle.records.proofs.CutoffLaws.{built-in-accepted, built-in-numbers}
-use Rattle.records.specs.ArchiveCall.{fromArchiveNumber, testingCall}
-use Rattle.records.proofs.CallLaws.{other-length, own-answer}
+use Rattle.records.specs.readers.CutoffTable.{builtInTable}
+use Rattle.records.proofs.readers.CutoffLaws.{built-in-accepted, built-in-numbers}
+use Rattle.records.specs.calls.ArchiveCall.{fromArchiveNumber, testingCall}
+use Rattle.records.proofs.calls.CallLaws.{other-length, own-answer}
 use borrow.Author.Needs.{needs}
 use Rattle.records_archive_test.proofs.test.Statement.{statement}
 use Rattle.records_archive_test.proofs.test.Tie as tie

@@ -5,11 +5,11 @@ use mathlib.Core.Path.{_≡_}
 use mathlib.Core.List.{List}
 use lib.ListN.{length}
 use lib.Ieee.{Float}
-use Rattle.records.specs.Kinds.{archiveTable, testTable}
-use Rattle.records.specs.Cells.{slotCount}
-use Rattle.records.specs.File.{count}
-use Rattle.records.specs.Archive as archive
-use Rattle.records.specs.SecondFile as second
+use Rattle.records.specs.format.Kinds.{archiveTable, testTable}
+use Rattle.records.specs.format.Cells.{slotCount}
+use Rattle.records.specs.format.File.{count}
+use Rattle.records.specs.readers.Archive as archive
+use Rattle.records.specs.readers.SecondFile as second
 use Rattle.records_sheet.specs.joints.Sheet.{sheetAfter}
 
 pub record ArchiveRead (s : List ℕ) (sheet : List Float) : Type 0 where

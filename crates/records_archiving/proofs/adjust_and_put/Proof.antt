@@ -1,7 +1,7 @@
 -- `records_archiving::adjust_and_put` meets its contract.
 use mathlib.Core.Path.{_≡_, sym, _∙_, subst}
 use denote.Ref.{now}
-use Rattle.records.specs.Series.{design}
+use Rattle.records.specs.readers.Series.{design}
 use Rattle.records_sheet.specs.joints.Sheet.{Small}
 use Rattle.records_refusals.specs.joints.Room.{SeriesRead, SeriesShort}
 use Rattle.records_refusals.proofs.RoomLaws.{at-hand, accepted-small, can-shorten, kept-run, series-short}

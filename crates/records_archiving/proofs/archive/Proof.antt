@@ -1,8 +1,8 @@
 -- `records_archiving::archive` meets its contract.
 use mathlib.Core.Path.{sym, _∙_}
 use denote.Ref.{now}
-use Rattle.records.specs.CutoffTable.{builtInTable}
-use Rattle.records.proofs.CutoffLaws.{built-in-accepted, built-in-numbers}
+use Rattle.records.specs.readers.CutoffTable.{builtInTable}
+use Rattle.records.proofs.readers.CutoffLaws.{built-in-accepted, built-in-numbers}
 use Rattle.records_archiving.proofs.ArchivingLaws.{other-lent, own-call}
 use borrow.Author.Needs.{needs}
 use Rattle.records_archiving.proofs.archive.Statement.{statement}

@@ -1,7 +1,7 @@
 -- `records_archiving::archive_with` meets its contract.
 use mathlib.Core.Path.{sym, _∙_}
 use denote.Ref.{now}
-use Rattle.records.proofs.CutoffLaws.{table-length}
+use Rattle.records.proofs.readers.CutoffLaws.{table-length}
 use Rattle.records_archiving.proofs.ArchivingLaws.{other-lent, refused-table, own-call}
 use borrow.Author.Needs.{needs}
 use Rattle.records_archiving.proofs.archive_with.Statement.{statement}

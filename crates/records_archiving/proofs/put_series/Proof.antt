@@ -5,7 +5,7 @@ use mathlib.Core.Path.{ap, _∙_}
 use denote.Ref.{now}
 use lib.ListN.{length}
 use lib.Seq.{sets}
-use Rattle.records.specs.Archive.{Archive, archiveBytes}
+use Rattle.records.specs.readers.Archive.{Archive, archiveBytes}
 use Rattle.records_kenward_roger.proofs.Calls.{few-blocks, few-coefficients, start-within, sigma2-place, phi-ends, lent-sound, matrices-are, matrices-few, coefficients-read, phi-read, sigma2-read}
 use Rattle.records_archiving.proofs.ArchivingLaws.{series-archive-is, archive-short}
 use Rattle.records_refusals.specs.joints.Room.{SeriesShort}

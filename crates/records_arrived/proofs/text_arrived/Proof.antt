@@ -1,7 +1,7 @@
 -- `records_arrived::text_arrived` meets its contract.
 use mathlib.Core.Path.{ap₂}
 use native.Mathlib.Omega.{arith}
-use Rattle.records.specs.Text.{textOf}
+use Rattle.records.specs.text.Text.{textOf}
 use Rattle.records_answer_text.proofs.CursorLaws.{named}
 use borrow.Author.Needs.{needs}
 use Rattle.records_arrived.proofs.text_arrived.Statement.{statement}

@@ -9,8 +9,13 @@ use Rattle.arithmetic_cutoffs.specs.declared.Cutoffs.{Cutoffs}
 use Rattle.algebra.specs.Reasons.{first}
 use Rattle.tests.specs.declared.Entry.{Entry}
 use Rattle.tests.specs.Answer.{noEntry}
-use Rattle.records.specs.KenwardRogerCall.{number, entries}
+use Rattle.records.specs.calls.KenwardRogerCall.{number, entries}
+use Rattle.records.specs.format.Kinds.{panelLimit}
 use Rattle.records_pieces.specs.declared.Arrival.{Arrival}
+
+-- the bytes that the programs keep of a file: room for every record within the panel's limits, and more
+abbrev pub keptLength : ℕ
+keptLength = 16384
 
 -- the whole records that are kept
 abbrev pub keptFile : Arrival → List ℕ → List ℕ
@@ -21,7 +26,7 @@ unfoldable pub unkeptNumber : Arrival → ℕ
 unkeptNumber a = first ((2, not (eqb (a .part) 0)) ∷ (12, a .fell) ∷ (2, a .longer) ∷ [])
 
 unfoldable pub arrivedNumber : Cutoffs → Arrival → List ℕ → ℕ
-arrivedNumber c a kept = cond (eqb (unkeptNumber a) 0) (number 24 c (keptFile a kept)) (unkeptNumber a)
+arrivedNumber c a kept = cond (eqb (unkeptNumber a) 0) (number panelLimit c (keptFile a kept)) (unkeptNumber a)
 
 unfoldable pub arrivedEntries : Cutoffs → Arrival → List ℕ → List Entry
-arrivedEntries c a kept = cond (eqb (unkeptNumber a) 0) (entries 24 c (keptFile a kept)) (replicate 7 noEntry)
+arrivedEntries c a kept = cond (eqb (unkeptNumber a) 0) (entries panelLimit c (keptFile a kept)) (replicate 7 noEntry)

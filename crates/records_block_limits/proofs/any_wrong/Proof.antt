@@ -3,8 +3,8 @@ use Prim.Native.Nat.{_≤_, _-_}
 use mathlib.Core.Path.{_≡_, refl, sym}
 use mathlib.Core.Bool.{false}
 use Rattle.adjustment.specs.Blocks.{blockAt}
-use Rattle.records.specs.Scan.{any}
-use Rattle.records.proofs.ScanLaws.{any-miss, any-hit}
+use Rattle.records.specs.format.Scan.{any}
+use Rattle.records.proofs.format.ScanLaws.{any-miss, any-hit}
 use Rattle.records_block_limits.specs.joints.Checks.{wrongBlock}
 use native.Mathlib.Omega.{arith}
 use Rattle.records_block_limits.proofs.any_wrong.Statement.{statement}

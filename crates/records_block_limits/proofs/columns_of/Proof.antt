@@ -3,8 +3,8 @@ use Prim.Native.Nat.{ℕ, _≤_, _-_, _*_}
 use mathlib.Core.Path.{_≡_, refl}
 use native.Mathlib.Nat.{mul-le-mul}
 use Rattle.adjustment.specs.Blocks.{blockAt}
-use Rattle.records.specs.Scan.{total}
-use Rattle.records.proofs.ScanLaws.{total-more}
+use Rattle.records.specs.format.Scan.{total}
+use Rattle.records.proofs.format.ScanLaws.{total-more}
 use Rattle.records_block_limits.specs.joints.Checks.{columnsIn}
 use native.Mathlib.Omega.{arith}
 use Rattle.records_block_limits.proofs.columns_of.Statement.{statement}

@@ -2,9 +2,9 @@
 use Prim.Native.Nat.{_≤_, _-_, _*_}
 use mathlib.Core.Path.{_≡_, refl}
 use Rattle.adjustment.specs.Blocks.{blockAt}
-use Rattle.records.specs.Scan.{total}
-use Rattle.records.proofs.ScanLaws.{total-more}
-use Rattle.records.proofs.CountLaws.{twice-small}
+use Rattle.records.specs.format.Scan.{total}
+use Rattle.records.proofs.format.ScanLaws.{total-more}
+use Rattle.records.proofs.promises.CountLaws.{twice-small}
 use Rattle.records_block_limits.specs.joints.Checks.{parametersIn}
 use native.Mathlib.Omega.{arith}
 use Rattle.records_block_limits.proofs.parameters_of.Statement.{statement}

@@ -7,7 +7,7 @@ use lib.Dec.{eqb, ltb}
 use Rattle.adjustment.specs.declared.Block.{Block}
 use Rattle.adjustment.specs.Blocks.{blockAt, places}
 use Rattle.records.specs.declared.Sizes.{Sizes}
-use Rattle.records.specs.Scan.{any, total}
+use Rattle.records.specs.format.Scan.{any, total}
 
 -- a block of other than 1 or 2 effects or without a group
 unfoldable pub wrongBlock : Block → Bool

@@ -4,8 +4,8 @@ use mathlib.Core.Path.{_≡_, refl, sym}
 use mathlib.Core.Bool.{false}
 use lib.ListN.{length}
 use native.Mathlib.Omega.{arith}
-use Rattle.records.specs.Scan.{any}
-use Rattle.records.proofs.ScanLaws.{any-miss, any-hit}
+use Rattle.records.specs.format.Scan.{any}
+use Rattle.records.proofs.format.ScanLaws.{any-miss, any-hit}
 use Rattle.records_contrast.specs.joints.Contrast.{nonzeros}
 use Rattle.records_contrast.proofs.any_nonzero.Statement.{statement}
 use Rattle.records_contrast.proofs.any_nonzero.Tie as tie

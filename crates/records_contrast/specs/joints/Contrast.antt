@@ -8,7 +8,7 @@ use lib.ListN.{getD}
 use lib.Ieee.{Float, nan}
 use Rattle.arithmetic.specs.Numbers.{isZero}
 use Rattle.records.specs.declared.Sizes.{Sizes}
-use Rattle.records.specs.Scan.{any}
+use Rattle.records.specs.format.Scan.{any}
 
 -- one of the m numbers from a place on is not zero
 unfoldable pub nonzeros : List Float → ℕ → ℕ → Bool

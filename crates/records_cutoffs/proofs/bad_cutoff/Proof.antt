@@ -13,16 +13,16 @@ use Rattle.arithmetic.proofs.plain.is_finite.Reads as is-finite-reads
 use Rattle.records_cutoffs.proofs.floor_of.Reads as floor-of-reads
 use Rattle.records_file.proofs.column_at.Reads as column-at-reads
 use Rattle.records_file.proofs.count_at.Reads as count-at-reads
-use Rattle.records_file.proofs.kind_at.Reads as kind-at-reads
+use Rattle.records_file.proofs.kind_of.Reads as kind-of-reads
 use Rattle.records_file.proofs.padding_at.Reads as padding-at-reads
 use Rattle.records_file.proofs.row_at.Reads as row-at-reads
 use Rattle.records_file.proofs.value_at.Reads as value-at-reads
 
-kind-at-requires : tie.Need-kind-at-requires
-kind-at-requires c κs = search needs
+kind-of-requires : tie.Need-kind-of-requires
+kind-of-requires c κs = search needs
 
 returns : tie.Need-returns
-returns c = let a = c .before .before .before .args in wrong-kind (now (a .table)) (a .i) _ (c .before .kind-at .ensures) (c .if1 .taken)
+returns c = let a = c .before .before .before .args in wrong-kind (now (a .table)) (a .i) _ (c .before .kind-of .ensures) (c .if1 .taken)
 
 row-at-requires : tie.Need-row-at-requires
 row-at-requires c κs = search needs
@@ -65,7 +65,7 @@ returns-7 c =
     let a = c .before .before .before .before .before .before .before .before .before .before .before .before .before .before .before .args in
     value-decides (now (a .table)) (a .i) _ _
     (record {
-      kind = sym (c .before .before .before .before .before .before .before .before .before .before .before .before .before .kind-at .ensures) ∙ c .before .before .before .before .before .before .before .before .before .before .before .before .if1 .left;
+      kind = sym (c .before .before .before .before .before .before .before .before .before .before .before .before .before .kind-of .ensures) ∙ c .before .before .before .before .before .before .before .before .before .before .before .before .if1 .left;
       row = sym (c .before .before .before .before .before .before .before .before .before .before .before .row-at .ensures .0) ∙ c .before .before .before .before .before .before .before .before .before .before .if2 .left;
       column = sym (c .before .before .before .before .before .before .before .before .before .column-at .ensures .0) ∙ c .before .before .before .before .before .before .before .before .if3 .left;
       padding = sym (c .before .before .before .before .before .before .before .padding-at .ensures .0) ∙ c .before .before .before .before .before .before .if4 .left;
@@ -78,7 +78,7 @@ pub bad-cutoff-spec : {M : Type 1} → statement M
 bad-cutoff-spec =
     tie.close
     (tie.spec
-    kind-at-requires
+    kind-of-requires
     returns
     row-at-requires
     returns-2

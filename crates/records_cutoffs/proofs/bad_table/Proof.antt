@@ -6,9 +6,9 @@ use lib.ListN.{length}
 use native.Mathlib.Omega.{arith}
 use denote.Ref.{now}
 use borrow.Author.Tests.{ne-eqb}
-use Rattle.records.specs.Scan.{any}
-use Rattle.records.specs.CutoffTable.{badCutoff, badTable}
-use Rattle.records.proofs.ScanLaws.{any-miss, any-hit}
+use Rattle.records.specs.format.Scan.{any}
+use Rattle.records.specs.readers.CutoffTable.{badCutoff, badTable}
+use Rattle.records.proofs.format.ScanLaws.{any-miss, any-hit}
 use Rattle.records_cutoffs.proofs.bad_table.Statement.{statement}
 use Rattle.records_cutoffs.proofs.bad_table.Tie as tie
 use Rattle.records_cutoffs.proofs.bad_table.Reads as reads

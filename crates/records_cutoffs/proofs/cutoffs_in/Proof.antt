@@ -1,6 +1,6 @@
 -- `records_cutoffs::cutoffs_in` meets its contract.
 use borrow.Author.Needs.{needs}
-use Rattle.records.specs.CutoffTable.{cutoffsIn}
+use Rattle.records.specs.readers.CutoffTable.{cutoffsIn}
 use Rattle.records_cutoffs.proofs.cutoffs_in.Statement.{statement}
 use Rattle.records_cutoffs.proofs.cutoffs_in.Tie as tie
 use Rattle.records_cutoffs.proofs.cutoffs_in.Reads as reads

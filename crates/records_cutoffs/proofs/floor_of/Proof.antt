@@ -1,7 +1,7 @@
 -- `records_cutoffs::floor_of` meets its contract.
 use lib.Ieee.{ofBits}
 use borrow.Author.Tests.{eq-eqb, ne-eqb}
-use Rattle.records.specs.CutoffTable.{floorOf}
+use Rattle.records.specs.readers.CutoffTable.{floorOf}
 use Rattle.records_cutoffs.proofs.floor_of.Statement.{statement}
 use Rattle.records_cutoffs.proofs.floor_of.Tie as tie
 use Rattle.records_cutoffs.proofs.floor_of.Reads as reads

@@ -1,9 +1,9 @@
 -- `records_ddf::fill_entry` meets its contract.
 use mathlib.Core.Path.{_∙_}
 use denote.Ref.{now}
-use Rattle.records.specs.Layout.{entryBytes}
-use Rattle.records.specs.SatterthwaiteCall.{number, entry}
-use Rattle.records.proofs.CallLaws.{kept-bytes, filled-bytes}
+use Rattle.records.specs.format.Layout.{entryBytes}
+use Rattle.records.specs.calls.SatterthwaiteCall.{number, entry}
+use Rattle.records.proofs.calls.CallLaws.{kept-bytes, filled-bytes}
 use Rattle.records_ddf.proofs.Judged.{entry-fills}
 use borrow.Author.Needs.{needs}
 use Rattle.records_ddf.proofs.fill_entry.Statement.{statement}

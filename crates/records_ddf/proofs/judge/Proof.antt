@@ -5,12 +5,12 @@ use denote.Ref.{now}
 use lib.ListN.{length}
 use lib.Ieee.{ofBits}
 use Rattle.tests.specs.Satterthwaite.{Outcome, satterthwaite as test}
-use Rattle.records.specs.Kinds.{kindsOf}
-use Rattle.records.specs.File.{count}
-use Rattle.records.specs.Parameters.{kinds, refusal}
-use Rattle.records.specs.SatterthwaiteCall.{outcome as fileOutcome}
+use Rattle.records.specs.format.Kinds.{kindsOf}
+use Rattle.records.specs.format.File.{count}
+use Rattle.records.specs.readers.Parameters.{kinds, refusal}
+use Rattle.records.specs.calls.SatterthwaiteCall.{outcome as fileOutcome}
 use Rattle.records_sheet.specs.joints.Sheet.{sheetAfter}
-use Rattle.records.proofs.Limits.{slot-count}
+use Rattle.records.proofs.readers.Limits.{slot-count}
 use Rattle.records_sheet.proofs.Sheets.{length-sheet}
 use Rattle.records_form.proofs.FormLaws.{FormedSizes}
 use Rattle.records_ddf.specs.joints.Gathered.{inputsFrom}

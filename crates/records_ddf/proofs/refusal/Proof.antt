@@ -2,8 +2,8 @@
 use native.Mathlib.Omega.{arith}
 use mathlib.Core.Path.{_≡_, sym, _∙_}
 use denote.Ref.{now}
-use Rattle.records.specs.Parameters.{reader, reasons, refusal}
-use Rattle.records.proofs.ReaderLaws.{form-refuses}
+use Rattle.records.specs.readers.Parameters.{reader, reasons, refusal}
+use Rattle.records.proofs.readers.ReaderLaws.{form-refuses}
 use Rattle.records_form.proofs.FormLaws.{FormedSizes, sheet-from}
 use Rattle.records_ddf.proofs.Judged.{value-refused, reader-accepts, accepted-sizes}
 use borrow.Author.Needs.{needs}

@@ -4,9 +4,9 @@ use mathlib.Core.Bool.{cond}
 use mathlib.Core.List.{List}
 use lib.Ieee.{Float}
 use Rattle.records.specs.declared.Sizes.{Sizes}
-use Rattle.records.specs.Kinds.{Table, satterthwaiteKinds}
-use Rattle.records.specs.KindNumbers.{kindBeta, kindContrast, kindBetaH, kindV, kindJacobian, kindA}
-use Rattle.records.specs.Cells.{firstSlot}
+use Rattle.records.specs.format.Kinds.{Table, satterthwaiteKinds}
+use Rattle.records.specs.format.KindNumbers.{kindBeta, kindContrast, kindBetaH, kindV, kindJacobian, kindA}
+use Rattle.records.specs.format.Cells.{firstSlot}
 use Rattle.records_sheet_parts.specs.joints.Parts.{numbersAt, cellsAt, stackAt}
 use Rattle.tests.specs.Satterthwaite.{Inputs}
 use Rattle.tests_ddf.specs.joints.Parts.{inputsOf}

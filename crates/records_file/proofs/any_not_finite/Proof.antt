@@ -3,9 +3,9 @@ use Prim.Native.Nat.{_≤_, _-_}
 use mathlib.Core.Path.{_≡_, refl, sym}
 use mathlib.Core.Bool.{false}
 use denote.Ref.{now}
-use Rattle.records.specs.Scan.{any}
-use Rattle.records.proofs.ScanLaws.{any-miss, any-hit}
-use Rattle.records.specs.File.{count, notFinite}
+use Rattle.records.specs.format.Scan.{any}
+use Rattle.records.proofs.format.ScanLaws.{any-miss, any-hit}
+use Rattle.records.specs.format.File.{count, notFinite}
 use native.Mathlib.Omega.{arith}
 use Rattle.records_file.proofs.any_not_finite.Statement.{statement}
 use Rattle.records_file.proofs.any_not_finite.Tie as tie

@@ -1,5 +1,5 @@
 -- `records_file::not_finite` meets its contract.
-use Rattle.records.specs.File.{notFinite}
+use Rattle.records.specs.format.File.{notFinite}
 use borrow.Author.Needs.{needs}
 use Rattle.records_file.proofs.not_finite.Statement.{statement}
 use Rattle.records_file.proofs.not_finite.Tie as tie

@@ -7,11 +7,11 @@ use mathlib.Core.List.{List}
 use denote.Ref.{now}
 use lib.ListN.{length}
 use Rattle.records.specs.declared.Sizes.{Sizes}
-use Rattle.records.specs.Scan.{any}
-use Rattle.records.specs.Kinds.{kindsOf, kindNumbers, limits}
-use Rattle.records.specs.File.{count, badRecord, again, missing, beyond}
+use Rattle.records.specs.format.Scan.{any}
+use Rattle.records.specs.format.Kinds.{kindsOf, kindNumbers, limits}
+use Rattle.records.specs.format.File.{count, badRecord, again, missing, beyond}
 use Rattle.records_sizes.specs.joints.Gathered.{sizesOf, readerOf}
-use Rattle.records.specs.Cells.{slotCount}
+use Rattle.records.specs.format.Cells.{slotCount}
 use Rattle.records_sheet.specs.joints.Sheet.{Small, missingIn, flagsAfter}
 use Rattle.records_sheet.proofs.Sheets.{any-missing-read, length-flags}
 use Rattle.records_form.proofs.FormLaws.{bad-record, cell-again, cell-missing, cell-beyond, none-holds, sizes-small, sizes-fit}

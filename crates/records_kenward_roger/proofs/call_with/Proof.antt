@@ -1,9 +1,9 @@
 -- `records_kenward_roger::call_with` meets its contract.
 use mathlib.Core.Path.{refl, sym, _∙_}
 use denote.Ref.{now}
-use Rattle.records.proofs.CutoffLaws.{table-length}
-use Rattle.records.specs.KenwardRogerCall.{number, seriesCall}
-use Rattle.records.proofs.CallLaws.{other-length, other-table, own-answer}
+use Rattle.records.proofs.readers.CutoffLaws.{table-length}
+use Rattle.records.specs.calls.KenwardRogerCall.{number, seriesCall}
+use Rattle.records.proofs.calls.CallLaws.{other-length, other-table, own-answer}
 use borrow.Author.Needs.{needs}
 use Rattle.records_kenward_roger.proofs.call_with.Statement.{statement}
 use Rattle.records_kenward_roger.proofs.call_with.Tie as tie

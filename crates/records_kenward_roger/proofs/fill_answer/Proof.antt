@@ -1,9 +1,9 @@
 -- `records_kenward_roger::fill_answer` meets its contract.
 use mathlib.Core.Path.{ap, _∙_}
 use denote.Ref.{now}
-use Rattle.records.specs.Layout.{answerBytes}
-use Rattle.records.specs.KenwardRogerCall.{number, entries}
-use Rattle.records.proofs.CallLaws.{kept-bytes, filled-bytes}
+use Rattle.records.specs.format.Layout.{answerBytes}
+use Rattle.records.specs.calls.KenwardRogerCall.{number, entries}
+use Rattle.records.proofs.calls.CallLaws.{kept-bytes, filled-bytes}
 use borrow.Author.Needs.{needs}
 use Rattle.records_kenward_roger.proofs.fill_answer.Statement.{statement}
 use Rattle.records_kenward_roger.proofs.fill_answer.Tie as tie

@@ -3,7 +3,7 @@ use mathlib.Core.Path.{refl}
 use native.Mathlib.Omega.{arith}
 use lib.Ieee.{ofBits}
 use Rattle.records.specs.declared.Shape.the-variants.{Series}
-use Rattle.records.proofs.Limits.{slot-count}
+use Rattle.records.proofs.readers.Limits.{slot-count}
 use borrow.Author.Needs.{needs}
 use Rattle.records_kenward_roger.proofs.judge_panel.Statement.{statement}
 use Rattle.records_kenward_roger.proofs.judge_panel.Tie as tie

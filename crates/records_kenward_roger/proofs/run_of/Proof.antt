@@ -2,7 +2,7 @@
 use mathlib.Core.Path.{_≡_, sym, ap, _∙_, subst}
 use denote.Ref.{now}
 use lib.ListN.{length}
-use Rattle.records.specs.Series.{design}
+use Rattle.records.specs.readers.Series.{design}
 use Rattle.records_sheet.specs.joints.Sheet.{Small}
 use Rattle.records_torn.proofs.ShortSheet.{length-short}
 use Rattle.records_refusals.specs.joints.Room.{SeriesRead, SeriesShort}

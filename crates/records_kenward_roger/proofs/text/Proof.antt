@@ -3,8 +3,8 @@ use native.Mathlib.Omega.{arith}
 use mathlib.Core.Path.{ap, ap₂, _∙_}
 use denote.Ref.{now}
 use Rattle.arithmetic_cutoffs.specs.declared.Cutoffs.{Cutoffs}
-use Rattle.records.specs.Text.{textOf}
-use Rattle.records.specs.KenwardRogerCall.{number, entries}
+use Rattle.records.specs.text.Text.{textOf}
+use Rattle.records.specs.calls.KenwardRogerCall.{number, entries}
 use Rattle.records_answer_text.proofs.CursorLaws.{named}
 use borrow.Author.Needs.{needs}
 use Rattle.records_kenward_roger.proofs.text.Statement.{statement}

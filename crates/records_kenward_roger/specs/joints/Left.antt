@@ -8,8 +8,8 @@ use Rattle.algebra.specs.Small.{Rows}
 use Rattle.adjustment.specs.Adjusted.{Stack, adjustmentRefusal}
 use Rattle.adjustment_adjusted.specs.joints.FromInformation.{accepted}
 use Rattle.tests.specs.declared.Entry.{Entry}
-use Rattle.records.specs.Series.{design, phi, sigma2}
-use Rattle.records.specs.KenwardRogerCall.{adjusted, number, entries, rotations, specimensRun}
+use Rattle.records.specs.readers.Series.{design, phi, sigma2}
+use Rattle.records.specs.calls.KenwardRogerCall.{adjusted, number, entries, rotations, specimensRun}
 
 -- the adjustment of the series s returns its number r, and where that is 0 what is lent for its answers, with a name that ends in ₀ before it, holds them; otherwise that stays as it is
 pub record Adjusts (c : Cutoffs) (s : List ℕ) (r : ℕ) (a₀ a : Rows) (b₀ b : Stack) (d₀ d : Rows) (m₀ m : ℕ) : Type 0 where

@@ -1,6 +1,6 @@
 -- `records_kinds::archive_kind` meets its contract.
 use borrow.Author.Tests.{ne-eqb}
-use Rattle.records.specs.Kinds.{kindAt, archiveKinds}
+use Rattle.records.specs.format.Kinds.{kindAt, archiveKinds}
 use borrow.Author.Needs.{needs}
 use Rattle.records_kinds.proofs.archive_kind.Statement.{statement}
 use Rattle.records_kinds.proofs.archive_kind.Tie as tie

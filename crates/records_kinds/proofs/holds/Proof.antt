@@ -1,5 +1,5 @@
 -- `records_kinds::holds` meets its contract.
-use Rattle.records.specs.Kinds.{holds}
+use Rattle.records.specs.format.Kinds.{holds}
 use borrow.Author.Needs.{needs}
 use Rattle.records_kinds.proofs.holds.Statement.{statement}
 use Rattle.records_kinds.proofs.holds.Tie as tie

@@ -1,5 +1,5 @@
 -- `records_kinds::index_of` meets its contract.
-use Rattle.records.specs.Kinds.{indexOf}
+use Rattle.records.specs.format.Kinds.{indexOf}
 use borrow.Author.Needs.{needs}
 use Rattle.records_kinds.proofs.index_of.Statement.{statement}
 use Rattle.records_kinds.proofs.index_of.Tie as tie

@@ -1,6 +1,6 @@
 -- `records_kinds::kenward_roger_kind` meets its contract.
 use borrow.Author.Tests.{ne-eqb}
-use Rattle.records.specs.Kinds.{kindAt, kenwardRogerKinds}
+use Rattle.records.specs.format.Kinds.{kindAt, kenwardRogerKinds}
 use borrow.Author.Needs.{needs}
 use Rattle.records_kinds.proofs.kenward_roger_kind.Statement.{statement}
 use Rattle.records_kinds.proofs.kenward_roger_kind.Tie as tie

@@ -1,6 +1,6 @@
 -- `records_kinds::limits` meets its contract.
 use mathlib.Core.Path.{refl}
-use Rattle.records.specs.Kinds.{limits}
+use Rattle.records.specs.format.Kinds.{limits}
 use Rattle.records_kinds.proofs.limits.Statement.{statement}
 use Rattle.records_kinds.proofs.limits.Tie as tie
 

@@ -1,6 +1,6 @@
 -- `records_kinds::satterthwaite_kind` meets its contract.
 use borrow.Author.Tests.{ne-eqb}
-use Rattle.records.specs.Kinds.{kindAt, satterthwaiteKinds}
+use Rattle.records.specs.format.Kinds.{kindAt, satterthwaiteKinds}
 use borrow.Author.Needs.{needs}
 use Rattle.records_kinds.proofs.satterthwaite_kind.Statement.{statement}
 use Rattle.records_kinds.proofs.satterthwaite_kind.Tie as tie

@@ -1,6 +1,6 @@
 -- `records_kinds::test_kind` meets its contract.
 use borrow.Author.Tests.{ne-eqb}
-use Rattle.records.specs.Kinds.{kindAt, testKinds}
+use Rattle.records.specs.format.Kinds.{kindAt, testKinds}
 use borrow.Author.Needs.{needs}
 use Rattle.records_kinds.proofs.test_kind.Statement.{statement}
 use Rattle.records_kinds.proofs.test_kind.Tie as tie

@@ -1,5 +1,5 @@
 -- `records_kinds::value_holds` meets its contract.
-use Rattle.records.specs.Kinds.{valueHolds}
+use Rattle.records.specs.format.Kinds.{valueHolds}
 use borrow.Author.Needs.{needs}
 use Rattle.records_kinds.proofs.value_holds.Statement.{statement}
 use Rattle.records_kinds.proofs.value_holds.Tie as tie

@@ -1,5 +1,5 @@
 -- `records_kinds::width` meets its contract.
-use Rattle.records.specs.Kinds.{width}
+use Rattle.records.specs.format.Kinds.{width}
 use borrow.Author.Needs.{needs}
 use Rattle.records_kinds.proofs.width.Statement.{statement}
 use Rattle.records_kinds.proofs.width.Tie as tie

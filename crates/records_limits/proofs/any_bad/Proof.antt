@@ -3,10 +3,10 @@ use Prim.Native.Nat.{_≤_, _-_}
 use mathlib.Core.Path.{_≡_, refl, sym, _∙_}
 use mathlib.Core.Bool.{false}
 use denote.Ref.{now}
-use Rattle.records.specs.Scan.{any}
-use Rattle.records.proofs.ScanLaws.{any-miss, any-hit}
-use Rattle.records.specs.File.{count, kindOf, badRecord}
-use Rattle.records.specs.Kinds.{kindAt, kindsOf}
+use Rattle.records.specs.format.Scan.{any}
+use Rattle.records.proofs.format.ScanLaws.{any-miss, any-hit}
+use Rattle.records.specs.format.File.{count, kindOf, badRecord}
+use Rattle.records.specs.format.Kinds.{kindAt, kindsOf}
 use native.Mathlib.Omega.{arith}
 use mathlib.Core.Logic.{⊎-elim}
 use Rattle.records_kinds.proofs.KnownKind.{Known, asked, same-kind, kept-kind}
@@ -19,25 +19,25 @@ Inv-loop call limit s n last₀ k₀ i₀ last k i = (n ≡ count s) × (i ≤ n
 abbrev μ-loop : tie.MeasureT-loop
 μ-loop call limit s n last₀ k₀ i₀ last k i = n - i
 
-kind-of-requires : tie.Need-kind-of-requires Inv-loop μ-loop
-kind-of-requires c κs = tt
+kind-at-requires : tie.Need-kind-at-requires Inv-loop μ-loop
+kind-at-requires c κs = tt
 
 loop-holds : tie.Need-loop-holds Inv-loop μ-loop
 unfolding any
-loop-holds c = (refl, omega arith, c .kind-of .ensures, refl)
+loop-holds c = (refl, omega arith, c .kind-at .ensures, refl)
 
-kind-at-requires : tie.Need-kind-at-requires Inv-loop μ-loop
-kind-at-requires c κs = omega arith
+kind-of-requires : tie.Need-kind-of-requires Inv-loop μ-loop
+kind-of-requires c κs = omega arith
 
-kind-of-requires-2 : tie.Need-kind-of-requires-2 Inv-loop μ-loop
-kind-of-requires-2 c κs = tt
+kind-at-requires-2 : tie.Need-kind-at-requires-2 Inv-loop μ-loop
+kind-at-requires-2 c κs = tt
 
 -- what the loop keeps is what the table says of record i's kind
 known-kind : (c : tie.Joined1 Inv-loop μ-loop)
     → let a = c .before .before .before .before .before .before .args in Known (kindsOf (a .call) (a .limit)) (kindOf (now (a .s)) (c .before .before .before .loop .i)) (c .if1 .last) (c .if1 .k)
 known-kind c =
-    ⊎-elim (λ w. asked _ _ _ _ _ _ (c .before .kind-at .ensures) (w .1 .ensures) (w .2) (w .3))
-    (λ w. same-kind _ _ _ _ _ _ _ (c .before .kind-at .ensures) (w .0 .left) (c .before .before .before .loop .inv .2) (w .1) (w .2)) (c .if1 .came)
+    ⊎-elim (λ w. asked _ _ _ _ _ _ (c .before .kind-of .ensures) (w .1 .ensures) (w .2) (w .3))
+    (λ w. same-kind _ _ _ _ _ _ _ (c .before .kind-of .ensures) (w .0 .left) (c .before .before .before .loop .inv .2) (w .1) (w .2)) (c .if1 .came)
 
 bad-record-requires : tie.Need-bad-record-requires Inv-loop μ-loop
 bad-record-requires c κs = omega arith
@@ -71,10 +71,10 @@ any-bad-spec =
     (tie.spec
     Inv-loop
     μ-loop
-    kind-of-requires
-    loop-holds
     kind-at-requires
-    kind-of-requires-2
+    loop-holds
+    kind-of-requires
+    kind-at-requires-2
     bad-record-requires
     returns
     add-i

@@ -1,5 +1,5 @@
 -- `records_limits::out_of` meets its contract.
-use Rattle.records.specs.File.{outOf}
+use Rattle.records.specs.format.File.{outOf}
 use borrow.Author.Needs.{needs}
 use Rattle.records_limits.proofs.out_of.Statement.{statement}
 use Rattle.records_limits.proofs.out_of.Tie as tie

@@ -1,6 +1,6 @@
 -- `records_little_endian::long_at` meets its contract.
 use borrow.Author.Needs.{needs}
-use Rattle.records.specs.Bytes.{long}
+use Rattle.records.specs.format.Bytes.{long}
 use Rattle.records_little_endian.proofs.long_at.Statement.{statement}
 use Rattle.records_little_endian.proofs.long_at.Tie as tie
 use Rattle.records_little_endian.proofs.long_at.Reads as reads

@@ -1,6 +1,6 @@
 -- `records_little_endian::put_long` meets its contract.
 use borrow.Author.Needs.{needs}
-use Rattle.records.specs.Bytes.{bytesOf}
+use Rattle.records.specs.format.Bytes.{bytesOf}
 use Rattle.records_little_endian.proofs.put_long.Statement.{statement}
 use Rattle.records_little_endian.proofs.put_long.Tie as tie
 use Rattle.records_little_endian.proofs.put_long.Reads as reads

@@ -1,6 +1,6 @@
 -- `records_little_endian::word_at` meets its contract.
 use borrow.Author.Needs.{needs}
-use Rattle.records.specs.Bytes.{word}
+use Rattle.records.specs.format.Bytes.{word}
 use Rattle.records_little_endian.proofs.word_at.Statement.{statement}
 use Rattle.records_little_endian.proofs.word_at.Tie as tie
 use Rattle.records_little_endian.proofs.word_at.Reads as reads

@@ -4,9 +4,9 @@ use mathlib.Core.Path.{_≡_, refl, sym, _∙_}
 use mathlib.Core.Bool.{false}
 use denote.Ref.{now}
 use native.Mathlib.Omega.{arith}
-use Rattle.records.specs.Scan.{any}
-use Rattle.records.specs.File.{count}
-use Rattle.records.proofs.ScanLaws.{any-miss, any-hit}
+use Rattle.records.specs.format.Scan.{any}
+use Rattle.records.specs.format.File.{count}
+use Rattle.records.proofs.format.ScanLaws.{any-miss, any-hit}
 use Rattle.records_order.specs.joints.Keys.{leastKey, fallsAt}
 use Rattle.records_order.proofs.KeyLaws.{fall-here, rise-here, next-least, falls-each}
 use Rattle.records_order.proofs.falls.Statement.{statement}

@@ -5,8 +5,8 @@ use borrow.Author.Needs.{needs}
 use Rattle.records_order.proofs.key_at.Statement.{statement}
 use Rattle.records_order.proofs.key_at.Tie as tie
 
-kind-at-requires : tie.Need-kind-at-requires
-kind-at-requires c κs = search needs
+kind-of-requires : tie.Need-kind-of-requires
+kind-of-requires c κs = search needs
 
 index-requires : tie.Need-index-requires
 index-requires c κs = search needs
@@ -58,7 +58,7 @@ pub key-at-spec : {M : Type 1} → statement M
 key-at-spec =
     tie.close
     (tie.spec
-    kind-at-requires
+    kind-of-requires
     index-requires
     key-part-requires
     matrix-at-requires

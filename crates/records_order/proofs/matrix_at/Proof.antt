@@ -3,14 +3,14 @@ use mathlib.Core.Path.{_≡_}
 use mathlib.Core.Bool.{true, false}
 use native.Mathlib.Omega.{arith}
 use denote.Ref.{now}
-use Rattle.records.specs.File.{kindOf}
-use Rattle.records.specs.Order.{numbersMatrix, matrixOf}
+use Rattle.records.specs.format.File.{kindOf}
+use Rattle.records.specs.format.Order.{numbersMatrix, matrixOf}
 use borrow.Author.Needs.{needs}
 use Rattle.records_order.proofs.matrix_at.Statement.{statement}
 use Rattle.records_order.proofs.matrix_at.Tie as tie
 
-kind-at-requires : tie.Need-kind-at-requires
-kind-at-requires c κs = search needs
+kind-of-requires : tie.Need-kind-of-requires
+kind-of-requires c κs = search needs
 
 index-requires : tie.Need-index-requires
 index-requires c κs = search needs
@@ -37,7 +37,7 @@ pub matrix-at-spec : {M : Type 1} → statement M
 matrix-at-spec =
     tie.close
     (tie.spec
-    kind-at-requires
+    kind-of-requires
     index-requires
     numbers-matrix-requires
     count-at-requires

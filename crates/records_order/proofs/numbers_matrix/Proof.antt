@@ -1,5 +1,5 @@
 -- `records_order::numbers_matrix` meets its contract.
-use Rattle.records.specs.Order.{numbersMatrix}
+use Rattle.records.specs.format.Order.{numbersMatrix}
 use Rattle.records_order.proofs.numbers_matrix.Statement.{statement}
 use Rattle.records_order.proofs.numbers_matrix.Tie as tie
 

@@ -4,8 +4,8 @@ use Prim.Native.Nat.{ℕ, zero, suc, _+_, _*_}
 use mathlib.Core.Bool.{Bool}
 use mathlib.Core.List.{List}
 use lib.Dec.{ltb}
-use Rattle.records.specs.File.{kindOf, rowOf, columnOf}
-use Rattle.records.specs.Order.{matrixOf}
+use Rattle.records.specs.format.File.{kindOf, rowOf, columnOf}
+use Rattle.records.specs.format.Order.{matrixOf}
 
 -- the key of record i
 unfoldable pub keyOf : List ℕ → ℕ → ℕ

@@ -4,7 +4,7 @@ use mathlib.Core.Path.{_≡_, refl, sym, ap, _∙_, subst}
 use native.Mathlib.Omega.{arith}
 use denote.Ref.{now}
 use lib.ListN.{length, take}
-use Rattle.records.specs.Bytes.{byte}
+use Rattle.records.specs.format.Bytes.{byte}
 use Rattle.records_pieces.specs.joints.Arrived.{Arrived, arrivedAs, fed, Open}
 use Rattle.records_pieces.proofs.PieceLaws.{fed-none, fed-more, fed-all, byte-open, byte-length}
 use Rattle.records_pieces.proofs.feed.Statement.{statement}

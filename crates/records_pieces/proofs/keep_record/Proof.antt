@@ -5,7 +5,7 @@ use native.Mathlib.Omega.{arith}
 use lib.ListN.{length, set, length-set}
 use Rattle.algebra.specs.Fold.{span}
 use Rattle.algebra.proofs.FoldLaws.{fold-start, fold-next}
-use Rattle.records.specs.Bytes.{byte}
+use Rattle.records.specs.format.Bytes.{byte}
 use Rattle.records_pieces.proofs.keep_record.Statement.{statement}
 use Rattle.records_pieces.proofs.keep_record.Tie as tie
 

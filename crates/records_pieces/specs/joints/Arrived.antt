@@ -8,9 +8,9 @@ use mathlib.Core.List.{List, [], _∷_, _++_}
 use lib.Dec.{eqb, ltb, leb}
 use lib.ListN.{length, set}
 use Rattle.algebra.specs.Fold.{span}
-use Rattle.records.specs.Bytes.{byte}
-use Rattle.records.specs.Scan.{any}
-use Rattle.records.specs.File.{count}
+use Rattle.records.specs.format.Bytes.{byte}
+use Rattle.records.specs.format.Scan.{any}
+use Rattle.records.specs.format.File.{count}
 use Rattle.records_order.specs.joints.Keys.{keyOf, leastKey, fallsAt}
 use Rattle.records_pieces.specs.declared.Arrival.{Arrival}
 

@@ -5,8 +5,8 @@ use mathlib.Core.Bool.{false}
 use lib.ListN.{length}
 use lib.Ieee.{ofBits}
 use native.Mathlib.Omega.{arith}
-use Rattle.records.specs.Scan.{any}
-use Rattle.records.proofs.ScanLaws.{any-miss, any-hit}
+use Rattle.records.specs.format.Scan.{any}
+use Rattle.records.proofs.format.ScanLaws.{any-miss, any-hit}
 use Rattle.records_refusals.specs.joints.Checks.{negatives}
 use Rattle.records_refusals.proofs.any_negative.Statement.{statement}
 use Rattle.records_refusals.proofs.any_negative.Tie as tie

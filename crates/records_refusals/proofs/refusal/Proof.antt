@@ -7,29 +7,46 @@ use denote.Ref.{now}
 use lib.Dec.{lit≤}
 use lib.ListN.{length}
 use Rattle.records.specs.declared.Sizes.{Sizes}
-use Rattle.records.specs.Kinds.{kindsOf}
-use Rattle.records.specs.Cells.{slotCount}
-use Rattle.records.specs.File.{count}
-use Rattle.records.specs.Shortened.{allTorn}
-use Rattle.records.specs.Series.{sizes, asSent, badSize}
+use Rattle.records.specs.format.Kinds.{kindsOf}
+use Rattle.records.specs.format.Cells.{slotCount}
+use Rattle.records.specs.format.File.{count}
+use Rattle.records.specs.readers.Shortened.{allTorn}
+use Rattle.records.specs.readers.Series.{sizes, asSent, badSize}
 use Rattle.records_sheet.specs.joints.Sheet.{sheetAfter}
 use Rattle.records_sheet.proofs.Sheets.{length-sheet}
 use Rattle.records_refusals.proofs.RefusalLaws.{Sound, sound-of, starts, weights-fit, records-refuse, size-is, size-refuses, all-torn-is, torn-refuses, value-refuses, sheet-refuses}
 use borrow.Author.Needs.{needs}
 use Rattle.records_refusals.proofs.refusal.Statement.{statement}
 use Rattle.records_refusals.proofs.refusal.Tie as tie
-use Rattle.records_refusals.proofs.refusal.Reads as reads
-use Rattle.records_refusals.proofs.refusal.Lts as lts
-use Rattle.records_block_limits.proofs.bad_size.Reads as bad-size-reads
-use Rattle.records_file.proofs.any_not_finite.Reads as any-not-finite-reads
-use Rattle.records_refusals.proofs.records_refusal.Reads as records-refusal-reads
-use Rattle.records_refusals.proofs.all_torn.Reads as all-torn-reads
-use Rattle.records_refusals.proofs.sheet_refusal.Reads as sheet-refusal-reads
-use Rattle.records_series.proofs.blocks_of.Reads as blocks-of-reads
-use Rattle.records_sheet.proofs.fill_sheet.Reads as fill-sheet-reads
-use Rattle.records_sheet.proofs.first_slots.Reads as first-slots-reads
-use Rattle.records_sizes.proofs.series_sizes.Reads as series-sizes-reads
 use Rattle.records.specs.declared.Shape.the-variants.{Series}
+
+-- ---- the stages of the code, each from the next that is named here: where a line is put in, one of these moves
+abbrev start : tie.After-records-refusal → tie.Start
+start c = c .before .before .before .before .before
+
+abbrev recorded : tie.Else1 → tie.After-records-refusal
+recorded c = c .before .before .before
+
+abbrev sized : tie.Else2 → tie.After-series-sizes
+sized c = c .before .before .before
+
+abbrev filled : tie.After-fill-sheet → tie.After-first-slots
+filled c = c .before .before .before
+
+abbrev weighed : tie.After-all-torn → tie.After-fill-sheet
+weighed c = c .before .before .before .before
+
+abbrev finite : tie.Else4 → tie.Else3
+finite c = c .before .before
+
+-- two of them, from further on
+abbrev start-of-sizes : tie.After-series-sizes → tie.Start
+start-of-sizes c = start (recorded (c .before))
+
+abbrev sized-of-filled : tie.After-fill-sheet → tie.After-series-sizes
+sized-of-filled c = sized (filled c .before)
+
+-- ---- what holds at them
 
 records-refusal-requires : tie.Need-records-refusal-requires
 records-refusal-requires c κs = let p = c .before .before .before .before .pre in (p .some, p .most, p .clear, p .flagged)
@@ -39,49 +56,51 @@ same-length c = search needs
 
 returns : tie.Need-returns
 returns c =
-    let a = c .before .before .before .before .before .before .before .before .args in
-    (records-refuse (a .w) (now (a .s)) _ (c .before .before .before .records-refusal .ensures) (c .if1 .taken), λ q. absurd (c .if1 .taken q))
+    let r = c .before .before .before in
+    let a = start r .args in
+    (records-refuse (a .w) (now (a .s)) _ (r .records-refusal .ensures) (c .if1 .taken), λ q. absurd (c .if1 .taken q))
 
 series-sizes-requires : tie.Need-series-sizes-requires
 series-sizes-requires c κs = search needs
 
 -- its records by themselves do not refuse the file
-sound : (c : tie.Else1) (z : Sizes) → z ≡ sizes (now (c .before .before .before .before .before .before .before .before .args .s)) → Sound (c .before .before .before .before .before .before .before .before .args .w) (now (c .before .before .before .before .before .before .before .before .args .s)) z
-sound c z e =
-    let a = c .before .before .before .before .before .before .before .before .args in
-    let p = c .before .before .before .before .before .before .before .before .pre in
-    sound-of (a .w) (now (a .s)) z _ (p .some) (p .most) (c .before .before .before .records-refusal .ensures) (c .if1 .left) e
+sound : (c : tie.After-series-sizes) → let a = start-of-sizes c .args in Sound (a .w) (now (a .s)) (c .series-sizes .result)
+sound c =
+    let e = c .before in
+    let s = start-of-sizes c in
+    sound-of (s .args .w) (now (s .args .s)) _ _ (s .pre .some) (s .pre .most) (recorded e .records-refusal .ensures) (e .if1 .left) (c .series-sizes .ensures)
 
 blocks-of-requires : tie.Need-blocks-of-requires
-blocks-of-requires c κs = sound (c .before) _ (c .series-sizes .ensures) .formed .blocks
+blocks-of-requires c κs = sound c .formed .blocks
 
 bad-size-requires : tie.Need-bad-size-requires
-bad-size-requires c κs = (sound (c .before .before) _ (c .before .series-sizes .ensures) .formed .blocks, c .blocks-of .ensures .1)
+bad-size-requires c κs = (sound (c .before) .formed .blocks, c .blocks-of .ensures .1)
 
 same-length-2 : tie.Need-same-length-2
 same-length-2 c = search needs
 
 returns-2 : tie.Need-returns-2
 returns-2 c =
-    let a = c .before .before .before .before .before .before .before .before .before .before .before .before .args in
-    let h = sound (c .before .before .before .before) _ (c .before .before .before .series-sizes .ensures) in
+    let z = c .before .before .before in
+    let a = start-of-sizes z .args in
+    let h = sound z in
     let e = size-is (a .w) (now (a .s)) _ h _ _ (c .before .before .blocks-of .ensures .0) (c .before .bad-size .ensures) in
     (size-refuses (a .w) (now (a .s)) _ h (sym e ∙ c .if2 .taken), λ q. absurd (omega arith))
 
 -- nor do its blocks
-good-size : (c : tie.Else2) → badSize (now (c .before .before .before .before .before .before .before .before .before .before .before .before .args .s)) ≡ false
+good-size : (c : tie.Else2) → badSize (now (start-of-sizes (sized c) .args .s)) ≡ false
 good-size c =
-    let a = c .before .before .before .before .before .before .before .before .before .before .before .before .args in
-    let h = sound (c .before .before .before .before) _ (c .before .before .before .series-sizes .ensures) in
-    sym (size-is (a .w) (now (a .s)) _ h _ _ (c .before .before .blocks-of .ensures .0) (c .before .bad-size .ensures)) ∙ c .if2 .left
+    let a = start-of-sizes (sized c) .args in
+    sym (size-is (a .w) (now (a .s)) _ (sound (sized c)) _ _ (c .before .before .blocks-of .ensures .0) (c .before .bad-size .ensures)) ∙ c .if2 .left
 
 first-slots-requires : tie.Need-first-slots-requires
-first-slots-requires c κs = sound (c .before .before .before .before) _ (c .before .before .before .series-sizes .ensures) .formed .small
+first-slots-requires c κs = sound (sized c) .formed .small
 
 fill-sheet-requires : tie.Need-fill-sheet-requires
 fill-sheet-requires c κs =
-    let h = sound (c .before .before .before .before .before .before .before) _ (c .before .before .before .before .before .before .series-sizes .ensures) in
-    let p = c .before .before .before .before .before .before .before .before .before .before .before .before .before .before .before .pre in
+    let z = sized (c .before .before .before) in
+    let h = sound z in
+    let p = start-of-sizes z .pre in
     let f = h .formed .fit in
     let l = p .written in
     ((h .formed .small, c .before .before .first-slots .ensures, h .formed .within), (p .blank, omega arith))
@@ -90,20 +109,23 @@ array-read-weights : tie.Need-array-read-weights
 array-read-weights c = search needs
 
 -- the filled sheet has room for the series
-filled-room : (c : tie.After-fill-sheet) → slotCount (kindsOf Series (c .before .before .before .before .before .before .before .series-sizes .result)) ≤ length (c .fill-sheet .last .1 .1 .1 .1 .0)
+filled-room : (c : tie.After-fill-sheet) → slotCount (kindsOf Series (sized-of-filled c .series-sizes .result)) ≤ length (c .fill-sheet .last .1 .1 .1 .1 .0)
 filled-room c =
-    let a = c .before .before .before .before .before .before .before .before .before .before .before .before .before .before .before .before .args in
-    let h = sound (c .before .before .before .before .before .before .before .before) _ (c .before .before .before .before .before .before .before .series-sizes .ensures) in
+    let z = sized-of-filled c in
+    let s = start-of-sizes z in
+    let a = s .args in
+    let h = sound z in
     let f = h .formed .fit in
-    let l = c .before .before .before .before .before .before .before .before .before .before .before .before .before .before .before .before .pre .written in
-    let e = ap length (c .fill-sheet .ensures) ∙ length-sheet (length (now (a .sheet))) (kindsOf Series (c .before .before .before .before .before .before .before .series-sizes .result)) (now (a .s)) (count (now (a .s))) in
+    let l = s .pre .written in
+    let e = ap length (c .fill-sheet .ensures) ∙ length-sheet (length (now (a .sheet))) (kindsOf Series (z .series-sizes .result)) (now (a .s)) (count (now (a .s))) in
     omega arith
 
 all-torn-requires : tie.Need-all-torn-requires
 all-torn-requires c κs =
-    let z : Sizes = c .before .before .before .before .before .before .before .before .before .before .series-sizes .result in
-    let e = starts z 5 _ (lit≤ tt) (c .before .before .before .before .before .before .first-slots .ensures) in
-    let l = weights-fit z _ (filled-room (c .before .before .before)) in
+    let f = c .before .before .before in
+    let z : Sizes = sized-of-filled f .series-sizes .result in
+    let e = starts z 5 _ (lit≤ tt) (filled f .first-slots .ensures) in
+    let l = weights-fit z _ (filled-room f) in
     omega arith
 
 same-length-3 : tie.Need-same-length-3
@@ -113,17 +135,21 @@ same-length-4 : tie.Need-same-length-4
 same-length-4 c = search needs
 
 -- what the code finds of the weights is what the file says of them
-torn-found : (c : tie.After-all-torn) → c .all-torn .result ≡ allTorn (asSent (now (c .before .before .before .before .before .before .before .before .before .before .before .before .before .before .before .before .before .before .before .before .args .s)))
+torn-found : (c : tie.After-all-torn) → c .all-torn .result ≡ allTorn (asSent (now (start-of-sizes (sized-of-filled (weighed c)) .args .s)))
 torn-found c =
-    let a = c .before .before .before .before .before .before .before .before .before .before .before .before .before .before .before .before .before .before .before .before .args in
-    let h = sound (c .before .before .before .before .before .before .before .before .before .before .before .before) _ (c .before .before .before .before .before .before .before .before .before .before .before .series-sizes .ensures) in
-    all-torn-is (a .w) (now (a .s)) _ h (length (now (a .sheet))) _ _ _ (c .before .before .before .before .before .before .before .before .before .before .before .before .before .before .before .before .before .before .before .before .pre .written) (c .before .before .before .before .before .before .before .first-slots .ensures) (c .before .before .before .before .fill-sheet .ensures) (c .all-torn .ensures)
+    let f = weighed c in
+    let z = sized-of-filled f in
+    let s = start-of-sizes z in
+    let a = s .args in
+    let first = filled f .first-slots .ensures in
+    all-torn-is (a .w) (now (a .s)) _ (sound z) (length (now (a .sheet))) _ _ _ (s .pre .written) first (f .fill-sheet .ensures) (c .all-torn .ensures)
 
 returns-3 : tie.Need-returns-3
 returns-3 c =
-    let a = c .before .before .before .before .before .before .before .before .before .before .before .before .before .before .before .before .before .before .before .before .before .args in
-    let h = sound (c .before .before .before .before .before .before .before .before .before .before .before .before .before) _ (c .before .before .before .before .before .before .before .before .before .before .before .before .series-sizes .ensures) in
-    (torn-refuses (a .w) (now (a .s)) _ h (good-size (c .before .before .before .before .before .before .before .before .before)) (sym (torn-found (c .before)) ∙ c .if3 .taken), λ q. absurd (omega arith))
+    let g = filled (weighed (c .before)) .before in
+    let z = sized g in
+    let a = start-of-sizes z .args in
+    (torn-refuses (a .w) (now (a .s)) _ (sound z) (good-size g) (sym (torn-found (c .before)) ∙ c .if3 .taken), λ q. absurd (omega arith))
 
 any-not-finite-requires : tie.Need-any-not-finite-requires
 any-not-finite-requires c κs = search needs
@@ -136,14 +162,18 @@ same-length-6 c = search needs
 
 returns-4 : tie.Need-returns-4
 returns-4 c =
-    let a = c .before .before .before .before .before .before .before .before .before .before .before .before .before .before .before .before .before .before .before .before .before .before .before .args in
-    let h = sound (c .before .before .before .before .before .before .before .before .before .before .before .before .before .before .before) _ (c .before .before .before .before .before .before .before .before .before .before .before .before .before .before .series-sizes .ensures) in
-    (value-refuses (a .w) (now (a .s)) _ h (good-size (c .before .before .before .before .before .before .before .before .before .before .before)) (sym (torn-found (c .before .before .before)) ∙ c .before .before .if3 .left) (sym (c .before .any-not-finite .ensures) ∙ c .if4 .taken), λ q. absurd (omega arith))
+    let e = c .before .before in
+    let g = filled (weighed (e .before)) .before in
+    let z = sized g in
+    let a = start-of-sizes z .args in
+    let some-left = sym (torn-found (e .before)) ∙ e .if3 .left in
+    (value-refuses (a .w) (now (a .s)) _ (sound z) (good-size g) some-left (sym (c .before .any-not-finite .ensures) ∙ c .if4 .taken), λ q. absurd (omega arith))
 
 sheet-refusal-requires : tie.Need-sheet-refusal-requires
 sheet-refusal-requires c κs =
-    let h = sound (c .before .before .before .before .before .before .before .before .before .before .before .before .before .before .before .before .before) _ (c .before .before .before .before .before .before .before .before .before .before .before .before .before .before .before .before .series-sizes .ensures) in
-    ((h .formed .small, h .formed .blocks, c .before .before .before .before .before .before .before .before .before .before .before .before .first-slots .ensures, filled-room (c .before .before .before .before .before .before .before .before .before)), c .before .before .before .before .before .before .before .before .before .before .before .before .before .before .before .blocks-of .ensures .1)
+    let f = weighed (finite (c .before .before) .before) in
+    let h = sound (sized-of-filled f) in
+    ((h .formed .small, h .formed .blocks, filled f .first-slots .ensures, filled-room f), filled f .before .before .before .blocks-of .ensures .1)
 
 same-length-7 : tie.Need-same-length-7
 same-length-7 c = search needs
@@ -153,10 +183,19 @@ same-length-8 c = search needs
 
 returns-5 : tie.Need-returns-5
 returns-5 c =
-    let a = c .before .before .before .before .before .before .before .before .before .before .before .before .before .before .before .before .before .before .before .before .before .before .before .before .before .before .args in
-    let h = sound (c .before .before .before .before .before .before .before .before .before .before .before .before .before .before .before .before .before .before) _ (c .before .before .before .before .before .before .before .before .before .before .before .before .before .before .before .before .before .series-sizes .ensures) in
-    let e = c .before .before .before .before .before .before .before .before .before .before .fill-sheet .ensures in (
-      sheet-refuses (a .w) (now (a .s)) _ h (good-size (c .before .before .before .before .before .before .before .before .before .before .before .before .before .before)) (length (now (a .sheet))) _ _ _ (sym (torn-found (c .before .before .before .before .before .before)) ∙ c .before .before .before .before .before .if3 .left) (sym (c .before .before .before .before .any-not-finite .ensures) ∙ c .before .before .before .if4 .left) (c .before .before .before .before .before .before .before .before .before .before .before .before .before .before .before .before .before .before .before .before .before .before .before .before .before .before .pre .written) (c .before .before .before .before .before .before .before .before .before .before .before .before .before .before .before .before .blocks-of .ensures .0) e (c .sheet-refusal .ensures),
+    let v = c .before .before .before in
+    let t = finite v in
+    let f = weighed (t .before) in
+    let g = filled f .before in
+    let z = sized g in
+    let h = sound z in
+    let s = start-of-sizes z in
+    let a = s .args in
+    let some-left = sym (torn-found (t .before)) ∙ t .if3 .left in
+    let values = sym (v .before .any-not-finite .ensures) ∙ v .if4 .left in
+    let blocks = g .before .before .blocks-of .ensures .0 in
+    let e = f .fill-sheet .ensures in (
+      sheet-refuses (a .w) (now (a .s)) _ h (good-size g) (length (now (a .sheet))) _ _ _ some-left values (s .pre .written) blocks e (c .sheet-refusal .ensures),
       λ _. e ∙ ap (λ (z : Sizes). sheetAfter (length (now (a .sheet))) (kindsOf Series z) (now (a .s)) (count (now (a .s)))) (h .sized),
     )
 

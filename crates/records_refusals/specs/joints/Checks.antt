@@ -9,12 +9,12 @@ use Rattle.arithmetic.specs.Numbers.{plusZero}
 use Rattle.adjustment.specs.declared.Block.{Block}
 use Rattle.algebra.specs.Reasons.{first}
 use Rattle.records.specs.declared.Sizes.{Sizes}
-use Rattle.records.specs.Scan.{any}
-use Rattle.records.specs.Kinds.{Table, kindsOf, kenwardRogerKinds}
-use Rattle.records.specs.KindNumbers.{kindWeight, kindSigma2, kindContrast}
-use Rattle.records.specs.Cells.{firstSlot}
-use Rattle.records.specs.Reader.{Reader, readerReasons}
-use Rattle.records.specs.Series.{sizes, blockReasons}
+use Rattle.records.specs.format.Scan.{any}
+use Rattle.records.specs.format.Kinds.{Table, kindsOf, kenwardRogerKinds}
+use Rattle.records.specs.format.KindNumbers.{kindWeight, kindSigma2, kindContrast}
+use Rattle.records.specs.format.Cells.{firstSlot}
+use Rattle.records.specs.readers.Reader.{Reader, readerReasons}
+use Rattle.records.specs.readers.Series.{sizes, blockReasons}
 use Rattle.records_block_limits.specs.joints.Checks.{misfitIn}
 use Rattle.records_contrast.specs.joints.Contrast.{nonzeros, zeroContrastIn}
 use Rattle.records.specs.declared.Shape.the-variants.{Series}

@@ -8,10 +8,10 @@ use lib.ListN.{length, replicate}
 use lib.Ieee.{Float}
 use Rattle.arithmetic.specs.Numbers.{plusZero}
 use Rattle.records.specs.declared.Sizes.{Sizes}
-use Rattle.records.specs.Kinds.{kenwardRoger}
-use Rattle.records.specs.Cells.{slotCount}
-use Rattle.records.specs.File.{count}
-use Rattle.records.specs.Series.{refusal, sizes, kinds}
+use Rattle.records.specs.format.Kinds.{kenwardRoger}
+use Rattle.records.specs.format.Cells.{slotCount}
+use Rattle.records.specs.format.File.{count}
+use Rattle.records.specs.readers.Series.{refusal, sizes, kinds}
 use Rattle.records_sheet.specs.joints.Sheet.{firstSlots, sheetAfter}
 use Rattle.records_torn.specs.joints.Packed.{shortSheet}
 

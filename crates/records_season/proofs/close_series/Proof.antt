@@ -4,7 +4,7 @@ use mathlib.Core.Path.{_≡_, ap, _∙_}
 use denote.Ref.{now}
 use lib.ListN.{length}
 use Rattle.tests.specs.declared.Number.{Number}
-use Rattle.records.specs.Season.{worst}
+use Rattle.records.specs.text.Season.{worst}
 use Rattle.records_answer_text.proofs.CursorLaws.{then, named}
 use Rattle.records_season.specs.joints.SeasonCame.{windowOf, withLatest}
 use Rattle.records_season.proofs.FedLaws.{f-is, refused-text, accepted-text}

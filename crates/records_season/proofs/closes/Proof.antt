@@ -3,8 +3,8 @@ use mathlib.Core.Path.{ap}
 use mathlib.Core.Bool.{Bool, not, _&&_}
 use lib.Dec.{eqb}
 use denote.Ref.{now}
-use Rattle.records.specs.Bytes.{byte}
-use Rattle.records.specs.Season.{closes}
+use Rattle.records.specs.format.Bytes.{byte}
+use Rattle.records.specs.text.Season.{closes}
 use borrow.Author.Needs.{needs}
 use Rattle.records_season.proofs.closes.Statement.{statement}
 use Rattle.records_season.proofs.closes.Tie as tie

@@ -4,7 +4,7 @@ use native.Mathlib.Omega.{arith}
 use mathlib.Core.Path.{_≡_, refl, _∙_}
 use denote.Ref.{now}
 use lib.ListN.{length, take}
-use Rattle.records_season.specs.joints.SeasonCame.{seasonAs, SeasonArrives, Fed}
+use Rattle.records_season.specs.joints.SeasonCame.{seasonAs, SeasonArrives, Fed, closedRoom}
 use Rattle.records_season.proofs.FedLaws.{fed-none, fed-more, fed-all, fed-arrives, fed-part, fed-wider}
 use Rattle.records_season.proofs.feed.Statement.{statement}
 use Rattle.records_season.proofs.feed.Tie as tie
@@ -13,7 +13,7 @@ abbrev Inv-loop : tie.InvT-loop
 Inv-loop piece kept₀ current₀ values₀ given₀ out₀ written₀ so-far₀ i₀ i-end kept current values given out written so-far i =
     (i-end ≡ length piece) × (i ≤ i-end) × (length kept ≡ length kept₀) × (length current ≡ length current₀) × (length values ≡ length values₀) × (length given ≡ length given₀)
     × (length out ≡ length out₀) × SeasonArrives (seasonAs so-far kept current values given) × (so-far .part ≡ (so-far₀ .part + i) % 16)
-    × Fed (take i piece) (462 * ((so-far₀ .part + i) / 16)) (seasonAs so-far₀ kept₀ current₀ values₀ given₀) out₀ 0 (seasonAs so-far kept current values given) out written
+    × Fed (take i piece) (closedRoom * ((so-far₀ .part + i) / 16)) (seasonAs so-far₀ kept₀ current₀ values₀ given₀) out₀ 0 (seasonAs so-far kept current values given) out written
 
 abbrev μ-loop : tie.MeasureT-loop
 μ-loop piece kept₀ current₀ values₀ given₀ out₀ written₀ so-far₀ i₀ i-end kept current values given out written so-far i = i-end - i

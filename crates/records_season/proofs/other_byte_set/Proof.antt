@@ -4,9 +4,9 @@ use mathlib.Core.Path.{_≡_, refl, sym, ap, _∙_}
 use mathlib.Core.Bool.{Bool, not, _||_}
 use native.Mathlib.Omega.{arith}
 use lib.Dec.{eqb}
-use Rattle.records.specs.Bytes.{byte}
-use Rattle.records.specs.Scan.{any}
-use Rattle.records.proofs.ScanLaws.{any-more}
+use Rattle.records.specs.format.Bytes.{byte}
+use Rattle.records.specs.format.Scan.{any}
+use Rattle.records.proofs.format.ScanLaws.{any-more}
 use Rattle.records_season.proofs.other_byte_set.Statement.{statement}
 use Rattle.records_season.proofs.other_byte_set.Tie as tie
 

@@ -1,5 +1,5 @@
 -- `records_season::put_worst` meets its contract: three texts one after another.
-use Rattle.records.specs.Text.{codes}
+use Rattle.records.specs.text.Text.{codes}
 use Rattle.records_answer_text.proofs.CursorLaws.{then}
 use borrow.Author.Needs.{needs}
 use Rattle.records_season.proofs.put_worst.Statement.{statement}

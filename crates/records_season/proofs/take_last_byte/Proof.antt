@@ -4,7 +4,7 @@ use native.Mathlib.Omega.{arith}
 use mathlib.Core.Path.{sym, _∙_}
 use lib.ListN.{length-set}
 use denote.Ref.{now}
-use Rattle.records_season.specs.joints.SeasonCame.{windowOf}
+use Rattle.records_season.specs.joints.SeasonCame.{windowOf, closedRoom}
 use Rattle.records_season.proofs.FedLaws.{closing-fed, open-fed, set-again}
 use borrow.Author.Needs.{needs}
 use Rattle.records_season.proofs.take_last_byte.Statement.{statement}
@@ -84,7 +84,7 @@ returns-2 c =
     let window = windowOf (now (a .values)) (now (a .given)) in
     let open' = sym (e .before .closes .ensures) ∙ e .if1 .left in
     let taken = t .take-byte .ensures ∙ set-again (a .a) (now (a .kept)) (now (a .current)) window (a .b) small (s .pre .1 .1) in
-    open-fed (a .a) (now (a .kept)) (now (a .current)) window (a .b) small 462 _ taken (λ e. open') _ _
+    open-fed (a .a) (now (a .kept)) (now (a .current)) window (a .b) small closedRoom _ taken (λ e. open') _ _
 
 pub take-last-byte-spec : {M : Type 1} → statement M
 take-last-byte-spec =

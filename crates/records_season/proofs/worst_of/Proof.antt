@@ -7,7 +7,7 @@ use lib.Seq.{take-all}
 use lib.Ieee.{nan}
 use mathlib.Core.Bool.{false}
 use denote.Ref.{now}
-use Rattle.records.specs.Season.{worstAfter, worst}
+use Rattle.records.specs.text.Season.{worstAfter, worst}
 use Rattle.records_season.specs.joints.SeasonCame.{windowOf}
 use Rattle.records_season.proofs.WindowCode.{window-length, worst-more}
 use Rattle.records_season.proofs.worst_of.Statement.{statement}

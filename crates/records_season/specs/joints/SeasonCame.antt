@@ -11,13 +11,21 @@ use Rattle.arithmetic_cutoffs.specs.Cutoffs.{documentCutoffs}
 use Rattle.tests.specs.declared.Number.{Number}
 use Rattle.tests.specs.declared.Number.the-variants.{Is, None}
 use Rattle.tests.specs.Answer.{noEntry}
-use Rattle.records.specs.Bytes.{byte}
-use Rattle.records.specs.Text.{codes, numberText, textOf}
-use Rattle.records.specs.Season.{seriesIn, leftOver, contrastF, worst, added}
+use Rattle.records.specs.format.Bytes.{byte}
+use Rattle.records.specs.text.Text.{codes, numberText, textOf}
+use Rattle.records.specs.text.Season.{seriesIn, leftOver, contrastF, worst, added, latestCount}
 use Rattle.records_answer_text.specs.joints.Cursor.{Put}
 use Rattle.records_pieces.specs.declared.Arrival.{Arrival}
 use Rattle.records_pieces.specs.joints.Arrived.{Arrived, arrivedAs, Came}
-use Rattle.records_arrived.specs.joints.ArrivedCall.{arrivedNumber, arrivedEntries}
+use Rattle.records_arrived.specs.joints.ArrivedCall.{arrivedNumber, arrivedEntries, keptLength}
+
+-- the most bytes that are printed of a series: its lines, and the 23 of `worst`
+abbrev pub closedRoom : ℕ
+closedRoom = 462
+
+-- and of a piece of 4,096 bytes, which closes 256 series at most
+abbrev pub pieceRoom : ℕ
+pieceRoom = 118272
 
 -- how far the open series has come, and twenty F's, the oldest first
 pub record SeasonState : Type 0 where
@@ -41,7 +49,7 @@ seasonAs a kept current values given = seasonOf a kept current (windowOf values 
 
 -- the last twenty of the F's of all series, and none in front of them for series that have not been
 unfoldable pub lastTwenty : List Number → List Number
-lastTwenty fs = drop (length fs) (replicate 20 None ++ fs)
+lastTwenty fs = drop (length fs) (replicate latestCount None ++ fs)
 
 -- one more: the oldest goes
 abbrev pub withLatest : {A : Type 0} → A → List A → List A
@@ -63,7 +71,7 @@ arrivedText a kept window =
 -- ---- WHAT THE BYTES s OF A SEASON LEAVE, whole or in pieces
 pub record SeasonCame (s : List ℕ) (st : SeasonState) : Type 0 where
   pub bytes : (i : ℕ) → byte s i < 256
-  pub room : length (st .arrived .kept) ≡ 16384
+  pub room : length (st .arrived .kept) ≡ keptLength
   pub unclosed : Came (leftOver s) (st .arrived)
   pub window : st .window ≡ lastTwenty (map (contrastF documentCutoffs) (seriesIn s))
 

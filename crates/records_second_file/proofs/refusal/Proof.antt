@@ -3,8 +3,8 @@ use native.Mathlib.Omega.{arith}
 use mathlib.Core.Path.{sym, _∙_}
 use denote.Ref.{now}
 use Rattle.records.specs.declared.Shape.the-variants.{Second}
-use Rattle.records.specs.SecondFile.{reader, reasons, refusal}
-use Rattle.records.proofs.ReaderLaws.{form-refuses}
+use Rattle.records.specs.readers.SecondFile.{reader, reasons, refusal}
+use Rattle.records.proofs.readers.ReaderLaws.{form-refuses}
 use Rattle.records_form.proofs.FormLaws.{FormedSizes, formed-sizes, sheet-from}
 use Rattle.records_second_file.proofs.SecondLaws.{other-coefficients, value-refused, contrast-refused, reader-accepts, same-coefficients, contrast-fits, zero-read}
 use borrow.Author.Needs.{needs}

@@ -3,10 +3,10 @@ use Prim.Native.Nat.{_≤_, _-_}
 use mathlib.Core.Path.{_≡_, refl, sym}
 use mathlib.Core.Bool.{false}
 use denote.Ref.{now}
-use Rattle.records.specs.Scan.{any}
-use Rattle.records.proofs.ScanLaws.{any-miss, any-hit}
-use Rattle.records.specs.File.{count}
-use Rattle.records.specs.Series.{miscounted}
+use Rattle.records.specs.format.Scan.{any}
+use Rattle.records.proofs.format.ScanLaws.{any-miss, any-hit}
+use Rattle.records.specs.format.File.{count}
+use Rattle.records.specs.readers.Series.{miscounted}
 use native.Mathlib.Omega.{arith}
 use Rattle.records_series.proofs.any_miscounted.Statement.{statement}
 use Rattle.records_series.proofs.any_miscounted.Tie as tie

@@ -1,5 +1,5 @@
 -- `records_series::block_of` meets its contract.
-use Rattle.records.specs.Series.{blockOf}
+use Rattle.records.specs.readers.Series.{blockOf}
 use borrow.Author.Needs.{needs}
 use Rattle.records_series.proofs.block_of.Statement.{statement}
 use Rattle.records_series.proofs.block_of.Tie as tie

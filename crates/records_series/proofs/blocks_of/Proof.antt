@@ -6,7 +6,7 @@ use lib.ListN.{set, replicate}
 use Rattle.algebra.specs.Table.{row}
 use Rattle.algebra.proofs.FoldLaws.{fold-start, fold-next, fold-end}
 use Rattle.adjustment.specs.Blocks.{noBlock}
-use Rattle.records.specs.Series.{blockOf}
+use Rattle.records.specs.readers.Series.{blockOf}
 use Rattle.records_series.proofs.Gathers.{set-bounded, Bounded, none-bounded}
 use native.Mathlib.Omega.{arith}
 use Rattle.records_series.proofs.blocks_of.Statement.{statement}

@@ -3,10 +3,10 @@ use Prim.Native.Nat.{_≤_, _-_}
 use mathlib.Core.Path.{_≡_, refl, _∙_}
 use mathlib.Core.Logic.{⊎-elim}
 use denote.Ref.{now}
-use Rattle.records.specs.Scan.{last}
-use Rattle.records.specs.File.{count, columnOf, isCell}
-use Rattle.records.specs.Series.{kinds, blockOf}
-use Rattle.records.proofs.ScanLaws.{last-more}
+use Rattle.records.specs.format.Scan.{last}
+use Rattle.records.specs.format.File.{count, columnOf, isCell}
+use Rattle.records.specs.readers.Series.{kinds, blockOf}
+use Rattle.records.proofs.format.ScanLaws.{last-more}
 use native.Mathlib.Omega.{arith}
 use Rattle.records_series.proofs.effects_of.Statement.{statement}
 use Rattle.records_series.proofs.effects_of.Tie as tie

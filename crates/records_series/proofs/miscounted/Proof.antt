@@ -6,9 +6,9 @@ use mathlib.Core.Bool.{not}
 use mathlib.Core.List.{List}
 use lib.Dec.{eqb}
 use borrow.Author.Tests.{eq-eqb, ne-eqb}
-use Rattle.records.specs.File.{kindOf, columnOf, firstValueOf}
-use Rattle.records.specs.Series.{miscounted}
-use Rattle.records.proofs.CountLaws.{twice-small}
+use Rattle.records.specs.format.File.{kindOf, columnOf, firstValueOf}
+use Rattle.records.specs.readers.Series.{miscounted}
+use Rattle.records.proofs.promises.CountLaws.{twice-small}
 use borrow.Author.Needs.{needs}
 use Rattle.records_series.proofs.miscounted.Statement.{statement}
 use Rattle.records_series.proofs.miscounted.Tie as tie
@@ -18,12 +18,12 @@ block-miscounted : (s : List ℕ) (i k n : ℕ) → kindOf s i ≡ 3 → k ≡ c
 unfolding miscounted
 block-miscounted s i k n q ek en = rw (eq-eqb (kindOf s i) 3 q, ek, en)
 
-kind-at-requires : tie.Need-kind-at-requires
-kind-at-requires c κs = search needs
+kind-of-requires : tie.Need-kind-of-requires
+kind-of-requires c κs = search needs
 
 returns : tie.Need-returns
 unfolding miscounted
-returns c = rw (← c .before .kind-at .ensures, ne-eqb _ _ (c .if1 .taken))
+returns c = rw (← c .before .kind-of .ensures, ne-eqb _ _ (c .if1 .taken))
 
 column-at-requires : tie.Need-column-at-requires
 column-at-requires c κs = search needs
@@ -39,13 +39,13 @@ mul-result c = let b = c .before .column-at .ensures .1 in omega (arith, twice-s
 
 returns-2 : tie.Need-returns-2
 returns-2 c =
-    block-miscounted _ _ _ _ (sym (c .before .before .before .kind-at .ensures) ∙ c .before .before .if1 .left) (c .before .column-at .ensures .0) (c .first-value-at .ensures .0)
+    block-miscounted _ _ _ _ (sym (c .before .before .before .kind-of .ensures) ∙ c .before .before .if1 .left) (c .before .column-at .ensures .0) (c .first-value-at .ensures .0)
 
 pub miscounted-spec : {M : Type 1} → statement M
 miscounted-spec =
     tie.close
     (tie.spec
-    kind-at-requires
+    kind-of-requires
     returns
     column-at-requires
     first-value-at-requires

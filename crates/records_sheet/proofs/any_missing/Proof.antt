@@ -3,10 +3,10 @@ use Prim.Native.Nat.{_≤_, _-_}
 use mathlib.Core.Path.{_≡_, refl, sym, _∙_}
 use mathlib.Core.Bool.{false}
 use native.Mathlib.Omega.{arith}
-use Rattle.records.specs.Scan.{any}
-use Rattle.records.specs.Kinds.{kindsOf}
+use Rattle.records.specs.format.Scan.{any}
+use Rattle.records.specs.format.Kinds.{kindsOf}
 use Rattle.records_sheet.specs.joints.Sheet.{missingIn}
-use Rattle.records.proofs.ScanLaws.{any-miss, any-hit}
+use Rattle.records.proofs.format.ScanLaws.{any-miss, any-hit}
 use Rattle.records_sheet.proofs.any_missing.Statement.{statement}
 use Rattle.records_sheet.proofs.any_missing.Tie as tie
 use Rattle.records_sheet.proofs.any_missing.Reads as reads

@@ -3,16 +3,16 @@ use Prim.Native.Nat.{ℕ, _+_, _≤_, _-_}
 use mathlib.Core.Path.{_≡_, refl, ap, _∙_}
 use native.Mathlib.Omega.{arith}
 use Rattle.algebra.specs.Table.{row}
-use Rattle.records.specs.Scan.{total}
-use Rattle.records.specs.Kinds.{kindsOf}
-use Rattle.records.specs.Cells.{slots, firstSlot}
+use Rattle.records.specs.format.Scan.{total}
+use Rattle.records.specs.format.Kinds.{kindsOf}
+use Rattle.records.specs.format.Cells.{slots, firstSlot}
 use Rattle.records_sheet.specs.joints.Sheet.{firstSlots}
 use Rattle.records_sheet.proofs.Bounds.{widths, all-bound, firsts-start, firsts-more, first-more}
 use Rattle.records_sheet.proofs.first_slots.Statement.{statement}
 use Rattle.records_sheet.proofs.first_slots.Tie as tie
 use Rattle.records_sheet.proofs.first_slots.Reads as reads
 use Rattle.records_sheet.proofs.first_slots.Lts as lts
-use Rattle.records_kinds.proofs.kind_of.Reads as kind-of-reads
+use Rattle.records_kinds.proofs.kind_at.Reads as kind-at-reads
 use Rattle.records_sheet.proofs.slots_of.Reads as slots-of-reads
 
 abbrev Inv-loop : tie.InvT-loop
@@ -27,15 +27,15 @@ unfolding firstSlot total
 loop-holds c = (omega arith, refl, firsts-start (kindsOf (c .args .call) (c .args .z)))
 
 -- src/lib.rt:44:34
-kind-of-requires : tie.Need-kind-of-requires Inv-loop μ-loop
-kind-of-requires c κs = tt
+kind-at-requires : tie.Need-kind-at-requires Inv-loop μ-loop
+kind-at-requires c κs = tt
 
 -- src/lib.rt:44:25
 slots-of-requires : tie.Need-slots-of-requires Inv-loop μ-loop
 slots-of-requires c κs =
     let d = c .before .before .before in
     let w = widths (d .args .z) (d .pre) (d .args .call) (c .before .before .loop .k) in
-    let e = c .kind-of .ensures in
+    let e = c .kind-at .ensures in
     (rw e (w .number), rw e (w .row), rw e (w .column))
 
 -- src/lib.rt:44:17
@@ -73,7 +73,7 @@ loop-again c =
     let d = c .before .before .before .before in
     let t = kindsOf (d .args .call) (d .args .z) in
     let k = c .before .before .before .loop .k in
-    let e = first-more t k _ _ (c .before .before .before .loop .inv .1) (c .slots-of .ensures .0 ∙ ap slots (c .before .kind-of .ensures)) in
+    let e = first-more t k _ _ (c .before .before .before .loop .inv .1) (c .slots-of .ensures .0 ∙ ap slots (c .before .kind-at .ensures)) in
     (omega arith, e, firsts-more t k _ _ (c .before .before .before .loop .inv .2) e)
 
 -- src/lib.rt:36:1
@@ -91,7 +91,7 @@ first-slots-spec =
     Inv-loop
     μ-loop
     loop-holds
-    kind-of-requires
+    kind-at-requires
     slots-of-requires
     add-total
     add-k

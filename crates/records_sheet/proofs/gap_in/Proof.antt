@@ -4,9 +4,9 @@ use mathlib.Core.Path.{_≡_, refl, sym}
 use mathlib.Core.Bool.{false}
 use lib.ListN.{length}
 use native.Mathlib.Omega.{arith}
-use Rattle.records.specs.Scan.{any}
+use Rattle.records.specs.format.Scan.{any}
 use Rattle.records_sheet.specs.joints.Sheet.{gap}
-use Rattle.records.proofs.ScanLaws.{any-miss, any-hit}
+use Rattle.records.proofs.format.ScanLaws.{any-miss, any-hit}
 use Rattle.records_sheet.proofs.gap_in.Statement.{statement}
 use Rattle.records_sheet.proofs.gap_in.Tie as tie
 use Rattle.records_sheet.proofs.gap_in.Reads as reads

@@ -7,10 +7,10 @@ use mathlib.Core.Logic.{⊎-elim}
 use native.Mathlib.Omega.{arith}
 use denote.Ref.{now}
 use lib.ListN.{length, getD}
-use Rattle.records.specs.Scan.{any}
-use Rattle.records.specs.Kinds.{kindAt, kindsOf}
-use Rattle.records.specs.File.{count, kindOf, again}
-use Rattle.records.proofs.ScanLaws.{any-none, any-miss, any-hit}
+use Rattle.records.specs.format.Scan.{any}
+use Rattle.records.specs.format.Kinds.{kindAt, kindsOf}
+use Rattle.records.specs.format.File.{count, kindOf, again}
+use Rattle.records.proofs.format.ScanLaws.{any-none, any-miss, any-hit}
 use Rattle.records_kinds.proofs.KnownKind.{Known, asked, same-kind, kept-kind}
 use Rattle.records_sheet.specs.joints.Sheet.{slotOf, flagsAfter}
 use Rattle.records_sheet.proofs.Sheets.{flags-start, flags-next, flag-again, length-flags}
@@ -25,34 +25,34 @@ Inv-loop call z firsts s flags₀ n last₀ k₀ i₀ flags last k i =
 abbrev μ-loop : tie.MeasureT-loop
 μ-loop call z firsts s flags₀ n last₀ k₀ i₀ flags last k i = n - i
 
-kind-of-requires : tie.Need-kind-of-requires Inv-loop μ-loop
-kind-of-requires c κs = tt
+kind-at-requires : tie.Need-kind-at-requires Inv-loop μ-loop
+kind-at-requires c κs = tt
 
 loop-holds : tie.Need-loop-holds Inv-loop μ-loop
 unfolding any
 loop-holds c =
     let d = c .before .before .before in
-    (refl, omega arith, c .kind-of .ensures, flags-start (length (now (d .args .flags))) (kindsOf (d .args .call) (d .args .z)) (now (d .args .s)) _ (d .pre .1 .0), refl)
+    (refl, omega arith, c .kind-at .ensures, flags-start (length (now (d .args .flags))) (kindsOf (d .args .call) (d .args .z)) (now (d .args .s)) _ (d .pre .1 .0), refl)
 
-kind-at-requires : tie.Need-kind-at-requires Inv-loop μ-loop
-kind-at-requires c κs = omega arith
+kind-of-requires : tie.Need-kind-of-requires Inv-loop μ-loop
+kind-of-requires c κs = omega arith
 
-kind-of-requires-2 : tie.Need-kind-of-requires-2 Inv-loop μ-loop
-kind-of-requires-2 c κs = tt
+kind-at-requires-2 : tie.Need-kind-at-requires-2 Inv-loop μ-loop
+kind-at-requires-2 c κs = tt
 
 -- what the loop keeps is what the table says of record i's kind
 known-kind : (c : tie.Joined1 Inv-loop μ-loop)
     → let a = c .before .before .before .before .before .before .before .args in Known (kindsOf (a .call) (a .z)) (kindOf (now (a .s)) (c .before .before .before .loop .i)) (c .if1 .last) (c .if1 .k)
 known-kind c =
-    ⊎-elim (λ w. asked _ _ _ _ _ _ (c .before .kind-at .ensures) (w .1 .ensures) (w .2) (w .3))
-    (λ w. same-kind _ _ _ _ _ _ _ (c .before .kind-at .ensures) (w .0 .left) (c .before .before .before .loop .inv .2) (w .1) (w .2)) (c .if1 .came)
+    ⊎-elim (λ w. asked _ _ _ _ _ _ (c .before .kind-of .ensures) (w .1 .ensures) (w .2) (w .3))
+    (λ w. same-kind _ _ _ _ _ _ _ (c .before .kind-of .ensures) (w .0 .left) (c .before .before .before .loop .inv .2) (w .1) (w .2)) (c .if1 .came)
 
 -- what the loop has when it asks for record i's slot
 at-record : (c : tie.Joined1 Inv-loop μ-loop)
-    → let a = c .before .before .before .before .before .before .before .args in AtRecord (a .call) (a .z) (now (a .firsts)) (now (a .s)) (c .before .before .before .loop .i) (c .before .kind-at .result) (c .if1 .last) (c .if1 .k)
+    → let a = c .before .before .before .before .before .before .before .args in AtRecord (a .call) (a .z) (now (a .firsts)) (now (a .s)) (c .before .before .before .loop .i) (c .before .kind-of .result) (c .if1 .last) (c .if1 .k)
 at-record c =
     let p = c .before .before .before .before .before .before .before .pre .0 in
-    record { small = p .0; firsts = p .1; sized = any-none _ _ (c .before .before .before .loop .i) (omega arith) (p .2); read = c .before .kind-at .ensures; table = known-kind c }
+    record { small = p .0; firsts = p .1; sized = any-none _ _ (c .before .before .before .loop .i) (omega arith) (p .2); read = c .before .kind-of .ensures; table = known-kind c }
 
 cast-slot-at : tie.Need-cast-slot-at Inv-loop μ-loop
 cast-slot-at c = let l = kind-placed (at-record c) in omega arith
@@ -140,10 +140,10 @@ mark-cells-spec =
     (tie.spec
     Inv-loop
     μ-loop
-    kind-of-requires
-    loop-holds
     kind-at-requires
-    kind-of-requires-2
+    loop-holds
+    kind-of-requires
+    kind-at-requires-2
     cast-slot-at
     mul-slot-at
     element-copy-out-slot-at

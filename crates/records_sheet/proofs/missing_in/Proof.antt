@@ -7,8 +7,8 @@ use native.Mathlib.Omega.{arith}
 use denote.Ref.{now}
 use lib.ListN.{getD}
 use Rattle.records.specs.declared.Kind.{Kind}
-use Rattle.records.specs.Kinds.{Table, kindAt, kindsOf}
-use Rattle.records.specs.Cells.{slots, firstSlot}
+use Rattle.records.specs.format.Kinds.{Table, kindAt, kindsOf}
+use Rattle.records.specs.format.Cells.{slots, firstSlot}
 use Rattle.records_sheet.specs.joints.Sheet.{gap, missingIn}
 use Rattle.records_sheet.proofs.Sheets.{firsts-at, ends-within}
 use Rattle.records_sheet.proofs.Bounds.{widths}
@@ -17,20 +17,20 @@ use Rattle.records_sheet.proofs.missing_in.Statement.{statement}
 use Rattle.records_sheet.proofs.missing_in.Tie as tie
 use Rattle.records_sheet.proofs.missing_in.Reads as reads
 use Rattle.records_sheet.proofs.missing_in.Lts as lts
-use Rattle.records_kinds.proofs.kind_of.Reads as kind-of-reads
+use Rattle.records_kinds.proofs.kind_at.Reads as kind-at-reads
 use Rattle.records_sheet.proofs.gap_in.Reads as gap-in-reads
 use Rattle.records_sheet.proofs.slots_of.Reads as slots-of-reads
 
 -- src/lib.rt:134:9
-kind-of-requires : tie.Need-kind-of-requires
-kind-of-requires c κs = search needs
+kind-at-requires : tie.Need-kind-at-requires
+kind-at-requires c κs = search needs
 
 -- src/lib.rt:136:9
 returns : tie.Need-returns
 unfolding missingIn
 returns c =
     let a = c .before .before .before .args in
-    let e = ap (λ (y : Kind). y .sparse) (c .before .kind-of .ensures) in
+    let e = ap (λ (y : Kind). y .sparse) (c .before .kind-at .ensures) in
     rw (← e, c .if1 .taken)
 
 -- src/lib.rt:138:19
@@ -47,7 +47,7 @@ slots-of-requires c κs =
     let d = c .before .before in
     let a = d .before .before .args in
     let w = widths (a .z) (d .before .before .pre .0) (a .call) (a .k) in
-    let e = d .kind-of .ensures in
+    let e = d .kind-at .ensures in
     (rw e (w .number), rw e (w .row), rw e (w .column))
 
 -- src/lib.rt:138:5
@@ -58,7 +58,7 @@ gap-in-requires c κs =
     let p = d .before .before .pre in
     let t = kindsOf (a .call) (a .z) in
     let e = ap (λ (l : List ℕ). getD l (a .k) 0) (p .1) ∙ firsts-at t (a .k) (omega arith) in
-    let q = c .slots-of .ensures .0 ∙ ap slots (d .kind-of .ensures) in
+    let q = c .slots-of .ensures .0 ∙ ap slots (d .kind-at .ensures) in
     let m = ends-within t (a .k) (p .3) in
     omega arith
 
@@ -79,15 +79,15 @@ returns-2 c =
     let p = d .before .before .pre in
     let t = kindsOf (a .call) (a .z) in
     let e = ap (λ (l : List ℕ). getD l (a .k) 0) (p .1) ∙ firsts-at t (a .k) (omega arith) in
-    let q = c .before .slots-of .ensures .0 ∙ ap slots (d .kind-of .ensures) in
-    let f = ap (λ (y : Kind). y .sparse) (d .kind-of .ensures) in
+    let q = c .before .slots-of .ensures .0 ∙ ap slots (d .kind-at .ensures) in
+    let f = ap (λ (y : Kind). y .sparse) (d .kind-at .ensures) in
     missing-is t (now (a .flags)) (a .k) (c .gap-in .result) (sym f ∙ c .before .before .before .if1 .left) (c .gap-in .ensures ∙ ap₂ (λ (x y : ℕ). gap (now (a .flags)) x y) e q)
 
 pub missing-in-spec : {M : Type 1} → statement M
 missing-in-spec =
     tie.close
     (tie.spec
-    kind-of-requires
+    kind-at-requires
     returns
     mul-gap-in
     element-copy-out-gap-in

@@ -2,8 +2,8 @@
 use Prim.Native.Nat.{_+_, _*_, _<_}
 use mathlib.Core.Path.{_≡_}
 use native.Mathlib.Omega.{arith}
-use Rattle.records.specs.Cells.{offset}
-use Rattle.records.proofs.Slots.{offset-below}
+use Rattle.records.specs.format.Cells.{offset}
+use Rattle.records.proofs.format.Slots.{offset-below}
 use Rattle.records_sheet.proofs.Bounds.{two-widths, slots-bound}
 use borrow.Author.Needs.{needs}
 use Rattle.records_sheet.proofs.offset_in.Statement.{statement}

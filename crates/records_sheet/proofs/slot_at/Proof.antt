@@ -3,8 +3,8 @@ use Prim.Native.Nat.{_+_}
 use mathlib.Core.Path.{ap, _∙_}
 use native.Mathlib.Omega.{arith}
 use denote.Ref.{now}
-use Rattle.records.specs.Kinds.{indexOf}
-use Rattle.records.proofs.Slots.{holds-index, within}
+use Rattle.records.specs.format.Kinds.{indexOf}
+use Rattle.records.proofs.format.Slots.{holds-index, within}
 use borrow.Author.Needs.{needs}
 use Rattle.records_sheet.proofs.slot_at.Statement.{statement}
 use Rattle.records_sheet.proofs.slot_at.Tie as tie

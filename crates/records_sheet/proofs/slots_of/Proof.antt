@@ -2,7 +2,7 @@
 use mathlib.Core.Path.{_≡_}
 use Prim.Native.Nat.{_*_, _≤_}
 use native.Mathlib.Omega.{arith}
-use Rattle.records.specs.Cells.{slots}
+use Rattle.records.specs.format.Cells.{slots}
 use Rattle.records_sheet.proofs.Bounds.{two-widths, slots-bound}
 use borrow.Author.Needs.{needs}
 use Rattle.records_sheet.proofs.slots_of.Statement.{statement}

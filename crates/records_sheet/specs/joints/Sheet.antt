@@ -9,10 +9,10 @@ use Rattle.arithmetic.specs.Numbers.{plusZero}
 use Rattle.algebra.specs.Fold.{fold}
 use Rattle.algebra.specs.Table.{row}
 use Rattle.records.specs.declared.Sizes.{Sizes}
-use Rattle.records.specs.Scan.{any}
-use Rattle.records.specs.Kinds.{Table, kindAt}
-use Rattle.records.specs.Cells.{slots, firstSlot, slot}
-use Rattle.records.specs.File.{kindOf, cellRow, cellColumn, cellCount, valueOf}
+use Rattle.records.specs.format.Scan.{any}
+use Rattle.records.specs.format.Kinds.{Table, kindAt}
+use Rattle.records.specs.format.Cells.{slots, firstSlot, slot}
+use Rattle.records.specs.format.File.{kindOf, cellRow, cellColumn, cellCount, valueOf}
 
 -- sizes that a byte can name
 pub record Small (z : Sizes) : Type 0 where

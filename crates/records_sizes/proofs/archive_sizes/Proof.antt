@@ -1,7 +1,7 @@
 -- `records_sizes::archive_sizes` meets its contract.
 use lib.Dec.{lit<}
 use Rattle.records_sizes.proofs.SizeLaws.{row-cell}
-use Rattle.records.specs.Archive.{sizesAt, sizes}
+use Rattle.records.specs.readers.Archive.{sizesAt, sizes}
 use borrow.Author.Needs.{needs}
 use Rattle.records_sizes.proofs.archive_sizes.Statement.{statement}
 use Rattle.records_sizes.proofs.archive_sizes.Tie as tie

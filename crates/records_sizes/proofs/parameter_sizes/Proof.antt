@@ -1,7 +1,7 @@
 -- `records_sizes::parameter_sizes` meets its contract.
 use lib.Dec.{lit<}
 use Rattle.records_sizes.proofs.SizeLaws.{row-cell}
-use Rattle.records.specs.Parameters.{sizes}
+use Rattle.records.specs.readers.Parameters.{sizes}
 use borrow.Author.Needs.{needs}
 use Rattle.records_sizes.proofs.parameter_sizes.Statement.{statement}
 use Rattle.records_sizes.proofs.parameter_sizes.Tie as tie

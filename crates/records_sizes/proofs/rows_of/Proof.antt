@@ -4,7 +4,7 @@ use mathlib.Core.Path.{_≡_, refl, ap, _∙_}
 use mathlib.Core.Logic.{⊎-elim}
 use denote.Ref.{now}
 use native.Mathlib.Omega.{arith}
-use Rattle.records.specs.File.{count, kindOf, rowOf, rows}
+use Rattle.records.specs.format.File.{count, kindOf, rowOf, rows}
 use Rattle.records_sizes.proofs.SizeLaws.{tops, tops-none, tops-hit, tops-miss}
 use Rattle.records_sizes.proofs.rows_of.Statement.{statement}
 use Rattle.records_sizes.proofs.rows_of.Tie as tie
@@ -18,8 +18,8 @@ abbrev μ-loop : tie.MeasureT-loop
 loop-holds : tie.Need-loop-holds Inv-loop μ-loop
 loop-holds c = (refl, omega arith, tops-none _ _)
 
-kind-at-requires : tie.Need-kind-at-requires Inv-loop μ-loop
-kind-at-requires c κs = omega arith
+kind-of-requires : tie.Need-kind-of-requires Inv-loop μ-loop
+kind-of-requires c κs = omega arith
 
 index-requires : tie.Need-index-requires Inv-loop μ-loop
 index-requires c κs = omega arith
@@ -53,7 +53,7 @@ loop-less c = omega arith
 
 loop-again : tie.Need-loop-again Inv-loop μ-loop
 loop-again c =
-    let k = c .before .index .ensures .0 ∙ c .before .before .kind-at .ensures in
+    let k = c .before .index .ensures .0 ∙ c .before .before .kind-of .ensures in
     let e = c .before .before .before .before .loop .inv .2 in (
       refl,
       omega arith,
@@ -74,7 +74,7 @@ rows-of-spec =
     Inv-loop
     μ-loop
     loop-holds
-    kind-at-requires
+    kind-of-requires
     index-requires
     mul-larger
     array-read-larger

@@ -1,7 +1,7 @@
 -- `records_sizes::second_sizes` meets its contract.
 use lib.Dec.{lit<}
 use Rattle.records_sizes.proofs.SizeLaws.{row-cell}
-use Rattle.records.specs.SecondFile.{sizes}
+use Rattle.records.specs.readers.SecondFile.{sizes}
 use borrow.Author.Needs.{needs}
 use Rattle.records_sizes.proofs.second_sizes.Statement.{statement}
 use Rattle.records_sizes.proofs.second_sizes.Tie as tie

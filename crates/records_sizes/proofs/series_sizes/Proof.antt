@@ -1,7 +1,7 @@
 -- `records_sizes::series_sizes` meets its contract.
 use lib.Dec.{lit<}
 use Rattle.records_sizes.proofs.SizeLaws.{row-cell}
-use Rattle.records.specs.Series.{sizes}
+use Rattle.records.specs.readers.Series.{sizes}
 use borrow.Author.Needs.{needs}
 use Rattle.records_sizes.proofs.series_sizes.Statement.{statement}
 use Rattle.records_sizes.proofs.series_sizes.Tie as tie

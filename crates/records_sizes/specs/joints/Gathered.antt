@@ -5,12 +5,12 @@ use mathlib.Core.List.{List, []}
 use Rattle.records.specs.declared.Sizes.{Sizes}
 use Rattle.records.specs.declared.Shape.{Shape}
 use Rattle.records.specs.declared.Shape.the-variants.{Series, Test, Archived, Second}
-use Rattle.records.specs.Kinds.{kindsOf}
-use Rattle.records.specs.Reader.{Reader}
-use Rattle.records.specs.Series.{sizes as seriesSizes}
-use Rattle.records.specs.Parameters.{sizes as parameterSizes}
-use Rattle.records.specs.Archive.{sizes as archiveSizes}
-use Rattle.records.specs.SecondFile.{sizes as secondSizes}
+use Rattle.records.specs.format.Kinds.{kindsOf}
+use Rattle.records.specs.readers.Reader.{Reader}
+use Rattle.records.specs.readers.Series.{sizes as seriesSizes}
+use Rattle.records.specs.readers.Parameters.{sizes as parameterSizes}
+use Rattle.records.specs.readers.Archive.{sizes as archiveSizes}
+use Rattle.records.specs.readers.SecondFile.{sizes as secondSizes}
 
 abbrev pub sizesOf : Shape → List ℕ → Sizes
 sizesOf Series s = seriesSizes s

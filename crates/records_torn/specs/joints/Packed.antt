@@ -9,10 +9,10 @@ use Rattle.arithmetic.specs.Numbers.{isZero}
 use Rattle.algebra.specs.Fold.{fold}
 use Rattle.algebra_large.specs.joints.Slab.{putRow}
 use Rattle.records.specs.declared.Sizes.{Sizes}
-use Rattle.records.specs.Kinds.{Table, kindsOf}
-use Rattle.records.specs.KindNumbers.{kindX, kindZ, kindWeight}
-use Rattle.records.specs.Cells.{firstSlot}
-use Rattle.records.specs.Shortened.{keptBelow}
+use Rattle.records.specs.format.Kinds.{Table, kindsOf}
+use Rattle.records.specs.format.KindNumbers.{kindX, kindZ, kindWeight}
+use Rattle.records.specs.format.Cells.{firstSlot}
+use Rattle.records.specs.readers.Shortened.{keptBelow}
 use Rattle.records.specs.declared.Shape.the-variants.{Series}
 
 -- rows ks of the rows of c numbers from a on, one after another from a on

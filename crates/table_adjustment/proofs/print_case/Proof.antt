@@ -4,7 +4,7 @@ use mathlib.Core.Path.{refl}
 use denote.Ref.{now}
 use lib.Ieee.{ofBits}
 use Rattle.records.specs.declared.Shape.the-variants.{Series}
-use Rattle.records.proofs.Limits.{slot-count}
+use Rattle.records.proofs.readers.Limits.{slot-count}
 use Rattle.records_refusals.proofs.RoomLaws.{series-read}
 use borrow.Author.Needs.{needs}
 use Rattle.table_adjustment.proofs.print_case.Statement.{statement}

@@ -1,0 +1,2 @@
+-- Laws of what was.
+pub mod UntabledLaws

@@ -1,0 +1,3 @@
+-- What `pulltest` and `pullseason` print.
+pub mod Text
+pub mod Season
