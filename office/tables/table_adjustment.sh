@@ -1,6 +1,6 @@
 #!/bin/sh
 # Writes the cases of the program `table_adjustment` and the answers that it must print: crates/table_adjustment/stdin and stdout.
-# A case is a record file as one line of hexadecimal digits: the files of examples/, then lines of vectors/kenward-roger.txt.
+# A case is a record file as one line of hexadecimal digits: the files of examples/, then lines of crates/replay/stdin, whose first ones are the Kenward–Roger call's.
 # The answers are what `oracle bits` prints of the file up to the number of rotations, in residual units: lme-rs's own code, run with
 # document 01's algebra. Its lines of IE, which the adjustment does not return, and its headings are left out.
 # First: cd office && LME_RS_SRC=DIR cargo build --offline --release -p oracle, where DIR holds the Rust sources.
@@ -22,7 +22,7 @@ lines='3 72 84 89 92 101 102 105 139 149 279 289 772 78 79 80 82'
         echo
     done
     for k in $lines; do
-        sed -n "${k}p" vectors/kenward-roger.txt | cut -d ' ' -f 1
+        sed -n "${k}p" crates/replay/stdin | cut -d ' ' -f 2
     done
 } >"$table/stdin"
 

@@ -10,7 +10,7 @@ use listed_algebra::Matrix;
 const FALLS: &str = "refused 12|";
 const RECORDS: &str = "refused 2|";
 
-/// As many records as the replaying programs hold, and more than there are
+/// As many records as the program `replay` holds, and more than there are
 /// cells.
 const LONG: usize = 1024;
 

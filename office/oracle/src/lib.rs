@@ -34,8 +34,10 @@ pub mod marked;
 pub mod numbers;
 pub mod print;
 pub mod random;
+pub mod replay;
 pub mod torn;
 pub mod trace;
+pub mod wrong;
 
 #[cfg(test)]
 mod bench;

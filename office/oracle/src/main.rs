@@ -1,9 +1,11 @@
 //! The command `oracle`: see the usage text.
 
+use oracle::make::{make_vectors, Counts};
 use oracle::reader::cutoffs::Cutoffs;
 use std::io::{Read, Write};
 use std::path::Path;
 use std::process::ExitCode;
+use std::str::FromStr;
 
 const USAGE: &str = "usage:
   oracle pulltest < FILE            document 01's lines
@@ -13,11 +15,12 @@ const USAGE: &str = "usage:
   oracle archive < FILE             the archive in hexadecimal, and the test from it
                                     each of these with a lab's cutoffs: --table TABLE < FILE
   oracle places                     where each pair of indices is packed
-  oracle make-vectors DIR SEED COUNT
-  oracle make-archive-vectors DIR SEED COUNT
-  oracle make-table-vectors DIR SEED COUNT
+  oracle make-vectors DIR SEED SERIES ARCHIVES TABLES
+                                    the list of calls; prints a summary of it
   oracle make-season DIR SEED COUNT
-  oracle replay FILE..              checks files of vectors against the oracle
+                                    each writes DIR/stdin, and DIR/stdout with what is
+                                    to be printed of it
+  oracle replay < LIST              what is to be printed of a list of calls
 ";
 
 fn main() -> ExitCode {
@@ -30,11 +33,9 @@ fn main() -> ExitCode {
         ["satterthwaite", table @ ..] => filter(oracle::print::satterthwaite_line_with, table),
         ["archive", table @ ..] => filter(oracle::print::archive_lines_with, table),
         ["places"] => write(&oracle::print::places()),
-        ["make-vectors", folder, seed, count] => make(folder, seed, count),
-        ["make-archive-vectors", folder, seed, count] => make_archive(folder, seed, count),
-        ["make-table-vectors", folder, seed, count] => make_tables(folder, seed, count),
+        ["make-vectors", folder, seed, counts @ ..] => make(folder, seed, counts),
         ["make-season", folder, seed, count] => make_season(folder, seed, count),
-        ["replay", files @ ..] if !files.is_empty() => replay(files),
+        ["replay"] => replay(),
         _ => Err(USAGE.to_string()),
     };
     match done {
@@ -56,8 +57,7 @@ fn filter(answer: fn(&Cutoffs, &[u8]) -> String, table: &[&str]) -> Result<(), S
         }
         _ => return Err(USAGE.to_string()),
     };
-    let mut bytes = Vec::new();
-    std::io::stdin().read_to_end(&mut bytes).map_err(|e| format!("{e}\n"))?;
+    let bytes = input()?;
     match cutoffs {
         Ok(cutoffs) => write(&answer(&cutoffs, &bytes)),
         Err(number) => write(&format!("refused {number}\n")),
@@ -68,56 +68,33 @@ fn write(text: &str) -> Result<(), String> {
     std::io::stdout().write_all(text.as_bytes()).map_err(|e| format!("{e}\n"))
 }
 
-fn make(folder: &str, seed: &str, count: &str) -> Result<(), String> {
-    let (seed, count) = numbers(seed, count)?;
-    oracle::make::make_vectors(Path::new(folder), seed, count).map_err(|e| format!("{e}\n"))
+fn input() -> Result<Vec<u8>, String> {
+    let mut bytes = Vec::new();
+    std::io::stdin().read_to_end(&mut bytes).map_err(|e| format!("{e}\n"))?;
+    Ok(bytes)
 }
 
-fn make_archive(folder: &str, seed: &str, count: &str) -> Result<(), String> {
-    let (seed, count) = numbers(seed, count)?;
-    let made = oracle::make_archive::make_archive_vectors(Path::new(folder), seed, count)
-        .map_err(|e| format!("{e}\n"))?;
-    made.iter().for_each(|(list, tally)| print_tally(list, tally));
-    Ok(())
-}
-
-fn make_tables(folder: &str, seed: &str, count: &str) -> Result<(), String> {
-    let (seed, count) = numbers(seed, count)?;
-    let tally = oracle::make_tables::make_table_vectors(Path::new(folder), seed, count)
-        .map_err(|e| format!("{e}\n"))?;
-    print_tally(oracle::make_tables::TABLES, &tally);
-    Ok(())
+fn make(folder: &str, seed: &str, counts: &[&str]) -> Result<(), String> {
+    let &[series, archives, tables] = counts else { return Err(USAGE.to_string()) };
+    let counts =
+        Counts { series: number(series)?, archives: number(archives)?, tables: number(tables)? };
+    let summary = make_vectors(Path::new(folder), number(seed)?, counts);
+    write(&summary.map_err(|e| format!("{e}\n"))?)
 }
 
 fn make_season(folder: &str, seed: &str, count: &str) -> Result<(), String> {
-    let (seed, count) = numbers(seed, count)?;
+    let (seed, count) = (number(seed)?, number(count)?);
     let tally = oracle::make_season::make_season(Path::new(folder), seed, count)
         .map_err(|e| format!("{e}\n"))?;
-    println!("{}: {}", oracle::make_season::SEASON, tally.lines());
+    println!("{}", tally.lines());
     Ok(())
 }
 
-/// How often each answer stands in a list.
-fn print_tally(list: &str, tally: &oracle::make_archive::Tally) {
-    println!("{list}: {} cases", tally.values().sum::<usize>());
-    tally.iter().for_each(|(answer, cases)| println!("- {answer}: {cases}"));
+fn number<T: FromStr>(word: &str) -> Result<T, String> {
+    word.parse().map_err(|_| USAGE.to_string())
 }
 
-fn numbers(seed: &str, count: &str) -> Result<(u64, usize), String> {
-    let seed = seed.parse().map_err(|_| USAGE.to_string())?;
-    let count = count.parse().map_err(|_| USAGE.to_string())?;
-    Ok((seed, count))
-}
-
-/// A file's name says which list it is.
-fn replay(files: &[&str]) -> Result<(), String> {
-    for file in files {
-        let text = std::fs::read_to_string(file).map_err(|e| format!("{file}: {e}\n"))?;
-        let list = Path::new(file).file_name().and_then(|name| name.to_str()).unwrap_or("");
-        for (i, line) in text.lines().enumerate() {
-            oracle::make::check_line(list, line).map_err(|e| format!("{file}:{}: {e}\n", i + 1))?;
-        }
-        println!("{file}: {} cases", text.lines().count());
-    }
-    Ok(())
+fn replay() -> Result<(), String> {
+    let list = String::from_utf8(input()?).map_err(|e| format!("{e}\n"))?;
+    write(&oracle::replay::printed(&list))
 }

@@ -1,22 +1,26 @@
-//! Writes the vectors: random series with the oracle's answers.
+//! Writes the list of calls with the oracle's answers, which the program `replay` of the gate
+//! reads: the cases of the two direct calls from here, then the archive's and those with a
+//! table, then lines that are wrong on purpose.
 
 use crate::known::{self, Known};
 use crate::print::{pulltest, satterthwaite_line};
 use crate::random::{kr_case, satt_case, Random, KR_FAMILIES, SATT_FAMILIES, SHUFFLED};
-use crate::{known_numbers, known_order, known_torn, make_archive, make_tables, trace};
+use crate::{
+    known_numbers, known_order, known_torn, make_archive, make_tables, replay, trace, wrong,
+};
 use ::reader::numbers::Numbers;
 use ::reader::torn::Torn;
-use ::reader::vectors::{hex, unhex};
+use ::reader::vectors::{hex, KENWARD_ROGER, SATTERTHWAITE};
 use std::collections::BTreeMap;
 use std::fmt::Write as _;
 use std::path::Path;
 use std::{fs, io};
 
-/// One line per case: the file in hexadecimal (`-` for an empty one), a blank,
-/// the expected output with `|` for each newline.
-pub fn line(bytes: &[u8], output: &str) -> String {
+/// One line per case: the call, its file in hexadecimal (`-` for an empty one) and the
+/// expected output with `|` for each newline, with blanks between.
+pub fn line(call: &str, bytes: &[u8], output: &str) -> String {
     let file = if bytes.is_empty() { "-".to_string() } else { hex(bytes) };
-    format!("{file} {}\n", output.replace('\n', "|"))
+    format!("{call} {file} {}\n", output.replace('\n', "|"))
 }
 
 /// What the cases of a family have hit.
@@ -72,9 +76,9 @@ impl Tally {
 /// So many files of either call are good but for their order.
 const SHUFFLED_CASES: usize = 30;
 
-/// One list of vectors.
+/// The cases of one call.
 struct List {
-    name: &'static str,
+    call: &'static str,
     known: Vec<Known>,
     families: &'static [&'static str],
     /// The order's cases made by hand, those of torn specimens, and those of the
@@ -118,7 +122,7 @@ impl List {
         for (_, bytes, _) in cases {
             self.one(out, &mut tally, bytes);
         }
-        out.summary += &tally.text(self.name, family);
+        out.summary += &tally.text(self.call, family);
     }
 
     /// The random cases of family number f.
@@ -129,7 +133,7 @@ impl List {
             let bytes = (self.case)(&mut random, family);
             self.one(out, &mut tally, &bytes);
         }
-        out.summary += &tally.text(self.name, family);
+        out.summary += &tally.text(self.call, family);
     }
 
     fn one(&self, out: &mut Written, tally: &mut Tally, bytes: &[u8]) {
@@ -137,14 +141,14 @@ impl List {
         trace::take();
         let text = (self.output)(bytes);
         tally.add(bytes, &text);
-        out.lines += &line(bytes, &text);
+        out.lines += &line(self.call, bytes, &text);
     }
 }
 
 fn lists() -> [List; 2] {
     [
         List {
-            name: "kenward-roger",
+            call: KENWARD_ROGER,
             known: known::kenward_roger(),
             families: &KR_FAMILIES,
             known_order: known_order::kenward_roger(),
@@ -154,7 +158,7 @@ fn lists() -> [List; 2] {
             output: pulltest,
         },
         List {
-            name: "satterthwaite",
+            call: SATTERTHWAITE,
             known: known::satterthwaite(),
             families: &SATT_FAMILIES,
             known_order: known_order::satterthwaite(),
@@ -167,38 +171,58 @@ fn lists() -> [List; 2] {
     ]
 }
 
-/// `oracle make-vectors DIR SEED COUNT`: COUNT cases for each call, and those
-/// of the order, of torn specimens and of the numbers in blocks.
-pub fn make_vectors(folder: &Path, seed: u64, count: usize) -> io::Result<()> {
-    fs::create_dir_all(folder)?;
-    let mut summary = format!(
-        "# What the vectors hit\n\nMade by `oracle make-vectors DIR {seed} {count}`. Each number \
-         counts the cases of the family in which it occurred.\n\n"
-    );
-    for list in lists() {
-        let path = folder.join(format!("{}.txt", list.name));
-        let written = list.write(seed, count);
-        fs::write(path, written.lines)?;
-        summary += &written.summary;
-    }
-    fs::write(folder.join("SUMMARY.md"), summary)
+/// How many random cases are made, behind those made by hand.
+#[derive(Debug, Clone, Copy)]
+pub struct Counts {
+    /// Of each of the two direct calls.
+    pub series: usize,
+    /// Of the archive's writer; the test from an archive has twice as many.
+    pub archives: usize,
+    /// Of the four calls with a table, together.
+    pub tables: usize,
 }
 
-/// Checks one line of a list of vectors, told by the name of its file.
-pub fn check_line(list: &str, line: &str) -> Result<(), String> {
-    if list == make_tables::TABLES {
-        return make_tables::check_line(line);
+/// The list, what the program `replay` has to print of it, and what its cases hit.
+pub struct Made {
+    pub list: String,
+    pub printed: String,
+    pub summary: String,
+}
+
+/// The list of a seed.
+pub fn made(seed: u64, counts: Counts) -> Made {
+    let (mut list, mut summary) = (String::new(), String::new());
+    for direct in lists() {
+        let written = direct.write(seed, counts.series);
+        list += &written.lines;
+        summary += &written.summary;
     }
-    let (files, expected) = line.split_once(' ').ok_or("a line without a blank")?;
-    let output = match list {
-        make_archive::ARCHIVE | make_archive::ARCHIVE_TEST => make_archive::output(list, files),
-        "satterthwaite.txt" => unhex(files).map(|file| satterthwaite_line(&file)),
-        _ => unhex(files).map(|file| pulltest(&file)),
-    };
-    let output = output.ok_or("not hexadecimal")?.replace('\n', "|");
-    if output == expected {
-        Ok(())
-    } else {
-        Err(format!("expected {expected}, got {output}"))
+    let archives = make_archive::archives(seed, counts.archives);
+    let tests = make_archive::archive_tests(seed, 2 * counts.archives);
+    let tables = make_tables::with_tables(seed, counts.tables);
+    for (name, (lines, tally)) in
+        [("archive", archives), ("archive_test", tests), ("with a table", tables)]
+    {
+        list += &lines;
+        summary += &make_archive::tally_text(name, &tally);
     }
+    list += &wrong::lines(&list);
+    let printed = replay::printed(&list);
+    Made { list, printed, summary }
+}
+
+/// `oracle make-vectors DIR SEED SERIES ARCHIVES TABLES`: the list as the program's `stdin`,
+/// what it has to print as its `stdout`. The summary of the cases.
+pub fn make_vectors(folder: &Path, seed: u64, counts: Counts) -> io::Result<String> {
+    fs::create_dir_all(folder)?;
+    let made = made(seed, counts);
+    fs::write(folder.join("stdin"), made.list)?;
+    fs::write(folder.join("stdout"), made.printed)?;
+    let Counts { series, archives, tables } = counts;
+    let head = format!(
+        "# What the vectors hit\n\nPrinted by `oracle make-vectors DIR {seed} {series} {archives} \
+         {tables}`. Each number counts the cases of the family, or of the calls, in which it \
+         occurred.\n\n"
+    );
+    Ok(format!("{}\n", (head + &made.summary).trim_end()))
 }

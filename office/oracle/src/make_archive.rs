@@ -1,5 +1,5 @@
-//! Writes the archive's two lists of vectors: series with their archives, and
-//! archives with second files.
+//! The archive's cases in the list of calls: series with their archives, and archives with
+//! second files.
 
 use crate::archive::archive;
 use crate::known_archive::{pairs, series};
@@ -8,24 +8,19 @@ use crate::print::{archive_lines, archive_test_lines};
 use crate::random::{kr_case, Random, KR_FAMILIES, MORE_KR_FAMILIES, SHUFFLED};
 use crate::reader::archive::test_records;
 use crate::reader::archive_tries::{random_pair, random_tests, varied, Pair};
-use ::reader::vectors::{hex, pair, unhex};
+use ::reader::vectors::{hex, ARCHIVE, ARCHIVE_TEST};
 use std::collections::BTreeMap;
-use std::path::Path;
-use std::{fs, io};
+use std::fmt::Write as _;
 
-/// The lists.
-pub const ARCHIVE: &str = "archive.txt";
-pub const ARCHIVE_TEST: &str = "archive-test.txt";
-
-/// The bytes of a series with its archive, and of an archive of the second
-/// list: most stay below, so that the lists stay short.
+/// The bytes of a series with its archive, and of an archive beside a second
+/// file: most stay below, so that the list stays short.
 const SERIES_AND_ARCHIVE: usize = 2200;
 const ARCHIVE_ALONE: usize = 1100;
 
 /// One random case in so many is of any size.
 const ANY_SIZE_ONE_IN: usize = 30;
 
-/// How often each answer stands in a list, by its first words.
+/// How often each answer stands in the list, by its first words.
 pub type Tally = BTreeMap<String, usize>;
 
 /// Those of the series, `extreme` more often for the mark's sake.
@@ -54,10 +49,10 @@ fn pair_text((archive, tests): &Pair) -> String {
 
 fn pair_line(pair: &Pair) -> String {
     let output = archive_test_lines(&pair.0, &pair.1);
-    format!("{} {}\n", pair_text(pair), output.replace('\n', "|"))
+    format!("{ARCHIVE_TEST} {} {}\n", pair_text(pair), output.replace('\n', "|"))
 }
 
-/// A pair for the second list: the archive of a random series beside its own
+/// A pair for the test from an archive: the archive of a random series beside its own
 /// second file or another, or any archive at all; mostly with damage.
 fn random_case(r: &mut Random, family: &str) -> Pair {
     let pair = if r.once_in(3) {
@@ -79,7 +74,7 @@ fn random_case(r: &mut Random, family: &str) -> Pair {
 }
 
 fn count(tally: &mut Tally, line: &str) {
-    let output = line.split_once(' ').map_or("", |(_, output)| output);
+    let output = line.splitn(3, ' ').nth(2).unwrap_or("");
     let kind = match output.strip_prefix("archive ") {
         Some(rest) if rest.contains("|refused 10|") => "archived, the test refused 10",
         Some(rest) if rest.contains("outside") => "archived, some entry outside",
@@ -91,43 +86,42 @@ fn count(tally: &mut Tally, line: &str) {
     *tally.entry(kind.to_string()).or_default() += 1;
 }
 
-/// A list: its lines, and what they hold.
-fn list(lines: impl Iterator<Item = String>) -> (String, Tally) {
+/// Lines, and what they hold.
+fn tallied(lines: impl Iterator<Item = String>) -> (String, Tally) {
     let mut tally = Tally::new();
     let text = lines.inspect(|line| count(&mut tally, line)).collect();
     (text, tally)
 }
 
-/// `oracle make-archive-vectors DIR SEED COUNT`: COUNT random series behind those
-/// made by hand, and twice as many random pairs. What each list holds.
-pub fn make_archive_vectors(
-    folder: &Path,
-    seed: u64,
-    count: usize,
-) -> io::Result<[(&'static str, Tally); 2]> {
-    fs::create_dir_all(folder)?;
-    let families = families();
-    let random = |i: usize| Random::new(seed.wrapping_mul(1009).wrapping_add(i as u64));
-    let by_hand = series().into_iter().map(|(_, file, _)| file);
-    let at_random = (0..count).map(|i| short_case(&mut random(i), families[i % families.len()]).0);
-    let (text, first) =
-        list(by_hand.chain(at_random).map(|file| line(&file, &archive_lines(&file))));
-    fs::write(folder.join(ARCHIVE), text)?;
-    let by_hand = pairs().into_iter().map(|(_, archive, tests, _)| (archive, tests));
-    // `shuffled` has no archive of its own.
-    let families = &families[..families.len() - 1];
-    let at_random = (0..2 * count)
-        .map(|i| random_case(&mut random(1_000_000 + i), families[i % families.len()]));
-    let (text, second) = list(by_hand.chain(at_random).map(|pair| pair_line(&pair)));
-    fs::write(folder.join(ARCHIVE_TEST), text)?;
-    Ok([(ARCHIVE, first), (ARCHIVE_TEST, second)])
+/// The part of the summary that says how often each answer stands in the list.
+pub fn tally_text(name: &str, tally: &Tally) -> String {
+    let mut out = format!("## {name}: {} cases\n\n", tally.values().sum::<usize>());
+    for (answer, cases) in tally {
+        writeln!(out, "- {answer}: {cases}").expect("a String takes all");
+    }
+    out + "\n"
 }
 
-/// The oracle's output for the part of a line before its blank.
-pub fn output(list: &str, files: &str) -> Option<String> {
-    if list == ARCHIVE {
-        return Some(archive_lines(&unhex(files)?));
-    }
-    let (archive, tests) = pair(files)?;
-    Some(archive_test_lines(&archive, &tests))
+fn random(seed: u64, i: usize) -> Random {
+    Random::new(seed.wrapping_mul(1009).wrapping_add(i as u64))
+}
+
+/// The writer's cases: so many random series behind those made by hand.
+pub fn archives(seed: u64, count: usize) -> (String, Tally) {
+    let families = families();
+    let by_hand = series().into_iter().map(|(_, file, _)| file);
+    let at_random =
+        (0..count).map(|i| short_case(&mut random(seed, i), families[i % families.len()]).0);
+    tallied(by_hand.chain(at_random).map(|file| line(ARCHIVE, &file, &archive_lines(&file))))
+}
+
+/// The cases of the test from an archive: so many random pairs behind those made by hand.
+pub fn archive_tests(seed: u64, count: usize) -> (String, Tally) {
+    let families = families();
+    // `shuffled` has no archive of its own.
+    let families = &families[..families.len() - 1];
+    let by_hand = pairs().into_iter().map(|(_, archive, tests, _)| (archive, tests));
+    let at_random = (0..count)
+        .map(|i| random_case(&mut random(seed, 1_000_000 + i), families[i % families.len()]));
+    tallied(by_hand.chain(at_random).map(|pair| pair_line(&pair)))
 }

@@ -11,10 +11,6 @@ use ::reader::random::Random;
 use std::path::Path;
 use std::{fs, io};
 
-/// The season's file, and what is printed of it.
-pub const SEASON: &str = "season.rec";
-pub const SEASON_TEXT: &str = "season.txt";
-
 /// Random series stay below so many bytes, so that the season stays short.
 const LONGEST: usize = 2000;
 
@@ -128,13 +124,14 @@ pub fn season(seed: u64, count: usize) -> Vec<u8> {
     joined(&series, &rest)
 }
 
-/// `oracle make-season DIR SEED COUNT`: what the season holds.
+/// `oracle make-season DIR SEED COUNT`: the season as the `stdin` of the program `pullseason`,
+/// what it has to print as its `stdout`. What the season holds.
 pub fn make_season(folder: &Path, seed: u64, count: usize) -> io::Result<Tally> {
     fs::create_dir_all(folder)?;
     let file = season(seed, count);
     let mut tally = Tally::default();
     tally.add(&file, pulltest);
-    fs::write(folder.join(SEASON_TEXT), pullseason(&file))?;
-    fs::write(folder.join(SEASON), file)?;
+    fs::write(folder.join("stdout"), pullseason(&file))?;
+    fs::write(folder.join("stdin"), file)?;
     Ok(tally)
 }

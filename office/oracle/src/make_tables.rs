@@ -1,4 +1,4 @@
-//! The calls with a table by the oracle, and the stored list of them.
+//! The calls with a table by the oracle, and their cases in the list of calls.
 
 use crate::archive::{archive_test_with_fill, archive_with, archive_with_fill};
 use crate::calls::{kenward_roger_with_fill, satterthwaite_with_fill};
@@ -9,12 +9,8 @@ use crate::reader::archive::test_records;
 use crate::reader::archive_tries::{random_pair, random_tests, varied};
 use crate::reader::cutoffs::Cutoffs;
 use crate::reader::table_tries::{damaged_table, random_table};
-use crate::reader::table_vectors::{line, parse, TableCall, TableInput, TableOutcome, TABLE_CALLS};
+use crate::reader::table_vectors::{line, TableCall, TableInput, TableOutcome, TABLE_CALLS};
 use ::reader::random::Random;
-use std::path::Path;
-use std::{fs, io};
-
-pub use crate::reader::table_vectors::TABLES;
 
 /// Most random files stay below so many bytes, so that the list stays short.
 const FILE: usize = 1000;
@@ -142,20 +138,19 @@ fn random_case(r: &mut Random, call: TableCall, family: &str) -> TableInput {
 }
 
 fn count(tally: &mut Tally, input: &TableInput, outcome: &TableOutcome) {
-    let letter = input.call.letter();
+    let call = input.call.word();
     let accepted = input.call.written(outcome.number).is_some();
     let name = match accepted {
-        false => format!("{letter} refused {}", outcome.number),
-        true if changes(input) => format!("{letter} accepted, not as with the built-in table"),
-        true => format!("{letter} accepted, as with the built-in table"),
+        false => format!("{call} refused {}", outcome.number),
+        true if changes(input) => format!("{call} accepted, not as with the built-in table"),
+        true => format!("{call} accepted, as with the built-in table"),
     };
     *tally.entry(name).or_default() += 1;
 }
 
-/// `oracle make-table-vectors DIR SEED COUNT`: COUNT random cases behind those made
-/// by hand, the calls in turn. What the list holds.
-pub fn make_table_vectors(folder: &Path, seed: u64, cases: usize) -> io::Result<Tally> {
-    fs::create_dir_all(folder)?;
+/// The cases with a table: so many random ones behind those made by hand, the calls in turn.
+/// What they hold.
+pub fn with_tables(seed: u64, cases: usize) -> (String, Tally) {
     let by_hand = known_tables::cases().into_iter().map(|(_, input, _)| input);
     let at_random = (0..cases).map(|i| {
         let mut random = Random::new(seed.wrapping_mul(1009).wrapping_add(i as u64));
@@ -169,18 +164,5 @@ pub fn make_table_vectors(folder: &Path, seed: u64, cases: usize) -> io::Result<
         count(&mut tally, &input, &outcome);
         text += &line(&input, &outcome);
     }
-    fs::write(folder.join(TABLES), text)?;
-    Ok(tally)
-}
-
-/// Checks one line of the list.
-pub fn check_line(text: &str) -> Result<(), String> {
-    let case = parse(0, text).ok_or("no line of tables.txt")?;
-    let got = outcome(&case.input);
-    if got == case.outcome {
-        Ok(())
-    } else {
-        let call = case.input.call;
-        Err(format!("expected {}, got {}", case.outcome.text(call), got.text(call)))
-    }
+    (text, tally)
 }

@@ -1,52 +1,31 @@
-//! The delivered vectors are what the oracle says today, and so are the places
-//! that the gate's program `table_packing` has to print. The stored season is made again.
+//! The stored list of calls is made again, with what is to be printed of it, and so is the
+//! stored season; and the places that the gate's program `table_packing` has to print are
+//! lme-rs's.
 
-use oracle::make_season::{season, SEASON, SEASON_TEXT};
+use oracle::make::{made, Counts};
+use oracle::make_season::season;
 use oracle::print::{pullseason, pulltest};
+use reader::programs::PULLSEASON;
 use reader::season_tries::Tally;
-use std::path::PathBuf;
+use reader::vectors::{of_program, text_of_program, REPLAY};
 
-fn stored(name: &str) -> Vec<u8> {
-    let file = PathBuf::from(env!("CARGO_MANIFEST_DIR")).join("../../vectors").join(name);
-    std::fs::read(&file).unwrap_or_else(|e| panic!("{}: {e}", file.display()))
-}
+/// The seed and the numbers of random cases of vectors/README.md.
+const LIST: (u64, Counts) = (1, Counts { series: 550, archives: 72, tables: 180 });
 
-fn stored_text(name: &str) -> String {
-    String::from_utf8(stored(name)).expect("plain text")
-}
-
-fn replay(list: &str) {
-    let text = stored_text(list);
-    for (i, line) in text.lines().enumerate() {
-        if let Err(e) = oracle::make::check_line(list, line) {
-            panic!("{list}:{}: {e}", i + 1);
-        }
+/// The first line of two texts that differs, since the list has thousands.
+fn same(made: &str, stored: &str, what: &str) {
+    let pairs = made.lines().zip(stored.lines()).enumerate();
+    for (i, (made, stored)) in pairs {
+        assert_eq!(made, stored, "line {} of {what}", i + 1);
     }
+    assert!(made == stored, "the number of lines of {what}");
 }
 
 #[test]
-fn kenward_roger() {
-    replay("kenward-roger.txt");
-}
-
-#[test]
-fn satterthwaite() {
-    replay("satterthwaite.txt");
-}
-
-#[test]
-fn archive() {
-    replay("archive.txt");
-}
-
-#[test]
-fn archive_test() {
-    replay("archive-test.txt");
-}
-
-#[test]
-fn tables() {
-    replay("tables.txt");
+fn the_list() {
+    let made = made(LIST.0, LIST.1);
+    same(&made.list, &text_of_program(REPLAY, "stdin"), "the list");
+    same(&made.printed, &text_of_program(REPLAY, "stdout"), "what is printed of the list");
 }
 
 /// The seed and the number of series of vectors/README.md.
@@ -62,9 +41,9 @@ const NOT_IN_ONE: [&str; 4] = [
 
 #[test]
 fn the_season() {
-    let file = stored(SEASON);
-    assert!(file == season(MADE.0, MADE.1), "{SEASON} is made otherwise");
-    assert_eq!(stored_text(SEASON_TEXT), pullseason(&file));
+    let file = of_program(PULLSEASON.name, "stdin");
+    assert!(file == season(MADE.0, MADE.1), "the season is made otherwise");
+    assert_eq!(text_of_program(PULLSEASON.name, "stdout"), pullseason(&file));
     let mut tally = Tally::default();
     tally.add(&file, pulltest);
     assert_eq!((tally.seasons, tally.series), (1, MADE.1));
@@ -73,8 +52,7 @@ fn the_season() {
 
 #[test]
 fn places() {
-    let file = PathBuf::from(env!("CARGO_MANIFEST_DIR")).join("../../crates/table_packing/stdout");
-    let text = std::fs::read_to_string(&file).unwrap_or_else(|e| panic!("{}: {e}", file.display()));
+    let text = text_of_program("table_packing", "stdout");
     assert_eq!(text, oracle::print::places());
     assert_eq!(text.lines().count(), 30);
 }

@@ -94,15 +94,16 @@ impl Season {
 #[cfg(test)]
 mod tests {
     use super::*;
+    use reader::programs::PULLSEASON;
     use reader::season_tries::of_beta;
+    use reader::vectors;
 
     /// The worst after each accepted series is what the stored season's lines say.
     #[test]
     fn the_stored_season() {
-        let stored = |name| std::fs::read(reader::vectors::folder().join(name)).expect("stored");
-        let text = String::from_utf8(stored("season.txt")).expect("plain text");
+        let text = vectors::text_of_program(PULLSEASON.name, "stdout");
         let words = text.lines().filter_map(|line| line.strip_prefix("worst "));
-        let season = Season::of(&stored("season.rec"));
+        let season = Season::of(&vectors::of_program(PULLSEASON.name, "stdin"));
         let bits = |worst: Option<Worst>| {
             worst.map_or("none".to_string(), |worst| format!("{:016x}", worst.f.to_bits()))
         };
@@ -117,7 +118,7 @@ mod tests {
     /// The picture under docs/ is that of the example season.
     #[test]
     fn the_stored_picture() {
-        let root = std::path::Path::new(env!("CARGO_MANIFEST_DIR")).join("../..");
+        let root = vectors::root();
         let season = Season::of(&std::fs::read(root.join("examples/season.rec")).expect("stored"));
         let stored = std::fs::read_to_string(root.join("docs/season.svg")).expect("stored");
         assert!(picture::picture(&season) == stored, "the example `season` writes another");

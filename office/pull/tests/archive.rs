@@ -60,11 +60,11 @@ fn expected(output: &str) -> String {
     shown(kenward_roger_outcome(output, UNTOUCHED).unwrap_or_else(|e| panic!("{e}")))
 }
 
-/// Each line of `archive.txt`: the writer's number or every byte of the
+/// Each stored line of the archive's writer: the writer's number or every byte of the
 /// archive, and the number and every byte of the test from it.
 #[test]
 fn stored_series() {
-    let cases = vectors::load("archive.txt");
+    let cases = vectors::load(vectors::ARCHIVE);
     assert!(cases.len() > 100, "{} cases", cases.len());
     let mut archives = 0;
     for case in &cases {
@@ -80,10 +80,10 @@ fn stored_series() {
             (got, _) => panic!("line {line}: {:?} is not {}", got.map(|a| hex(&a)), case.output),
         }
     }
-    println!("archive.txt: {} cases, {archives} archives", cases.len());
+    println!("archive: {} cases, {archives} archives", cases.len());
 }
 
-/// Each line of `archive-test.txt`.
+/// Each stored line of the test from an archive.
 #[test]
 fn stored_pairs() {
     let cases = vectors::load_archive_tests();
@@ -92,7 +92,7 @@ fn stored_pairs() {
         let got = tested(&case.archive, &case.tests);
         assert_eq!(shown(got), expected(&case.output), "line {}", case.line);
     }
-    println!("archive-test.txt: {} cases", cases.len());
+    println!("archive_test: {} cases", cases.len());
 }
 
 /// The stored series of the Kenward–Roger call: one that is archived is tested
@@ -100,7 +100,7 @@ fn stored_pairs() {
 #[test]
 fn as_the_direct_call() {
     let (mut archives, mut refused, mut by_test) = (0, 0, 0);
-    for name in ["kenward-roger.txt", "archive.txt"] {
+    for name in [vectors::KENWARD_ROGER, vectors::ARCHIVE] {
         for case in vectors::load(name) {
             let direct = direct(&case.file);
             match archived(&case.file) {
@@ -293,14 +293,14 @@ fn hostile_series() {
 fn stored_series_between_fences() {
     let mut memory = [Fenced::new(), Fenced::new()];
     let mut longest = 0;
-    for case in vectors::load("archive.txt") {
+    for case in vectors::load(vectors::ARCHIVE) {
         for seed in 0..FENCES {
             let number = one_series(&case.file, &mut Random::new(seed), &mut memory)
                 .unwrap_or_else(|text| panic!("line {}, seed {seed}: {text}", case.line));
             longest += u64::from(number as usize == ARCHIVE_BYTES);
         }
     }
-    println!("archive.txt between fences: {longest} archives of {ARCHIVE_BYTES} bytes");
+    println!("archive between fences: {longest} archives of {ARCHIVE_BYTES} bytes");
     assert!(longest > FENCES / 2);
 }
 

@@ -107,17 +107,17 @@ fn every_byte_behind_the_number() {
     }
 }
 
-/// The stored series of both lists that are answered and have blocks, with what
+/// The stored series of both calls that are answered and have blocks, with what
 /// they answer.
 fn stored() -> Vec<(Vec<u8>, [u8; KENWARD_ROGER_BYTES])> {
     let mut out = Vec::new();
-    for case in vectors::load("kenward-roger.txt") {
+    for case in vectors::load(vectors::KENWARD_ROGER) {
         if case.refusal().is_none() && Numbers::of(&case.file).is_some() {
             let answer = case.kenward_roger_answer().unwrap_or_else(|e| panic!("{e}"));
             out.push((case.file, answer));
         }
     }
-    for case in vectors::load("archive.txt") {
+    for case in vectors::load(vectors::ARCHIVE) {
         let Some((_, test)) = case.archive() else { continue };
         let (number, answer) =
             vectors::kenward_roger_outcome(test, UNTOUCHED).unwrap_or_else(|e| panic!("{e}"));

@@ -57,15 +57,10 @@ fn same(got: &str, expected: &str, what: &str) {
     assert_eq!(got, expected, "{what}");
 }
 
-fn stored(name: &str) -> Vec<u8> {
-    let path = vectors::folder().join(name);
-    std::fs::read(&path).unwrap_or_else(|e| panic!("{}: {e}", path.display()))
-}
-
 #[test]
 fn stored_season() {
-    let (file, text) = (stored("season.rec"), stored("season.txt"));
-    let text = String::from_utf8(text).expect("plain text");
+    let file = vectors::of_program(PULLSEASON.name, "stdin");
+    let text = vectors::text_of_program(PULLSEASON.name, "stdout");
     same(&expected(&file), &text, "the stored season by the C function");
     for part in [usize::MAX, 16_384, 4096, 1000, 17, 16] {
         let got = PULLSEASON.printed(file.chunks(part));
@@ -177,7 +172,7 @@ fn a_series_is_printed_when_it_is_closed() {
     let mut run = PULLSEASON.start(Stdio::piped(), Stdio::piped());
     let mut input = run.stdin.take().expect("a pipe");
     let lines = lines_of(run.stdout.take().expect("a pipe"));
-    let long = vectors::load("kenward-roger.txt").into_iter().map(|case| case.file);
+    let long = vectors::load(vectors::KENWARD_ROGER).into_iter().map(|case| case.file);
     let long = long.filter(|file| file.len() % 16 == 0).max_by_key(Vec::len).expect("a file");
     let series = [of_beta(6.0), Vec::new(), of_beta(2.0), long, of_beta(-6.0), of_beta(8.0)];
     let text = expected(&joined(&series, &[]));
@@ -213,7 +208,7 @@ fn own_worst(output: &str) -> String {
 /// Each stored series closed and alone, then all of them as one season.
 #[test]
 fn stored_series() {
-    let cases = vectors::load("kenward-roger.txt");
+    let cases = vectors::load(vectors::KENWARD_ROGER);
     let whole = cases.iter().filter(|case| case.file.len() % 16 == 0);
     for case in whole.clone() {
         let mut text = case.output.replace('|', "\n");

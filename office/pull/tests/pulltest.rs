@@ -40,7 +40,7 @@ fn printed(file: &[u8], part: usize) -> String {
 
 #[test]
 fn stored_vectors() {
-    for case in vectors::load("kenward-roger.txt") {
+    for case in vectors::load(vectors::KENWARD_ROGER) {
         let text = printed(&case.file, usize::MAX).replace('\n', "|");
         assert_eq!(text, case.output, "line {}", case.line);
     }

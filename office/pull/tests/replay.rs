@@ -44,10 +44,10 @@ fn replay<const N: usize>(
 
 #[test]
 fn kenward_roger() {
-    replay("kenward-roger.txt", pull::kenward_roger_fill, vectors::Vector::kenward_roger_answer);
+    replay(vectors::KENWARD_ROGER, pull::kenward_roger_fill, vectors::Vector::kenward_roger_answer);
 }
 
 #[test]
 fn satterthwaite() {
-    replay("satterthwaite.txt", pull::satterthwaite_fill, vectors::Vector::satterthwaite_answer);
+    replay(vectors::SATTERTHWAITE, pull::satterthwaite_fill, vectors::Vector::satterthwaite_answer);
 }

@@ -175,13 +175,13 @@ fn varied(random: &mut Random, file: &[u8]) -> Vec<u8> {
 /// The Kenward–Roger call, by this function.
 fn kenward_roger_by(fill: fn(&[u8], &[u8], &mut [u8]) -> u32, tables: bool) -> Function {
     let answer_length = pull::KENWARD_ROGER_BYTES;
-    let (call, vectors) = (Call::KenwardRoger, "kenward-roger.txt");
+    let (call, vectors) = (Call::KenwardRoger, vectors::KENWARD_ROGER);
     Function { call, vectors, fill, answer_length, tables }
 }
 
 fn satterthwaite_by(fill: fn(&[u8], &[u8], &mut [u8]) -> u32, tables: bool) -> Function {
     let answer_length = pull::ENTRY_BYTES;
-    let (call, vectors) = (Call::Satterthwaite, "satterthwaite.txt");
+    let (call, vectors) = (Call::Satterthwaite, vectors::SATTERTHWAITE);
     Function { call, vectors, fill, answer_length, tables }
 }
 

@@ -26,11 +26,11 @@ fn stored_list() {
     let mut tally: BTreeMap<(char, u32), usize> = BTreeMap::new();
     for case in &cases {
         let got = outcome(&case.input);
-        assert_eq!(got, case.outcome, "tables.txt:{}", case.line);
+        assert_eq!(got, case.outcome, "line {}", case.line);
         let number = if case.input.call.written(got.number).is_some() { 0 } else { got.number };
         *tally.entry((case.input.call.letter(), number)).or_default() += 1;
     }
-    println!("tables.txt: {} cases, by call and number (0: accepted): {tally:?}", cases.len());
+    println!("with tables: {} cases, by call and number (0: accepted): {tally:?}", cases.len());
     assert!(cases.len() > 400);
     for call in TABLE_CALLS {
         let of = |number: u32| tally.get(&(call.letter(), number)).copied().unwrap_or(0);
@@ -38,7 +38,7 @@ fn stored_list() {
     }
 }
 
-/// All stored files of the four lists, with the built-in table.
+/// All stored files of the calls without a table, with the built-in table.
 fn stored() -> Vec<TableInput> {
     let of = |call: TableCall, list: &str| {
         let files = vectors::load(list).into_iter().map(|case| case.file);
@@ -47,10 +47,10 @@ fn stored() -> Vec<TableInput> {
     let tests = vectors::load_archive_tests();
     let tests = tests.iter().map(|case| TableInput::test(&built_in(), &case.archive, &case.tests));
     [
-        of(TableCall::KenwardRoger, "kenward-roger.txt"),
-        of(TableCall::Satterthwaite, "satterthwaite.txt"),
-        of(TableCall::Archive, "archive.txt"),
-        of(TableCall::Archive, "kenward-roger.txt"),
+        of(TableCall::KenwardRoger, vectors::KENWARD_ROGER),
+        of(TableCall::Satterthwaite, vectors::SATTERTHWAITE),
+        of(TableCall::Archive, vectors::ARCHIVE),
+        of(TableCall::Archive, vectors::KENWARD_ROGER),
         tests.collect(),
     ]
     .concat()
@@ -145,7 +145,7 @@ fn one_then_fourteen() {
 fn archives_with_one_table() {
     let tries = Tries::new(Call::KenwardRoger);
     let stored: Vec<_> =
-        vectors::load("kenward-roger.txt").into_iter().map(|case| case.file).collect();
+        vectors::load(vectors::KENWARD_ROGER).into_iter().map(|case| case.file).collect();
     let (mut archived, mut changed, mut by_test, mut refused) = (0, 0, 0, 0);
     for seed in 0..20_000 {
         let mut random = Random::new(seed);
@@ -215,7 +215,7 @@ fn tables_from_files() {
 /// The stored tables beside the example series.
 #[test]
 fn example_tables() {
-    let folder = vectors::folder().join("../examples");
+    let folder = vectors::root().join("examples");
     let read = |name: &str| std::fs::read(folder.join(name)).expect("it is stored");
     assert_eq!(read("built-in.table"), built_in());
     let decades = Cutoffs::from_table(&read("decades.table")).expect("it is accepted");

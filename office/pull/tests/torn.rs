@@ -88,7 +88,7 @@ impl Seen {
 fn stored_series() {
     let mut random = Random::new(5);
     let (mut stored, mut torn_here) = (Seen::default(), Seen::default());
-    for name in ["kenward-roger.txt", "archive.txt"] {
+    for name in [vectors::KENWARD_ROGER, vectors::ARCHIVE] {
         for case in vectors::load(name) {
             stored.add_if_torn(&case.file);
             for _ in 0..4 {

@@ -121,7 +121,7 @@ impl Stock {
     pub fn new() -> Stock {
         let mut out = Stock { refused: BTreeMap::new(), accepted: BTreeMap::new() };
         let fits = |case: &Vector| case.file.len() % 16 == 0 && case.file.len() <= LONGEST;
-        for case in vectors::load("kenward-roger.txt").into_iter().filter(fits) {
+        for case in vectors::load(vectors::KENWARD_ROGER).into_iter().filter(fits) {
             if let Some(number) = case.refusal() {
                 out.refused.entry(number).or_default().push(case.file);
                 continue;
@@ -491,7 +491,7 @@ mod tests {
     /// others too.
     #[test]
     fn every_branch_of_the_bytes_is_met() {
-        let stored = vectors::load("kenward-roger.txt").into_iter();
+        let stored = vectors::load(vectors::KENWARD_ROGER).into_iter();
         let stored = stored.map(|case| (case.file, case.output.replace('|', "\n"))).collect();
         let (stock, mut random) = (Stock::new(), Random::new(7));
         let mut tally = Tally::default();

@@ -1,12 +1,9 @@
-//! The stored list of calls with a table, `tables.txt`: a line has a letter for the
-//! call, the table and the call's files, a blank, the number that is returned, and
-//! where the call accepts the bytes that are written (vectors/README.md, "Tables").
+//! The calls with a table in the stored list: a line has the name of the call, the table and
+//! the call's files, the number that is returned, and where the call accepts the bytes that
+//! are written (vectors/README.md, "Tables").
 
 use crate::archive::{LENT, SHORTEST};
-use crate::vectors::{folder, hex, unhex, ENTRY, KR_ANSWER};
-
-/// The list.
-pub const TABLES: &str = "tables.txt";
+use crate::vectors::{self, hex, unhex, Line, ENTRY, KR_ANSWER};
 
 /// A call with a table.
 #[derive(Debug, Clone, Copy, PartialEq, Eq, PartialOrd, Ord)]
@@ -22,7 +19,22 @@ use TableCall::*;
 pub const TABLE_CALLS: [TableCall; 4] = [KenwardRoger, Satterthwaite, Archive, ArchiveTest];
 
 impl TableCall {
-    /// The letter that stands for it in the list.
+    /// Its name in the list.
+    pub fn word(self) -> &'static str {
+        match self {
+            KenwardRoger => "kenward_roger_with",
+            Satterthwaite => "satterthwaite_with",
+            Archive => "archive_with",
+            ArchiveTest => "archive_test_with",
+        }
+    }
+
+    /// The call of a name.
+    pub fn of_word(word: &str) -> Option<TableCall> {
+        TABLE_CALLS.into_iter().find(|call| word == call.word())
+    }
+
+    /// The letter that stands for it where a name would be long.
     pub fn letter(self) -> char {
         match self {
             KenwardRoger => 'k',
@@ -77,26 +89,23 @@ impl TableInput {
         TableInput { table: table.to_vec(), ..self.clone() }
     }
 
-    /// What stands before a line's blank.
+    /// What stands in a line before the answer.
     pub fn text(&self) -> String {
         let file = |bytes: &[u8]| if bytes.is_empty() { "-".to_string() } else { hex(bytes) };
-        let mut out = format!("{},{},{}", self.call.letter(), file(&self.table), file(&self.file));
+        let mut out = format!("{} {},{}", self.call.word(), file(&self.table), file(&self.file));
         if self.call == ArchiveTest {
             out += &format!(",{}", file(&self.tests));
         }
         out
     }
 
-    pub fn from_text(text: &str) -> Option<TableInput> {
-        let words: Vec<&str> = text.split(',').collect();
-        let (&letter, files) = words.split_first()?;
-        let call = TABLE_CALLS.into_iter().find(|call| letter == call.letter().to_string())?;
-        match (call, files) {
-            (ArchiveTest, [table, archive, tests]) => {
-                Some(TableInput::test(&unhex(table)?, &unhex(archive)?, &unhex(tests)?))
-            }
+    /// What a call is given by the files of its line.
+    pub fn from_files(call: TableCall, files: &str) -> Option<TableInput> {
+        let files: Vec<Vec<u8>> = files.split(',').map(unhex).collect::<Option<_>>()?;
+        match (call, files.as_slice()) {
+            (ArchiveTest, [table, archive, tests]) => Some(TableInput::test(table, archive, tests)),
             (ArchiveTest, _) => None,
-            (call, [table, file]) => Some(TableInput::of(call, &unhex(table)?, &unhex(file)?)),
+            (call, [table, file]) => Some(TableInput::of(call, table, file)),
             _ => None,
         }
     }
@@ -115,7 +124,7 @@ impl TableOutcome {
         TableOutcome { number, written: lent[..call.written(number).unwrap_or(0)].to_vec() }
     }
 
-    /// What stands behind a line's blank.
+    /// The answer of a line.
     pub fn text(&self, call: TableCall) -> String {
         match call.written(self.number) {
             None => self.number.to_string(),
@@ -149,21 +158,16 @@ pub fn line(input: &TableInput, outcome: &TableOutcome) -> String {
 }
 
 /// The case of a line.
-pub fn parse(number: usize, line: &str) -> Option<TableVector> {
-    let (input, outcome) = line.split_once(' ')?;
-    let input = TableInput::from_text(input)?;
-    let outcome = TableOutcome::from_text(input.call, outcome)?;
-    Some(TableVector { line: number, input, outcome })
+pub fn parse(line: &Line) -> Option<TableVector> {
+    let call = TableCall::of_word(&line.call)?;
+    let input = TableInput::from_files(call, &line.files)?;
+    let outcome = TableOutcome::from_text(call, &line.answer)?;
+    Some(TableVector { line: line.number, input, outcome })
 }
 
-/// All cases of the list. It panics where a line is none.
+/// All cases of the list, a call after the other.
 pub fn load() -> Vec<TableVector> {
-    let path = folder().join(TABLES);
-    let text = std::fs::read_to_string(&path).unwrap_or_else(|e| panic!("{}: {e}", path.display()));
-    let case = |(i, line): (usize, &str)| {
-        parse(i + 1, line).unwrap_or_else(|| panic!("{TABLES}:{}: no vector", i + 1))
-    };
-    text.lines().enumerate().map(case).collect()
+    TABLE_CALLS.into_iter().flat_map(|call| vectors::cases(call.word(), parse)).collect()
 }
 
 #[cfg(test)]
@@ -175,14 +179,22 @@ mod tests {
         let test = TableInput::test(&[1, 2], &[], &[255]);
         let accepted = TableOutcome { number: 0, written: vec![7; 168] };
         let refused = TableOutcome { number: 14, written: Vec::new() };
+        let parsed = |text: &str| parse(&Line::parse(3, text.trim_end())?);
         let written = line(&test, &accepted);
-        assert!(written.starts_with("t,0102,-,ff 0 07"), "{written}");
-        let back = parse(3, written.trim_end()).expect("a line");
+        assert!(written.starts_with("archive_test_with 0102,-,ff 0 07"), "{written}");
+        let back = parsed(&written).expect("a line");
         assert_eq!((back.line, back.input, back.outcome), (3, test, accepted));
         let series = TableInput::of(Satterthwaite, &[], &[0]);
-        assert_eq!(line(&series, &refused), "s,-,00 14\n");
-        for bad in ["s,-,00", "s,- 14", "x,-,- 14", "k,-,-,- 14", "t,-,- 14", "k,-,- 0 00"] {
-            assert_eq!(parse(1, bad), None, "{bad}");
+        assert_eq!(line(&series, &refused), "satterthwaite_with -,00 14\n");
+        for bad in [
+            "satterthwaite_with -,00",
+            "satterthwaite_with - 14",
+            "satterthwaite -,- 14",
+            "kenward_roger_with -,-,- 14",
+            "archive_test_with -,- 14",
+            "kenward_roger_with -,- 0 00",
+        ] {
+            assert_eq!(parsed(bad), None, "{bad}");
         }
     }
 }

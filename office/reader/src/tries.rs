@@ -58,8 +58,8 @@ impl Call {
 
     fn vectors(self) -> &'static str {
         match self {
-            Call::KenwardRoger => "kenward-roger.txt",
-            Call::Satterthwaite => "satterthwaite.txt",
+            Call::KenwardRoger => vectors::KENWARD_ROGER,
+            Call::Satterthwaite => vectors::SATTERTHWAITE,
         }
     }
 }

@@ -1,7 +1,7 @@
-//! The stored vectors: lines of a file in hexadecimal and what `pulltest`
-//! prints for it (vectors/README.md), and the answer bytes that follow from
-//! those lines. The archive's two lists have an archive or two files beside
-//! them.
+//! The stored list of calls, which the program `replay` of the gate reads: a line has the
+//! name of its call, the call's files in hexadecimal and the answer (vectors/README.md).
+//! Here are the lines of a call, the cases of the calls without a table, and the answer
+//! bytes that follow from what `pulltest` prints.
 
 use crate::Refusal;
 use std::path::{Path, PathBuf};
@@ -35,27 +35,80 @@ pub fn unhex(text: &str) -> Option<Vec<u8>> {
     (0..text.len()).step_by(2).map(|i| u8::from_str_radix(&text[i..i + 2], 16).ok()).collect()
 }
 
-/// The repository's folder of vectors.
-pub fn folder() -> PathBuf {
-    Path::new(env!("CARGO_MANIFEST_DIR")).join("../../vectors")
+/// The root of the repository.
+pub fn root() -> PathBuf {
+    Path::new(env!("CARGO_MANIFEST_DIR")).join("../..")
 }
 
-/// Each line of a stored file with its number, its part before the blank and the
-/// output, by `case`. It panics with the file's name where a line is no case.
-fn load_lines<T>(name: &str, case: impl Fn(usize, &str, String) -> Option<T>) -> Vec<T> {
-    let path = folder().join(name);
-    let text = std::fs::read_to_string(&path).unwrap_or_else(|e| panic!("{}: {e}", path.display()));
-    let case = |(i, line): (usize, &str)| {
-        let parts = line.split_once(' ').and_then(|(f, o)| case(i + 1, f, o.to_string()));
-        parts.unwrap_or_else(|| panic!("{name}:{}: no vector", i + 1))
-    };
-    text.lines().enumerate().map(case).collect()
+/// What a program of the gate is run on (`stdin`) and has to print (`stdout`).
+pub fn of_program(program: &str, file: &str) -> Vec<u8> {
+    let path = root().join("crates").join(program).join(file);
+    std::fs::read(&path).unwrap_or_else(|e| panic!("{}: {e}", path.display()))
 }
 
-/// All cases of a stored file of single files (`kenward-roger.txt`,
-/// `satterthwaite.txt` or `archive.txt`).
-pub fn load(name: &str) -> Vec<Vector> {
-    load_lines(name, |line, file, output| Some(Vector { line, file: unhex(file)?, output }))
+/// The same, as text.
+pub fn text_of_program(program: &str, file: &str) -> String {
+    String::from_utf8(of_program(program, file)).expect("plain text")
+}
+
+/// The program that reads the list, its `stdin`.
+pub const REPLAY: &str = "replay";
+
+/// The calls without a table, by their names in the list; `table_vectors` has the others.
+pub const KENWARD_ROGER: &str = "kenward_roger";
+pub const SATTERTHWAITE: &str = "satterthwaite";
+pub const ARCHIVE: &str = "archive";
+pub const ARCHIVE_TEST: &str = "archive_test";
+
+/// So many lines at the list's end are wrong on purpose, to see that the program finds them.
+pub const WRONG: usize = 16;
+
+/// A line of the list in its parts.
+#[derive(Debug, Clone, PartialEq)]
+pub struct Line {
+    /// The number of the line, from 1.
+    pub number: usize,
+    pub call: String,
+    pub files: String,
+    pub answer: String,
+}
+
+impl Line {
+    pub fn parse(number: usize, text: &str) -> Option<Line> {
+        let (call, rest) = text.split_once(' ')?;
+        let (files, answer) = rest.split_once(' ')?;
+        let [call, files, answer] = [call, files, answer].map(String::from);
+        Some(Line { number, call, files, answer })
+    }
+
+    /// The line, by `case`; it panics where the line is none.
+    fn case<T>(&self, case: impl Fn(&Line) -> Option<T>) -> T {
+        case(self).unwrap_or_else(|| panic!("line {} of the list: no {}", self.number, self.call))
+    }
+}
+
+/// The lines of a call in the stored list, but for those that are wrong on purpose.
+pub fn lines(call: &str) -> Vec<Line> {
+    let text = text_of_program(REPLAY, "stdin");
+    let all: Vec<&str> = text.lines().collect();
+    let right = all[..all.len() - WRONG].iter().enumerate();
+    let parsed = right.map(|(i, line)| {
+        Line::parse(i + 1, line).unwrap_or_else(|| panic!("line {} of the list: no call", i + 1))
+    });
+    parsed.filter(|line| line.call == call).collect()
+}
+
+/// The cases of a call, each by `case`.
+pub fn cases<T>(call: &str, case: impl Fn(&Line) -> Option<T>) -> Vec<T> {
+    lines(call).iter().map(|line| line.case(&case)).collect()
+}
+
+/// All cases of a call that has one file and no table.
+pub fn load(call: &str) -> Vec<Vector> {
+    cases(call, |line| {
+        let (file, output) = (unhex(&line.files)?, line.answer.clone());
+        Some(Vector { line: line.number, file, output })
+    })
 }
 
 /// One stored case of the archive's test.
@@ -70,11 +123,11 @@ pub struct ArchiveTest {
     pub output: String,
 }
 
-/// All cases of `archive-test.txt`.
+/// All cases of the archive's test.
 pub fn load_archive_tests() -> Vec<ArchiveTest> {
-    load_lines("archive-test.txt", |line, files, output| {
-        let (archive, tests) = pair(files)?;
-        Some(ArchiveTest { line, archive, tests, output })
+    cases(ARCHIVE_TEST, |line| {
+        let ((archive, tests), output) = (pair(&line.files)?, line.answer.clone());
+        Some(ArchiveTest { line: line.number, archive, tests, output })
     })
 }
 
@@ -151,7 +204,7 @@ impl Vector {
         refusal(&self.output)
     }
 
-    /// Of `archive.txt`: the archive, and the output of the test from it.
+    /// Of the archive's writer: the archive, and the output of the test from it.
     pub fn archive(&self) -> Option<(Vec<u8>, &str)> {
         let (archive, test) = self.output.strip_prefix("archive ")?.split_once('|')?;
         Some((unhex(archive)?, test))
@@ -211,7 +264,7 @@ mod tests {
     /// The stored outputs, as answer bytes and back.
     #[test]
     fn there_and_back() {
-        for case in load("kenward-roger.txt") {
+        for case in load(KENWARD_ROGER) {
             let (number, answer) = kenward_roger_outcome(&case.output, 0).expect("an output");
             let text = kenward_roger_text(number, &answer).replace('\n', "|");
             assert_eq!(text, case.output, "line {}", case.line);

@@ -1,11 +1,9 @@
-//! The stored list with tables: each line's number is the reader's, and the list keeps
-//! the limits of the programs that replay it.
+//! The stored calls with tables: each line's number is the reader's.
 
 use reader::archive::read_both;
 use reader::cutoffs::Cutoffs;
-use reader::table_vectors::{self, TableCall, TableInput, TABLES};
+use reader::table_vectors::{self, TableCall, TableInput};
 use reader::tries::Call;
-use reader::vectors::folder;
 use reader::Refusal;
 
 /// What the reader alone refuses a case with.
@@ -28,27 +26,15 @@ fn numbers_of_the_reader() {
         let number = case.outcome.number;
         match refusal(&case.input) {
             Some(expected) => {
-                assert_eq!(number, expected, "{TABLES}:{}", case.line);
+                assert_eq!(number, expected, "line {}", case.line);
                 refused += 1;
             }
             None => {
                 let late = [4, 9, 10, 11].contains(&number);
                 let accepted = case.input.call.written(number).is_some();
-                assert!(accepted || late, "{TABLES}:{}: {number}", case.line);
+                assert!(accepted || late, "line {}: {number}", case.line);
             }
         }
     }
-    println!("{TABLES}: {} cases, {refused} refused by the reader", cases.len());
-}
-
-/// No more lines and characters than the gate's program holds.
-#[test]
-fn limits_of_the_list() {
-    let text = std::fs::read_to_string(folder().join(TABLES)).expect("it is stored");
-    assert!(text.len() <= 2_000_000 && text.lines().count() <= 600);
-    for (i, line) in text.lines().enumerate() {
-        let files = line.split(' ').next().unwrap_or("");
-        assert!(files.len() <= 32_768, "line {}", i + 1);
-        assert!(files.split(',').all(|file| file.len() <= 2 * 16_384), "line {}", i + 1);
-    }
+    println!("{} cases, {refused} refused by the reader", cases.len());
 }

@@ -1,4 +1,0 @@
-// Replays the Satterthwaite vectors (vectors/satterthwaite.txt).
-fn main() {
-    replay_vectors::replay(1);
-}
