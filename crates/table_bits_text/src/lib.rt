@@ -67,20 +67,6 @@ pub fn print_word(word: u64) {
     io::write_all(1, &text);
 }
 
-// The two digits of a byte.
-fn print_byte(b: u8) {
-    let byte = b as u64;
-    let text = [letter(byte / 16), letter(byte % 16)];
-    io::write_all(1, &text);
-}
-
-// The digits of bytes, one byte after another.
-pub fn print_bytes(bytes: &[u8]) {
-    for i in 0..bytes.len() {
-        print_byte(bytes[i]);
-    }
-}
-
 // Where the first of the n digits that is a comma stands; n where none is.
 pub fn comma_in(digits: &[u8], n: usize) -> usize
     requires { ⌜ n ≤ length (now digits) ⌝ }
