@@ -2,11 +2,10 @@
 ghost use mathlib.Core.Path.{_≡_};
 ghost use Prim.Native.Nat.{_*_, _≤_};
 ghost use lib.ListN.{length};
-ghost use lib.Seq.{sets};
 ghost use Rattle.arithmetic_cutoffs.specs.Cutoffs.{documentCutoffs};
 ghost use Rattle.records.specs.text.Text.{textOf};
 ghost use Rattle.records_arrived.specs.joints.ArrivedCall.{unkeptNumber, arrivedNumber, arrivedEntries};
-ghost use Rattle.records_answer_text.specs.joints.Cursor.{textRoom};
+ghost use Rattle.records_answer_text.specs.joints.Cursor.{Put, textRoom};
 use arithmetic_cutoffs::document_cutoffs;
 use records_answer_text::TEXT_ROOM;
 use records_answer_text::put_run;
@@ -57,8 +56,7 @@ pub fn judge_arrived(a: Arrival, kept: &[u8], told: &mut u32) -> [Entry; 7]
 // Its text from the front of `out`, whose other bytes stay, and the text's length.
 pub fn text_arrived(a: Arrival, kept: &[u8], out: &mut [u8; TEXT_ROOM]) -> usize
     requires { ⌜ 16 * a .records ≤ length (now kept) ⌝ }
-    ensures { λ r. ⌜ (r ≡ length (textOf (arrivedNumber documentCutoffs a (now (kept .entry))) (arrivedEntries documentCutoffs a (now (kept .entry))))) × (r ≤ textRoom) ⌝ }
-    ensures { λ r. ⌜ now (out .exit) ≡ sets (now (out .entry)) 0 (textOf (arrivedNumber documentCutoffs a (now (kept .entry))) (arrivedEntries documentCutoffs a (now (kept .entry)))) ⌝ }
+    ensures { λ r. ⌜ Put textRoom (now (out .entry)) 0 (textOf (arrivedNumber documentCutoffs a (now (kept .entry))) (arrivedEntries documentCutoffs a (now (kept .entry)))) (now (out .exit)) r ⌝ }
 {
     let mut number: u32 = 0;
     let es = judge_arrived(a, kept, &mut number);

@@ -3,7 +3,6 @@ ghost use mathlib.Core.Path.{_≡_};
 ghost use mathlib.Core.Bool.{cond};
 ghost use Prim.Native.Nat.{_*_, _≤_};
 ghost use lib.ListN.{length};
-ghost use lib.Seq.{sets};
 ghost use Rattle.arithmetic_cutoffs.specs.Cutoffs.{documentCutoffs};
 ghost use lib.Dec.{eqb};
 ghost use Rattle.records.specs.format.Layout.{answerBytes, answerLength};
@@ -15,7 +14,7 @@ ghost use Rattle.records_refusals.specs.joints.Room.{Room, SeriesRead, SeriesSh
 ghost use Rattle.records.specs.calls.KenwardRogerCall.{adjusted, run, number, entries, returned, written};
 ghost use Rattle.records.specs.format.Kinds.{panelLimit};
 ghost use Rattle.records_kenward_roger.specs.joints.Left.{Adjusts, Judges};
-ghost use Rattle.records_answer_text.specs.joints.Cursor.{textRoom};
+ghost use Rattle.records_answer_text.specs.joints.Cursor.{Put, textRoom};
 use adjustment_kr_vcov_adj::vcov_adj16_with_pw;
 use arithmetic_cutoffs::Cutoffs;
 use arithmetic_cutoffs::document_cutoffs;
@@ -49,8 +48,8 @@ pub const PANEL_WORK: usize = 3456;
 
 pub const PANEL_NARROW: usize = 864;
 
-// The adjustment of a series that the reader takes, from its sheet, on which n specimens are left that are not torn, in lent slices with room for six squares of as many rows, and for six parts of so many
-// rows of 6: no more is cleared than the series uses. Returns 0, or 9, 10 or 4: then what is lent for answers stays as it is.
+// The adjustment of a series that the reader takes, from its sheet, on which n specimens are left that are not torn, in lent slices with room for six squares of as many rows, and for six parts of so
+// many rows of 6: no more is cleared than the series uses. Returns 0, or 9, 10 or 4: then what is lent for answers stays as it is.
 pub fn kenward_roger_modcomp_data(
     limit: usize,
     c: Cutoffs,
@@ -231,7 +230,8 @@ fn run_of(
     answer_of(refused, es, told)
 }
 
-// A file's number, its entries, its adjustment's rotations and its specimens, whatever its bytes are, with a limit of specimens. What is lent for the reading and for the adjustment has the room that the limit asks for.
+// A file's number, its entries, its adjustment's rotations and its specimens, whatever its bytes are, with a limit of specimens. What is lent for the reading and for the adjustment has the room that
+// the limit asks for.
 pub fn judge(
     limit: usize,
     c: Cutoffs,
@@ -329,8 +329,7 @@ pub fn call(records: &[u8], answer: &mut [u8]) -> u32
 
 // What `pulltest` prints of a file: its text from the front of `out`, whose other bytes stay, and the text's length.
 pub fn text(records: &[u8], out: &mut [u8; TEXT_ROOM]) -> usize
-    ensures { λ r. ⌜ (r ≡ length (textOf (number panelLimit documentCutoffs (now (records .entry))) (entries panelLimit documentCutoffs (now (records .entry))))) × (r ≤ textRoom) ⌝ }
-    ensures { λ r. ⌜ now (out .exit) ≡ sets (now (out .entry)) 0 (textOf (number panelLimit documentCutoffs (now (records .entry))) (entries panelLimit documentCutoffs (now (records .entry)))) ⌝ }
+    ensures { λ r. ⌜ Put textRoom (now (out .entry)) 0 (textOf (number panelLimit documentCutoffs (now (records .entry))) (entries panelLimit documentCutoffs (now (records .entry)))) (now (out .exit)) r ⌝ }
 {
     let mut number: u32 = 0;
     let mut made: usize = 0;

@@ -23,12 +23,13 @@ text-arrived-requires : tie.Need-text-arrived-requires
 text-arrived-requires c κs = search needs
 
 array-share-prefix-out : tie.Need-array-share-prefix-out
-array-share-prefix-out c = let e : length (c .text-arrived .last .1 .1 .0) ≡ 512 = rw (c .text-arrived .ensures .1, length-sets) in omega (arith, c .text-arrived .ensures .0 .1)
+array-share-prefix-out c =
+    let e : length (c .text-arrived .last .1 .1 .0) ≡ 512 = rw (c .text-arrived .ensures .stored, length-sets) in
+    omega (arith, c .text-arrived .ensures .moved, c .text-arrived .ensures .short)
 
 slice-aggregate-write-all : tie.Need-slice-aggregate-write-all
 slice-aggregate-write-all c =
-    let e : length (c .before .text-arrived .last .1 .1 .0) ≡ 512 = rw (c .before .text-arrived .ensures .1, length-sets) in
-    sym (length-take-le (c .before .text-arrived .result) (c .before .text-arrived .last .1 .1 .0) (omega (arith, c .before .text-arrived .ensures .0 .1)))
+    sym (length-take-le (c .before .text-arrived .result) (c .before .text-arrived .last .1 .1 .0) (array-share-prefix-out (c .before)))
 
 write-all-requires : tie.Need-write-all-requires
 write-all-requires c κs = search needs

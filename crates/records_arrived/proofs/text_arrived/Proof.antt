@@ -16,10 +16,7 @@ put-run-requires c κs = search needs
 returns : tie.Need-returns
 returns c =
     let judged = c .before .before .judge-arrived .ensures in
-    let p = named {n = 512} (c .put-run .ensures) (ap₂ textOf (judged .1) (judged .0)) (omega arith) in
-    let m = p .moved in
-    let s = p .short in
-    ((omega arith, omega arith), p .stored)
+    named (c .put-run .ensures) (ap₂ textOf (judged .1) (judged .0)) (omega arith)
 
 pub text-arrived-spec : {M : Type 1} → statement M
 text-arrived-spec = tie.close (tie.spec judge-arrived-requires put-run-requires returns)

@@ -35,11 +35,7 @@ returns c =
     let q = j .judge-panel .ensures in
     let n = q .told ∙ ap (λ (x : Cutoffs). number 24 x s) e in
     let es = q .listed ∙ ap (λ (x : Cutoffs). entries 24 x s) e in
-    let f = ap₂ textOf n es in
-    let p = named {n = 512} (c .put-run .ensures) f (omega arith) in
-    let u = p .moved in
-    let v = p .short in
-    ((omega arith, omega arith), p .stored)
+    named (c .put-run .ensures) (ap₂ textOf n es) (omega arith)
 
 pub text-spec : {M : Type 1} → statement M
 text-spec =

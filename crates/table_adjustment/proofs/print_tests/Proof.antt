@@ -11,12 +11,13 @@ text-requires : tie.Need-text-requires
 text-requires c κs = search needs
 
 array-share-prefix-out : tie.Need-array-share-prefix-out
-array-share-prefix-out c = let e : length (c .text .last .1 .0) ≡ 512 = rw (c .text .ensures .1, length-sets) in omega (arith, c .text .ensures .0 .1)
+array-share-prefix-out c =
+    let e : length (c .text .last .1 .0) ≡ 512 = rw (c .text .ensures .stored, length-sets) in
+    omega (arith, c .text .ensures .moved, c .text .ensures .short)
 
 slice-aggregate-write-all : tie.Need-slice-aggregate-write-all
 slice-aggregate-write-all c =
-    let e : length (c .before .text .last .1 .0) ≡ 512 = rw (c .before .text .ensures .1, length-sets) in
-    sym (length-take-le (c .before .text .result) (c .before .text .last .1 .0) (omega (arith, c .before .text .ensures .0 .1)))
+    sym (length-take-le (c .before .text .result) (c .before .text .last .1 .0) (array-share-prefix-out (c .before)))
 
 write-all-requires : tie.Need-write-all-requires
 write-all-requires c κs = search needs
