@@ -21,23 +21,23 @@ use Rattle.records_contrast.specs.joints.Contrast.{nonzeros, zeroContras
 use Rattle.records.specs.declared.Shape.{Shape}
 
 -- call is the file's number, z its sizes
-module _ (call : Shape) (z : Sizes) (s : List ℕ) (within : any (count s) (beyond (kindsOf call z) s) ≡ false) (N : ℕ) (room : slotCount (kindsOf call z) ≤ N) (flat : Flat (kindAt (kindsOf call z) 9) (z .contrasts) (z .coefficients)) where
+module _ (file : Shape) (z : Sizes) (s : List ℕ) (within : any (count s) (beyond (kindsOf file z) s) ≡ false) (N : ℕ) (room : slotCount (kindsOf file z) ≤ N) (flat : Flat (kindAt (kindsOf file z) 9) (z .contrasts) (z .coefficients)) where
   abbrev sheet : List Float
-  sheet = sheetAfter N (kindsOf call z) s (count s)
+  sheet = sheetAfter N (kindsOf file z) s (count s)
 
   abbrev start : ℕ
-  start = firstSlot (kindsOf call z) 9
+  start = firstSlot (kindsOf file z) 9
 
-  contrast-cell : (i j : ℕ) → i < z .contrasts → j < z .coefficients → getD sheet (start + (i * z .coefficients + j)) nan ≡ cell (kindsOf call z) s 9 0 i j
-  contrast-cell i j l m = ap (λ (x : ℕ). getD sheet x nan) (place start i (z .coefficients) j) ∙ flat-cell call z s within N room 9 (z .contrasts) (z .coefficients) i j flat l m
+  contrast-cell : (i j : ℕ) → i < z .contrasts → j < z .coefficients → getD sheet (start + (i * z .coefficients + j)) nan ≡ cell (kindsOf file z) s 9 0 i j
+  contrast-cell i j l m = ap (λ (x : ℕ). getD sheet x nan) (place start i (z .coefficients) j) ∙ flat-cell file z s within N room 9 (z .contrasts) (z .coefficients) i j flat l m
     where
       place : (f i c j : ℕ) → f + (i * c + j) ≡ f + i * c + j
       place f i c j = omega arith
 
-  pub contrast-read : zeroContrastIn z sheet start ≡ not (eqb (z .contrasts) 0) && not (any (z .contrasts) (λ r. any (z .coefficients) (λ c. not (isZero (cell (kindsOf call z) s 9 0 r c)))))
+  pub contrast-read : zeroContrastIn z sheet start ≡ not (eqb (z .contrasts) 0) && not (any (z .contrasts) (λ r. any (z .coefficients) (λ c. not (isZero (cell (kindsOf file z) s 9 0 r c)))))
   unfolding zeroContrastIn nonzeros
   contrast-read =
       ap (λ (b : Bool). not (eqb (z .contrasts) 0) && not b)
       (any-flat (z .contrasts) (z .coefficients) (λ j. not (isZero (getD sheet (start + j) nan)))
-      ∙ any-same (z .contrasts) (λ r. any (z .coefficients) (λ c. not (isZero (getD sheet (start + (r * z .coefficients + c)) nan)))) (λ r. any (z .coefficients) (λ c. not (isZero (cell (kindsOf call z) s 9 0 r c))))
-      (λ r l. any-same (z .coefficients) (λ c. not (isZero (getD sheet (start + (r * z .coefficients + c)) nan))) (λ c. not (isZero (cell (kindsOf call z) s 9 0 r c))) (λ c m. ap (λ (x : Float). not (isZero x)) (contrast-cell r c l m))))
+      ∙ any-same (z .contrasts) (λ r. any (z .coefficients) (λ c. not (isZero (getD sheet (start + (r * z .coefficients + c)) nan)))) (λ r. any (z .coefficients) (λ c. not (isZero (cell (kindsOf file z) s 9 0 r c))))
+      (λ r l. any-same (z .coefficients) (λ c. not (isZero (getD sheet (start + (r * z .coefficients + c)) nan))) (λ c. not (isZero (cell (kindsOf file z) s 9 0 r c))) (λ c m. ap (λ (x : Float). not (isZero x)) (contrast-cell r c l m))))

@@ -76,10 +76,10 @@ module _ (r : Reader) (s : List ℕ) where
     file-rises h = rw (eq-eqb (length s % 16) 0 whole, h)
 
 -- ---- the sizes of a file with no bad record are below the limits
-module _ (call : Shape) (w : ℕ) (some : 1 ≤ w) (s : List ℕ) (good : any (count s) (badRecord (kindsOf call (limits w)) s) ≡ false) where
-  pub sizes-below : Below (sizesOf call s) (limits w)
+module _ (file : Shape) (w : ℕ) (some : 1 ≤ w) (s : List ℕ) (good : any (count s) (badRecord (kindsOf file (limits w)) s) ≡ false) where
+  pub sizes-below : Below (sizesOf file s) (limits w)
   unfolding satterthwaiteKinds archiveKinds testKinds limits parameterSizes archiveSizes secondSizes sizesAt
-  sizes-below = go call good
+  sizes-below = go file good
     where
       -- specimens are of no account in a file other than a series, so that it has none
       wider : (z : Sizes) → z .specimens ≡ 0 → z .columns ≡ 0 → Below z (limits 1) → Below z (limits w)
@@ -101,11 +101,11 @@ module _ (call : Shape) (w : ℕ) (some : 1 ≤ w) (s : List ℕ) (good : any (c
       go Archived g = wider (archiveSizes s) refl refl (archive-below s g)
       go Second g = wider (secondSizes s) refl refl (second-below s g)
 
-  pub sizes-small : w ≤ 256 → Small (sizesOf call s)
-  sizes-small h = below-small (sizesOf call s) w h sizes-below
+  pub sizes-small : w ≤ 256 → Small (sizesOf file s)
+  sizes-small h = below-small (sizesOf file s) w h sizes-below
 
-  pub sizes-fit : slotCount (kindsOf call (sizesOf call s)) ≤ slotCount (kindsOf call (limits w))
-  sizes-fit = fewer-slots (sizesOf call s) (limits w) sizes-below call kindNumbers
+  pub sizes-fit : slotCount (kindsOf file (sizesOf file s)) ≤ slotCount (kindsOf file (limits w))
+  sizes-fit = fewer-slots (sizesOf file s) (limits w) sizes-below file kindNumbers
 
 -- ---- so the sizes of a file of good form, z being the sizes at hand: document 01's limits, small numbers, room for its cells, and no record beyond them
 pub record FormedSizes (file : Shape) (w : ℕ) (s : List ℕ) (z : Sizes) : Type 0 where

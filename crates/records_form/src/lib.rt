@@ -17,31 +17,31 @@ use records_sheet::first_slots;
 use records_sheet::mark_cells;
 
 // The number 2 of records that its call does not read, whatever their order, with the limit of specimens w; 0 of any other. The lent flags are all clear at first.
-fn form_refusal(call: Shape, w: usize, s: &[u8], flags: &mut [bool]) -> u32
-    requires { ⌜ (1 ≤ w) × (w ≤ 256) × (now flags ≡ replicate (length (now flags)) false) × (slotCount (kindsOf call (limits w)) ≤ length (now flags)) ⌝ }
-    ensures { λ r. ⌜ r ≡ first (formReasons (limitKinds (readerOf call w)) (fileKinds (readerOf call w) (now (s .entry))) (now (s .entry))) ⌝ }
+fn form_refusal(file: Shape, w: usize, s: &[u8], flags: &mut [bool]) -> u32
+    requires { ⌜ (1 ≤ w) × (w ≤ 256) × (now flags ≡ replicate (length (now flags)) false) × (slotCount (kindsOf file (limits w)) ≤ length (now flags)) ⌝ }
+    ensures { λ r. ⌜ r ≡ first (formReasons (limitKinds (readerOf file w)) (fileKinds (readerOf file w) (now (s .entry))) (now (s .entry))) ⌝ }
 {
-    if any_bad(call, records_kinds::limits(w), s) {
+    if any_bad(file, records_kinds::limits(w), s) {
         return 2;
     }
-    let z = records_sizes::sizes_of(call, s);
-    if any_beyond(call, z, s) {
+    let z = records_sizes::sizes_of(file, s);
+    if any_beyond(file, z, s) {
         return 2;
     }
-    let firsts = first_slots(call, z);
-    if mark_cells(call, z, &firsts, s, flags) {
+    let firsts = first_slots(file, z);
+    if mark_cells(file, z, &firsts, s, flags) {
         return 2;
     }
-    if any_missing(call, z, &firsts, &flags[..]) {
+    if any_missing(file, z, &firsts, &flags[..]) {
         return 2;
     }
     0
 }
 
 // The number of a file by its length, its order and its form: 2, 12 and 2; 0 where none of them refuses it.
-pub fn file_refusal(call: Shape, w: usize, s: &[u8], flags: &mut [bool]) -> u32
-    requires { ⌜ (1 ≤ w) × (w ≤ 256) × (now flags ≡ replicate (length (now flags)) false) × (slotCount (kindsOf call (limits w)) ≤ length (now flags)) ⌝ }
-    ensures { λ r. ⌜ r ≡ formedNumber (readerOf call w) (now (s .entry)) ⌝ }
+pub fn file_refusal(file: Shape, w: usize, s: &[u8], flags: &mut [bool]) -> u32
+    requires { ⌜ (1 ≤ w) × (w ≤ 256) × (now flags ≡ replicate (length (now flags)) false) × (slotCount (kindsOf file (limits w)) ≤ length (now flags)) ⌝ }
+    ensures { λ r. ⌜ r ≡ formedNumber (readerOf file w) (now (s .entry)) ⌝ }
 {
     if s.len() % 16 != 0 {
         return 2;
@@ -49,5 +49,5 @@ pub fn file_refusal(call: Shape, w: usize, s: &[u8], flags: &mut [bool]) -> u32
     if records_order::falls(s) {
         return 12;
     }
-    form_refusal(call, w, s, flags)
+    form_refusal(file, w, s, flags)
 }

@@ -219,10 +219,10 @@ fn test_kind(z: Sizes, kind: u8) -> Kind
 }
 
 // What the sizes leave a kind of the file.
-pub fn kind_at(call: Shape, z: Sizes, kind: u8) -> Kind
-    ensures { λ r. ⌜ r ≡ kindAt (kindsOf call z) kind ⌝ }
+pub fn kind_at(file: Shape, z: Sizes, kind: u8) -> Kind
+    ensures { λ r. ⌜ r ≡ kindAt (kindsOf file z) kind ⌝ }
 {
-    match call {
+    match file {
         Shape::Series => kenward_roger_kind(z, kind),
         Shape::Test => satterthwaite_kind(z, kind),
         Shape::Archived => archive_kind(z, kind),

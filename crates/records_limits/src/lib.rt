@@ -52,18 +52,18 @@ fn bad_record(k: Kind, s: &[u8], i: usize) -> bool
 
 // Some record is bad: of a kind that the call does not read, with a nonzero unused field, or past a limit; the limits are sizes. Records rise by kind, so what the table says of the last one's kind is kept, and it is asked
 // again where the kind changes.
-pub fn any_bad(call: Shape, limit: Sizes, s: &[u8]) -> bool
-    ensures { λ r. ⌜ r ≡ any (count (now (s .entry))) (badRecord (kindsOf call limit) (now (s .entry))) ⌝ }
+pub fn any_bad(file: Shape, limit: Sizes, s: &[u8]) -> bool
+    ensures { λ r. ⌜ r ≡ any (count (now (s .entry))) (badRecord (kindsOf file limit) (now (s .entry))) ⌝ }
 {
     let n = s.len() / 16;
     let mut last: u8 = 0;
-    let mut k = kind_at(call, limit, 0);
+    let mut k = kind_at(file, limit, 0);
     let mut i = 0;
     while i < n {
         let kind = kind_of(s, i);
         if kind != last {
             last = kind;
-            k = kind_at(call, limit, kind);
+            k = kind_at(file, limit, kind);
         }
         if bad_record(k, s, i) {
             return true;
@@ -74,18 +74,18 @@ pub fn any_bad(call: Shape, limit: Sizes, s: &[u8]) -> bool
 }
 
 // Some record names a cell that the sizes do not leave its kind.
-pub fn any_beyond(call: Shape, z: Sizes, s: &[u8]) -> bool
-    ensures { λ r. ⌜ r ≡ any (count (now (s .entry))) (beyond (kindsOf call z) (now (s .entry))) ⌝ }
+pub fn any_beyond(file: Shape, z: Sizes, s: &[u8]) -> bool
+    ensures { λ r. ⌜ r ≡ any (count (now (s .entry))) (beyond (kindsOf file z) (now (s .entry))) ⌝ }
 {
     let n = s.len() / 16;
     let mut last: u8 = 0;
-    let mut k = kind_at(call, z, 0);
+    let mut k = kind_at(file, z, 0);
     let mut i = 0;
     while i < n {
         let kind = kind_of(s, i);
         if kind != last {
             last = kind;
-            k = kind_at(call, z, kind);
+            k = kind_at(file, z, kind);
         }
         if out_of(k, s, i) {
             return true;

@@ -29,15 +29,15 @@ use Rattle.records.specs.declared.Shape.{Shape}
 use Rattle.records.specs.declared.Shape.the-variants.{Series}
 
 -- no record beyond the sizes z of a call and no cell twice: as many records as cells at most
-pub few-records : (call : Shape) (z : Sizes) (s : List ℕ) → any (count s) (beyond (kindsOf call z) s) ≡ false → any (count s) (again (kindsOf call z) s) ≡ false → count s ≤ slotCount (kindsOf call z)
+pub few-records : (file : Shape) (z : Sizes) (s : List ℕ) → any (count s) (beyond (kindsOf file z) s) ≡ false → any (count s) (again (kindsOf file z) s) ≡ false → count s ≤ slotCount (kindsOf file z)
 unfolding again
-few-records call z s within once = pigeons (slotCount t) (count s) (slotOf t s) below apart
+few-records file z s within once = pigeons (slotCount t) (count s) (slotOf t s) below apart
   where
     t : Table
-    t = kindsOf call z
+    t = kindsOf file z
 
     below : (i : ℕ) → i < count s → slotOf t s i < slotCount t
-    below i l = slot-of-fits call z s within (slotCount t) (omega arith) i l
+    below i l = slot-of-fits file z s within (slotCount t) (omega arith) i l
 
     sized : (i : ℕ) → i < count s → beyond t s i ≡ false
     sized i l = any-none (count s) (beyond t s) i l within

@@ -116,9 +116,9 @@ module _ (z : Sizes) (h : Small z) where
     ),
   )
 
-  pub widths : (call : Shape) (k : ℕ) → Widths (kindAt (kindsOf call z) k)
-  widths call k =
-      each-file (λ T. Widths (kindAt (T z) k)) (widths-at (kenwardRogerKinds z) series-widths k) (widths-at (satterthwaiteKinds z) parameter-widths k) (widths-at (archiveKinds z) archive-widths k) (widths-at (testKinds z) second-widths k) call
+  pub widths : (file : Shape) (k : ℕ) → Widths (kindAt (kindsOf file z) k)
+  widths file k =
+      each-file (λ T. Widths (kindAt (T z) k)) (widths-at (kenwardRogerKinds z) series-widths k) (widths-at (satterthwaiteKinds z) parameter-widths k) (widths-at (archiveKinds z) archive-widths k) (widths-at (testKinds z) second-widths k) file
 
 -- ---- products of small numbers
 pub two-widths : (a b : ℕ) → a ≤ 256 → b ≤ 256 → a * b ≤ 65536
@@ -129,13 +129,13 @@ unfolding slots
 slots-bound y w = let a : width (y .count) * width (y .row) ≤ 65536 = mul-le-mul (w .number) (w .row) in mul-le-mul a (w .column)
 
 -- ---- the first slots
-module _ (call : Shape) (z : Sizes) (h : Small z) where
-  pub first-bound : (k : ℕ) → firstSlot (kindsOf call z) k ≤ k * 16777216
+module _ (file : Shape) (z : Sizes) (h : Small z) where
+  pub first-bound : (k : ℕ) → firstSlot (kindsOf file z) k ≤ k * 16777216
   unfolding firstSlot total
   first-bound zero = omega arith
-  first-bound (suc k) = let a = first-bound k in let b = slots-bound (kindAt (kindsOf call z) k) (widths z h call k) in omega arith
+  first-bound (suc k) = let a = first-bound k in let b = slots-bound (kindAt (kindsOf file z) k) (widths z h file k) in omega arith
 
-  pub all-bound : (k : ℕ) → k ≤ 33 → firstSlot (kindsOf call z) k ≤ 553648128
+  pub all-bound : (k : ℕ) → k ≤ 33 → firstSlot (kindsOf file z) k ≤ 553648128
   all-bound k l = let a = first-bound k in let b : k * 16777216 ≤ 33 * 16777216 = scaled k l in omega arith
     where
       scaled : (k : ℕ) → k ≤ 33 → k * 16777216 ≤ 33 * 16777216

@@ -19,20 +19,20 @@ use Rattle.records_sheet.proofs.Bounds.{Widths, widths, all-bound}
 use Rattle.records.specs.declared.Shape.{Shape}
 
 -- what a loop has when it asks for the slot of record i: the first slots, a record within the sizes, its kind as read, and what the table says of that kind
-pub record AtRecord (call : Shape) (z : Sizes) (fs s : List ℕ) (i kind l : ℕ) (k : Kind) : Type 0 where
+pub record AtRecord (file : Shape) (z : Sizes) (fs s : List ℕ) (i kind l : ℕ) (k : Kind) : Type 0 where
   pub small : Small z
-  pub firsts : fs ≡ firstSlots (kindsOf call z)
-  pub sized : beyond (kindsOf call z) s i ≡ false
+  pub firsts : fs ≡ firstSlots (kindsOf file z)
+  pub sized : beyond (kindsOf file z) s i ≡ false
   pub read : kind ≡ kindOf s i
-  pub table : Known (kindsOf call z) (kindOf s i) l k
+  pub table : Known (kindsOf file z) (kindOf s i) l k
 
-module _ {call : Shape} {z : Sizes} {fs s : List ℕ} {i kind l : ℕ} {k : Kind} (h : AtRecord call z fs s i kind l k) where
+module _ {file : Shape} {z : Sizes} {fs s : List ℕ} {i kind l : ℕ} {k : Kind} (h : AtRecord file z fs s i kind l k) where
   abbrev t : Table
-  t = kindsOf call z
+  t = kindsOf file z
 
   -- the kind is one that a call may read, so that it has a place among the first slots
   numbered : kindOf s i < kindNumbers
-  numbered = kind-below call z (kindOf s i) _ _ _ (sized-inside t s i (h .sized))
+  numbered = kind-below file z (kindOf s i) _ _ _ (sized-inside t s i (h .sized))
 
   pub kind-placed : kind < 34
   kind-placed = let a = numbered in let e = h .read in omega arith
@@ -42,7 +42,7 @@ module _ {call : Shape} {z : Sizes} {fs s : List ℕ} {i kind l : ℕ} {k : Kind
   first-known = ap (λ (xs : List ℕ). getD xs kind 0) (h .firsts) ∙ firsts-at t kind kind-placed ∙ ap (firstSlot t) (h .read)
 
   pub first-small : getD fs kind 0 ≤ 553648128
-  first-small = let e = first-known in let a = numbered in let b = all-bound call z (h .small) (kindOf s i) (omega arith) in omega arith
+  first-small = let e = first-known in let a = numbered in let b = all-bound file z (h .small) (kindOf s i) (omega arith) in omega arith
 
   -- what the table says of the kind leaves it the record, and small widths
   pub known-holds : outOf k s i ≡ false
@@ -50,7 +50,7 @@ module _ {call : Shape} {z : Sizes} {fs s : List ℕ} {i kind l : ℕ} {k : Kind
   known-holds = ap (λ (y : Kind). outOf y s i) (h .table .known) ∙ h .sized
 
   pub known-widths : Widths k
-  known-widths = rw (h .table .known) (widths z (h .small) call (kindOf s i))
+  known-widths = rw (h .table .known) (widths z (h .small) file (kindOf s i))
 
   -- the kind's first slot and the cell's place among the kind's make the record's slot
   pub slot-known : getD fs kind 0 + offset k (indexOf (k .count) (countOf s i)) (indexOf (k .row) (rowOf s i)) (indexOf (k .column) (columnOf s i)) ≡ slotOf t s i
@@ -62,4 +62,4 @@ module _ {call : Shape} {z : Sizes} {fs s : List ℕ} {i kind l : ℕ} {k : Kind
   slot-within = slot-below t (kindOf s i) _ _ _ kindNumbers (sized-inside t s i (h .sized)) numbered
 
   pub slot-small : slotOf t s i ≤ 553648128
-  slot-small = let a = slot-within in let b = all-bound call z (h .small) kindNumbers (omega arith) in omega arith
+  slot-small = let a = slot-within in let b = all-bound file z (h .small) kindNumbers (omega arith) in omega arith

@@ -97,15 +97,15 @@ module _ (N : ℕ) (t : Table) (s : List ℕ) where
       ∙ sym (fold-more 0 i (λ i xs. set xs (slotOf t s i) (valueOf s i)) (replicate N plusZero) (omega arith))
 
 -- ---- a file within the sizes z of a call: the flag of a cell says whether the file has it, and the sheet has its number
-module _ (call : Shape) (z : Sizes) (s : List ℕ) (sized : any (count s) (beyond (kindsOf call z) s) ≡ false) (N : ℕ) (room : slotCount (kindsOf call z) ≤ N) where
+module _ (file : Shape) (z : Sizes) (s : List ℕ) (sized : any (count s) (beyond (kindsOf file z) s) ≡ false) (N : ℕ) (room : slotCount (kindsOf file z) ≤ N) where
   abbrev t : Table
-  t = kindsOf call z
+  t = kindsOf file z
 
   within-sizes : (i : ℕ) → i < count s → beyond t s i ≡ false
   within-sizes i l = any-none (count s) (beyond t s) i l sized
 
   pub slot-fits : (k n r c : ℕ) → Inside (kindAt t k) n r c → slot t k n r c < N
-  slot-fits k n r c w = let a = slot-below t k n r c kindNumbers w (kind-below call z k n r c w) in omega arith
+  slot-fits k n r c w = let a = slot-below t k n r c kindNumbers w (kind-below file z k n r c w) in omega arith
 
   pub slot-of-fits : (i : ℕ) → i < count s → slotOf t s i < N
   slot-of-fits i l = slot-fits (kindOf s i) (cellCount t s i) (cellRow t s i) (cellColumn t s i) (sized-inside t s i (within-sizes i l))

@@ -33,15 +33,15 @@ fn slots_of(k: Kind) -> usize
 }
 
 // The first slot of each kind, and the number of all slots after them.
-pub fn first_slots(call: Shape, z: Sizes) -> [usize; 34]
+pub fn first_slots(file: Shape, z: Sizes) -> [usize; 34]
     requires { ⌜ Small z ⌝ }
-    ensures { λ r. ⌜ r ≡ firstSlots (kindsOf call z) ⌝ }
+    ensures { λ r. ⌜ r ≡ firstSlots (kindsOf file z) ⌝ }
 {
     let mut firsts = [0usize; 34];
     let mut total: usize = 0;
     let mut k: u8 = 0;
     while k < 33 {
-        total = total + slots_of(kind_at(call, z, k));
+        total = total + slots_of(kind_at(file, z, k));
         k += 1;
         firsts[k as usize] = total;
     }
@@ -74,21 +74,21 @@ fn slot_at(k: Kind, first: usize, s: &[u8], i: usize) -> usize
 
 // Sets the flag of each cell that a record names, until one names a cell that an earlier one names. The lent flags are all clear at first; a file of more records than cells stops at the first that is
 // there already. Records rise by kind, so what the table says of the last one's kind is kept, and it is asked again where the kind changes.
-pub fn mark_cells(call: Shape, z: Sizes, firsts: &[usize; 34], s: &[u8], flags: &mut [bool]) -> bool
-    requires { ⌜ Small z × (now firsts ≡ firstSlots (kindsOf call z)) × (any (count (now s)) (beyond (kindsOf call z) (now s)) ≡ false) ⌝ }
-    requires { ⌜ (now flags ≡ replicate (length (now flags)) false) × (slotCount (kindsOf call z) ≤ length (now flags)) ⌝ }
-    ensures { λ r. ⌜ r ≡ any (count (now (s .entry))) (again (kindsOf call z) (now (s .entry))) ⌝ }
-    ensures { λ r. ⌜ (r ≡ false → now (flags .exit) ≡ flagsAfter (length (now (flags .entry))) (kindsOf call z) (now (s .entry)) (count (now (s .entry)))) ⌝ }
+pub fn mark_cells(file: Shape, z: Sizes, firsts: &[usize; 34], s: &[u8], flags: &mut [bool]) -> bool
+    requires { ⌜ Small z × (now firsts ≡ firstSlots (kindsOf file z)) × (any (count (now s)) (beyond (kindsOf file z) (now s)) ≡ false) ⌝ }
+    requires { ⌜ (now flags ≡ replicate (length (now flags)) false) × (slotCount (kindsOf file z) ≤ length (now flags)) ⌝ }
+    ensures { λ r. ⌜ r ≡ any (count (now (s .entry))) (again (kindsOf file z) (now (s .entry))) ⌝ }
+    ensures { λ r. ⌜ (r ≡ false → now (flags .exit) ≡ flagsAfter (length (now (flags .entry))) (kindsOf file z) (now (s .entry)) (count (now (s .entry)))) ⌝ }
 {
     let n = s.len() / 16;
     let mut last: u8 = 0;
-    let mut k = kind_at(call, z, 0);
+    let mut k = kind_at(file, z, 0);
     let mut i = 0;
     while i < n {
         let kind = kind_of(s, i);
         if kind != last {
             last = kind;
-            k = kind_at(call, z, kind);
+            k = kind_at(file, z, kind);
         }
         let at = slot_at(k, firsts[kind as usize], s, i);
         if flags[at] {
@@ -101,20 +101,20 @@ pub fn mark_cells(call: Shape, z: Sizes, firsts: &[usize; 34], s: &[u8], flags: 
 }
 
 // The number in each cell, +0 where no record names it. The lent sheet is all +0 at first. The table is asked only where the kind changes, as in `mark_cells`.
-pub fn fill_sheet(call: Shape, z: Sizes, firsts: &[usize; 34], s: &[u8], sheet: &mut [f64])
-    requires { ⌜ Small z × (now firsts ≡ firstSlots (kindsOf call z)) × (any (count (now s)) (beyond (kindsOf call z) (now s)) ≡ false) ⌝ }
-    requires { ⌜ (now sheet ≡ replicate (length (now sheet)) plusZero) × (slotCount (kindsOf call z) ≤ length (now sheet)) ⌝ }
-    ensures { λ _. ⌜ now (sheet .exit) ≡ sheetAfter (length (now (sheet .entry))) (kindsOf call z) (now (s .entry)) (count (now (s .entry))) ⌝ }
+pub fn fill_sheet(file: Shape, z: Sizes, firsts: &[usize; 34], s: &[u8], sheet: &mut [f64])
+    requires { ⌜ Small z × (now firsts ≡ firstSlots (kindsOf file z)) × (any (count (now s)) (beyond (kindsOf file z) (now s)) ≡ false) ⌝ }
+    requires { ⌜ (now sheet ≡ replicate (length (now sheet)) plusZero) × (slotCount (kindsOf file z) ≤ length (now sheet)) ⌝ }
+    ensures { λ _. ⌜ now (sheet .exit) ≡ sheetAfter (length (now (sheet .entry))) (kindsOf file z) (now (s .entry)) (count (now (s .entry))) ⌝ }
 {
     let n = s.len() / 16;
     let mut last: u8 = 0;
-    let mut k = kind_at(call, z, 0);
+    let mut k = kind_at(file, z, 0);
     let mut i = 0;
     while i < n {
         let kind = kind_of(s, i);
         if kind != last {
             last = kind;
-            k = kind_at(call, z, kind);
+            k = kind_at(file, z, kind);
         }
         let at = slot_at(k, firsts[kind as usize], s, i);
         sheet[at] = value_at(s, i);
@@ -138,24 +138,24 @@ fn gap_in(flags: &[bool], at: usize, m: usize) -> bool
 }
 
 // Kind k misses a cell; where absent cells are zero it misses none.
-fn missing_in(call: Shape, z: Sizes, firsts: &[usize; 34], flags: &[bool], k: u8) -> bool
-    requires { ⌜ Small z × (now firsts ≡ firstSlots (kindsOf call z)) × (slotCount (kindsOf call z) ≤ length (now flags)) × (k < kindNumbers) ⌝ }
-    ensures { λ b. ⌜ b ≡ missingIn (kindsOf call z) (now (flags .entry)) k ⌝ }
+fn missing_in(file: Shape, z: Sizes, firsts: &[usize; 34], flags: &[bool], k: u8) -> bool
+    requires { ⌜ Small z × (now firsts ≡ firstSlots (kindsOf file z)) × (slotCount (kindsOf file z) ≤ length (now flags)) × (k < kindNumbers) ⌝ }
+    ensures { λ b. ⌜ b ≡ missingIn (kindsOf file z) (now (flags .entry)) k ⌝ }
 {
-    let kind = kind_at(call, z, k);
+    let kind = kind_at(file, z, k);
     if kind.sparse {
         return false;
     }
     gap_in(flags, firsts[k as usize], slots_of(kind))
 }
 
-pub fn any_missing(call: Shape, z: Sizes, firsts: &[usize; 34], flags: &[bool]) -> bool
-    requires { ⌜ Small z × (now firsts ≡ firstSlots (kindsOf call z)) × (slotCount (kindsOf call z) ≤ length (now flags)) ⌝ }
-    ensures { λ b. ⌜ b ≡ any kindNumbers (missingIn (kindsOf call z) (now (flags .entry))) ⌝ }
+pub fn any_missing(file: Shape, z: Sizes, firsts: &[usize; 34], flags: &[bool]) -> bool
+    requires { ⌜ Small z × (now firsts ≡ firstSlots (kindsOf file z)) × (slotCount (kindsOf file z) ≤ length (now flags)) ⌝ }
+    ensures { λ b. ⌜ b ≡ any kindNumbers (missingIn (kindsOf file z) (now (flags .entry))) ⌝ }
 {
     let mut k: u8 = 0;
     while k < 33 {
-        if missing_in(call, z, firsts, flags, k) {
+        if missing_in(file, z, firsts, flags, k) {
             return true;
         }
         k += 1;

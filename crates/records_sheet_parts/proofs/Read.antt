@@ -79,16 +79,16 @@ module _ (y : Table) (fs : List ℕ) (e : fs ≡ firstSlots y) where
     kind-fits r c f = kind-on (r * c) (flat-slots (kindAt y k) r c f)
 
 -- ---- a file within the sizes z of a call, on a sheet of N numbers
-module _ (call : Shape) (z : Sizes) (s : List ℕ) (sized : any (count s) (beyond (kindsOf call z) s) ≡ false) (N : ℕ) (room : slotCount (kindsOf call z) ≤ N) where
+module _ (file : Shape) (z : Sizes) (s : List ℕ) (sized : any (count s) (beyond (kindsOf file z) s) ≡ false) (N : ℕ) (room : slotCount (kindsOf file z) ≤ N) where
   abbrev t : Table
-  t = kindsOf call z
+  t = kindsOf file z
 
   abbrev sheet : List Float
   sheet = sheetAfter N t s (count s)
 
   at-place : (k n r c j : ℕ) → Inside (kindAt t k) n r c → j ≡ offset (kindAt t k) n r c → getD sheet (firstSlot t k + j) nan ≡ cell t s k n r c
   unfolding slot
-  at-place k n r c j w e = rw e (cell-value call z s sized N room k n r c nan w)
+  at-place k n r c j w e = rw e (cell-value file z s sized N room k n r c nan w)
 
   pub stack-cell : (k n r c m i j : ℕ) → Stack (kindAt t k) n r c → m < n → i < r → j < c → getD sheet (firstSlot t k + m * (r * c) + i * c + j) nan ≡ cell t s k m i j
   unfolding offset

@@ -143,10 +143,10 @@ pub fn second_sizes(s: &[u8]) -> Sizes
     }
 }
 
-pub fn sizes_of(call: Shape, s: &[u8]) -> Sizes
-    ensures { λ r. ⌜ r ≡ sizesOf call (now (s .entry)) ⌝ }
+pub fn sizes_of(file: Shape, s: &[u8]) -> Sizes
+    ensures { λ r. ⌜ r ≡ sizesOf file (now (s .entry)) ⌝ }
 {
-    match call {
+    match file {
         Shape::Series => series_sizes(s),
         Shape::Test => parameter_sizes(s),
         Shape::Archived => archive_sizes(s),

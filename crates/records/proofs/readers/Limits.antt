@@ -289,18 +289,18 @@ module _ (a b : Sizes) (h : Below a b) where
       let y = guarded (a .hypothesis) (b .hypothesis) (a .coefficients) (b .coefficients) (h .hypothesis) (h .coefficients) in
       (refl, record { number = same; row = h .coefficients; column = same }, (refl, record { number = same; row = h .contrasts; column = h .coefficients }, (refl, record { number = same; row = y; column = same }, tt)))
 
-  pub narrower : (call : Shape) (k : ℕ) → Narrower (kindAt (kindsOf call a) k) (kindAt (kindsOf call b) k)
-  narrower call k =
+  pub narrower : (file : Shape) (k : ℕ) → Narrower (kindAt (kindsOf file a) k) (kindAt (kindsOf file b) k)
+  narrower file k =
       each-file (λ T. Narrower (kindAt (T a) k) (kindAt (T b) k))
       (narrower-at (kenwardRogerKinds a) (kenwardRogerKinds b) series-narrowers k)
       (narrower-at (satterthwaiteKinds a) (satterthwaiteKinds b) parameters-narrowers k)
       (narrower-at (archiveKinds a) (archiveKinds b) archive-narrowers k)
       (narrower-at (testKinds a) (testKinds b) second-narrowers k)
-      call
+      file
 
-  pub fewer-slots : (call : Shape) (k : ℕ) → firstSlot (kindsOf call a) k ≤ firstSlot (kindsOf call b) k
+  pub fewer-slots : (file : Shape) (k : ℕ) → firstSlot (kindsOf file a) k ≤ firstSlot (kindsOf file b) k
   unfolding firstSlot slots
-  fewer-slots call k = total-grows k _ _ (λ j _. let n = narrower call j in mul-le-mul (mul-le-mul (n .number) (n .row)) (n .column))
+  fewer-slots file k = total-grows k _ _ (λ j _. let n = narrower file j in mul-le-mul (mul-le-mul (n .number) (n .row)) (n .column))
 
 -- ---- no file has a kind past the kinds' numbers
 abbrev allBelow : Table → Bool
@@ -314,15 +314,15 @@ unread-from (e ∷ t) k l h =
     let p = and-true (ltb (e .0) kindNumbers) (allBelow t) h in
     rw (ne-eqb k (e .0) (λ q. absurd (omega (arith, ltb-true (e .0) kindNumbers (p .0))))) (unread-from t k l (p .1))
 
-pub kind-below : (call : Shape) (z : Sizes) (k n r c : ℕ) → Inside (kindAt (kindsOf call z) k) n r c → k < kindNumbers
+pub kind-below : (file : Shape) (z : Sizes) (k n r c : ℕ) → Inside (kindAt (kindsOf file z) k) n r c → k < kindNumbers
 unfolding width kenwardRogerKinds satterthwaiteKinds archiveKinds testKinds
-kind-below call z k n r c w = go (decLt k kindNumbers)
+kind-below file z k n r c w = go (decLt k kindNumbers)
   where
     go : Dec (k < kindNumbers) → k < kindNumbers
     go (yes l) = l
     go (no l) =
         let h : kindNumbers ≤ k = omega arith in
-        let e = each-file (λ T. kindAt (T z) k ≡ unread) (unread-from (kenwardRogerKinds z) k h refl) (unread-from (satterthwaiteKinds z) k h refl) (unread-from (archiveKinds z) k h refl) (unread-from (testKinds z) k h refl) call in
+        let e = each-file (λ T. kindAt (T z) k ≡ unread) (unread-from (kenwardRogerKinds z) k h refl) (unread-from (satterthwaiteKinds z) k h refl) (unread-from (archiveKinds z) k h refl) (unread-from (testKinds z) k h refl) file in
         let f = ap (λ (y : Kind). width (y .row)) e in
         let g = w .row in
         absurd (omega arith)

@@ -14,10 +14,10 @@ use Rattle.records_limits.proofs.any_bad.Statement.{statement}
 use Rattle.records_limits.proofs.any_bad.Tie as tie
 
 abbrev Inv-loop : tie.InvT-loop
-Inv-loop call limit s n last₀ k₀ i₀ last k i = (n ≡ count s) × (i ≤ n) × (k ≡ kindAt (kindsOf call limit) last) × (any i (badRecord (kindsOf call limit) s) ≡ false)
+Inv-loop file limit s n last₀ k₀ i₀ last k i = (n ≡ count s) × (i ≤ n) × (k ≡ kindAt (kindsOf file limit) last) × (any i (badRecord (kindsOf file limit) s) ≡ false)
 
 abbrev μ-loop : tie.MeasureT-loop
-μ-loop call limit s n last₀ k₀ i₀ last k i = n - i
+μ-loop file limit s n last₀ k₀ i₀ last k i = n - i
 
 kind-at-requires : tie.Need-kind-at-requires Inv-loop μ-loop
 kind-at-requires c κs = tt
@@ -34,7 +34,7 @@ kind-at-requires-2 c κs = tt
 
 -- what the loop keeps is what the table says of record i's kind
 known-kind : (c : tie.Joined1 Inv-loop μ-loop)
-    → let a = c .before .before .before .before .before .before .args in Known (kindsOf (a .call) (a .limit)) (kindOf (now (a .s)) (c .before .before .before .loop .i)) (c .if1 .last) (c .if1 .k)
+    → let a = c .before .before .before .before .before .before .args in Known (kindsOf (a .file) (a .limit)) (kindOf (now (a .s)) (c .before .before .before .loop .i)) (c .if1 .last) (c .if1 .k)
 known-kind c =
     ⊎-elim (λ w. asked _ _ _ _ _ _ (c .before .kind-of .ensures) (w .1 .ensures) (w .2) (w .3))
     (λ w. same-kind _ _ _ _ _ _ _ (c .before .kind-of .ensures) (w .0 .left) (c .before .before .before .loop .inv .2) (w .1) (w .2)) (c .if1 .came)

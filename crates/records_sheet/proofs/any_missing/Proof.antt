@@ -14,10 +14,10 @@ use Rattle.records_sheet.proofs.any_missing.Lts as lts
 use Rattle.records_sheet.proofs.missing_in.Reads as missing-in-reads
 
 abbrev Inv-loop : tie.InvT-loop
-Inv-loop call z firsts flags k₀ k = (k ≤ 33) × (any k (missingIn (kindsOf call z) flags) ≡ false)
+Inv-loop file z firsts flags k₀ k = (k ≤ 33) × (any k (missingIn (kindsOf file z) flags) ≡ false)
 
 abbrev μ-loop : tie.MeasureT-loop
-μ-loop call z firsts flags k₀ k = 33 - k
+μ-loop file z firsts flags k₀ k = 33 - k
 
 -- src/lib.rt:146:5
 loop-holds : tie.Need-loop-holds Inv-loop μ-loop

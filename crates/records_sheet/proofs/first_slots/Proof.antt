@@ -16,15 +16,15 @@ use Rattle.records_kinds.proofs.kind_at.Reads as kind-at-reads
 use Rattle.records_sheet.proofs.slots_of.Reads as slots-of-reads
 
 abbrev Inv-loop : tie.InvT-loop
-Inv-loop call z firsts₀ total₀ k₀ firsts total k = (k ≤ 33) × (total ≡ firstSlot (kindsOf call z) k) × (firsts ≡ row 0 34 (k + 1) (firstSlot (kindsOf call z)))
+Inv-loop file z firsts₀ total₀ k₀ firsts total k = (k ≤ 33) × (total ≡ firstSlot (kindsOf file z) k) × (firsts ≡ row 0 34 (k + 1) (firstSlot (kindsOf file z)))
 
 abbrev μ-loop : tie.MeasureT-loop
-μ-loop call z firsts₀ total₀ k₀ firsts total k = 33 - k
+μ-loop file z firsts₀ total₀ k₀ firsts total k = 33 - k
 
 -- src/lib.rt:43:5
 loop-holds : tie.Need-loop-holds Inv-loop μ-loop
 unfolding firstSlot total
-loop-holds c = (omega arith, refl, firsts-start (kindsOf (c .args .call) (c .args .z)))
+loop-holds c = (omega arith, refl, firsts-start (kindsOf (c .args .file) (c .args .z)))
 
 -- src/lib.rt:44:34
 kind-at-requires : tie.Need-kind-at-requires Inv-loop μ-loop
@@ -34,7 +34,7 @@ kind-at-requires c κs = tt
 slots-of-requires : tie.Need-slots-of-requires Inv-loop μ-loop
 slots-of-requires c κs =
     let d = c .before .before .before in
-    let w = widths (d .args .z) (d .pre) (d .args .call) (c .before .before .loop .k) in
+    let w = widths (d .args .z) (d .pre) (d .args .file) (c .before .before .loop .k) in
     let e = c .kind-at .ensures in
     (rw e (w .number), rw e (w .row), rw e (w .column))
 
@@ -42,7 +42,7 @@ slots-of-requires c κs =
 add-total : tie.Need-add-total Inv-loop μ-loop
 add-total c =
     let d = c .before .before .before .before in
-    let b = all-bound (d .args .call) (d .args .z) (d .pre) (c .before .before .before .loop .k) (omega arith) in
+    let b = all-bound (d .args .file) (d .args .z) (d .pre) (c .before .before .before .loop .k) (omega arith) in
     let e = c .before .before .before .loop .inv .1 in
     let l = c .slots-of .ensures .1 in
     omega arith
@@ -71,7 +71,7 @@ loop-less c = omega arith
 loop-again : tie.Need-loop-again Inv-loop μ-loop
 loop-again c =
     let d = c .before .before .before .before in
-    let t = kindsOf (d .args .call) (d .args .z) in
+    let t = kindsOf (d .args .file) (d .args .z) in
     let k = c .before .before .before .loop .k in
     let e = first-more t k _ _ (c .before .before .before .loop .inv .1) (c .slots-of .ensures .0 ∙ ap slots (c .before .kind-at .ensures)) in
     (omega arith, e, firsts-more t k _ _ (c .before .before .before .loop .inv .2) e)
@@ -82,7 +82,7 @@ unfolding firstSlots
 returns c =
     let d = c .before .before in
     let e : c .before .loop .k + 1 ≡ 34 = omega arith in
-    c .before .loop .inv .2 ∙ ap (λ (m : ℕ). row 0 34 m (firstSlot (kindsOf (d .args .call) (d .args .z)))) e
+    c .before .loop .inv .2 ∙ ap (λ (m : ℕ). row 0 34 m (firstSlot (kindsOf (d .args .file) (d .args .z)))) e
 
 pub first-slots-spec : {M : Type 1} → statement M
 first-slots-spec =

@@ -46,7 +46,7 @@ slots-of-requires : tie.Need-slots-of-requires
 slots-of-requires c κs =
     let d = c .before .before in
     let a = d .before .before .args in
-    let w = widths (a .z) (d .before .before .pre .0) (a .call) (a .k) in
+    let w = widths (a .z) (d .before .before .pre .0) (a .file) (a .k) in
     let e = d .kind-at .ensures in
     (rw e (w .number), rw e (w .row), rw e (w .column))
 
@@ -56,7 +56,7 @@ gap-in-requires c κs =
     let d = c .before .before .before in
     let a = d .before .before .args in
     let p = d .before .before .pre in
-    let t = kindsOf (a .call) (a .z) in
+    let t = kindsOf (a .file) (a .z) in
     let e = ap (λ (l : List ℕ). getD l (a .k) 0) (p .1) ∙ firsts-at t (a .k) (omega arith) in
     let q = c .slots-of .ensures .0 ∙ ap slots (d .kind-at .ensures) in
     let m = ends-within t (a .k) (p .3) in
@@ -77,7 +77,7 @@ returns-2 c =
     let d = c .before .before .before .before in
     let a = d .before .before .args in
     let p = d .before .before .pre in
-    let t = kindsOf (a .call) (a .z) in
+    let t = kindsOf (a .file) (a .z) in
     let e = ap (λ (l : List ℕ). getD l (a .k) 0) (p .1) ∙ firsts-at t (a .k) (omega arith) in
     let q = c .before .slots-of .ensures .0 ∙ ap slots (d .kind-at .ensures) in
     let f = ap (λ (y : Kind). y .sparse) (d .kind-at .ensures) in
