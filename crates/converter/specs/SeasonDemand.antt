@@ -8,7 +8,7 @@ use Rattle.arithmetic_cutoffs.specs.declared.Cutoffs.{Cutoffs}
 use Rattle.algebra.specs.Table.{row}
 use Rattle.records.specs.readers.Series.{contrastRows}
 use Rattle.records.specs.calls.KenwardRogerCall.{number}
-use Rattle.records.specs.text.Season.{closes, seriesTo, seriesIn, leftOver, worstLine}
+use Rattle.records.specs.text.Season.{closes, seriesTo, seriesIn, leftOver, worstLine, latestCount}
 use Rattle.records.specs.promises.SeasonPrints.{seriesAt}
 use Rattle.converter.specs.Converted.{Change, kenwardRogerChange, newByte, converted}
 use Rattle.converter.specs.SeriesDemand.{AllInside, SameVerdicts}
@@ -52,5 +52,5 @@ pub record SeriesNear (c : Cutoffs) (k : ℕ → ℤ) (m : ℕ → ℕ → ℤ) 
 -- and the `worst` line of series j stays, where this holds of all of the latest twenty, whatever the series before them and after series j are
 abbrev pub SeasonWorst : Type 0
 SeasonWorst =
-    (c : Cutoffs) (k : ℕ → ℤ) (m : ℕ → ℕ → ℤ) (s : List ℕ) (j : ℕ) → j < length (seriesIn s) → ((i : ℕ) → i ≤ j → j < i + 20 → SeriesNear c k m s i)
+    (c : Cutoffs) (k : ℕ → ℤ) (m : ℕ → ℕ → ℤ) (s : List ℕ) (j : ℕ) → j < length (seriesIn s) → ((i : ℕ) → i ≤ j → j < i + latestCount → SeriesNear c k m s i)
     → worstLine c (take (j + 1) (seriesIn (convertedSeason (seasonChange k m) s))) ≡ worstLine c (take (j + 1) (seriesIn s))

@@ -12,7 +12,7 @@ use Rattle.tests.specs.Answer.{noEntry}
 use Rattle.tests.specs.Verdict.{Verdict, verdict}
 use Rattle.records.specs.calls.KenwardRogerCall.{entries}
 use Rattle.records.specs.text.Text.{codes, numberText}
-use Rattle.records.specs.text.Season.{seriesIn, worst, contrastF}
+use Rattle.records.specs.text.Season.{seriesIn, worst, contrastF, latestCount}
 use Rattle.records.specs.promises.SeasonPrints.{seriesAt, latestAt}
 use Rattle.records.proofs.text.SeasonTexts.{worst-latest}
 use Rattle.converter.specs.SeriesDemand.{SameVerdicts}
@@ -43,33 +43,33 @@ module _ (s : List ℕ) (j : ℕ) (h : j < length (seriesIn s)) where
   length-upTo : length upTo ≡ j + 1
   length-upTo = length-take-le (j + 1) (seriesIn s) (omega arith)
 
-  length-latest : length (latestAt s j) ≡ j + 1 - (j + 1 - 20)
-  length-latest = let e = length-upTo in length-drop (length upTo - 20) upTo ∙ omega arith
+  length-latest : length (latestAt s j) ≡ j + 1 - (j + 1 - latestCount)
+  length-latest = let e = length-upTo in length-drop (length upTo - latestCount) upTo ∙ omega arith
 
-  latest-at : (i : ℕ) → i < j + 1 - (j + 1 - 20) → getD (latestAt s j) i [] ≡ seriesAt s (j + 1 - 20 + i)
+  latest-at : (i : ℕ) → i < j + 1 - (j + 1 - latestCount) → getD (latestAt s j) i [] ≡ seriesAt s (j + 1 - latestCount + i)
   latest-at i l =
-      getD-drop (length upTo - 20) upTo i []
-      ∙ ap (λ (n : ℕ). getD upTo (n - 20 + i) []) length-upTo
-      ∙ getD-take (j + 1) (seriesIn s) (j + 1 - 20 + i) [] (omega arith)
+      getD-drop (length upTo - latestCount) upTo i []
+      ∙ ap (λ (n : ℕ). getD upTo (n - latestCount + i) []) length-upTo
+      ∙ getD-take (j + 1) (seriesIn s) (j + 1 - latestCount + i) [] (omega arith)
 
 -- two seasons with as many series have the same F's of the latest twenty where each series' F is the same
-latest-same : (c : Cutoffs) (s s' : List ℕ) (j : ℕ) → j < length (seriesIn s) → length (seriesIn s') ≡ length (seriesIn s) → ((i : ℕ) → i ≤ j → j < i + 20 → contrastF c (seriesAt s' i) ≡ contrastF c (seriesAt s i))
+latest-same : (c : Cutoffs) (s s' : List ℕ) (j : ℕ) → j < length (seriesIn s) → length (seriesIn s') ≡ length (seriesIn s) → ((i : ℕ) → i ≤ j → j < i + latestCount → contrastF c (seriesAt s' i) ≡ contrastF c (seriesAt s i))
     → map (contrastF c) (latestAt s' j) ≡ map (contrastF c) (latestAt s j)
 latest-same c s s' j h e same =
     ext-getD (contrastF c []) (map (contrastF c) (latestAt s' j)) (map (contrastF c) (latestAt s j)) (wide' ∙ sym wide) (λ i l.
-    let k : i < j + 1 - (j + 1 - 20) = omega (arith, wide') in
+    let k : i < j + 1 - (j + 1 - latestCount) = omega (arith, wide') in
     List·getD-map (contrastF c) (latestAt s' j) i []
     ∙ ap (contrastF c) (latest-at s' j h' i k)
-    ∙ same (j + 1 - 20 + i) (omega arith) (omega arith)
+    ∙ same (j + 1 - latestCount + i) (omega arith) (omega arith)
     ∙ sym (List·getD-map (contrastF c) (latestAt s j) i [] ∙ ap (contrastF c) (latest-at s j h i k)))
   where
     h' : j < length (seriesIn s')
     h' = omega arith
 
-    wide : length (map (contrastF c) (latestAt s j)) ≡ j + 1 - (j + 1 - 20)
+    wide : length (map (contrastF c) (latestAt s j)) ≡ j + 1 - (j + 1 - latestCount)
     wide = length-map (latestAt s j) (contrastF c) ∙ length-latest s j h
 
-    wide' : length (map (contrastF c) (latestAt s' j)) ≡ j + 1 - (j + 1 - 20)
+    wide' : length (map (contrastF c) (latestAt s' j)) ≡ j + 1 - (j + 1 - latestCount)
     wide' = length-map (latestAt s' j) (contrastF c) ∙ length-latest s' j h'
 
 -- Any cutoffs, every season's file and each of its series for which the latest twenty are all accepted with all entries inside, each with a k and m r of its own from -32 to 32: the `worst` line of the series is the same in

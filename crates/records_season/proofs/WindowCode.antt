@@ -16,7 +16,7 @@ use Rattle.algebra.specs.Fold.{span}
 use Rattle.algebra.proofs.FoldLaws.{fold-next, length-span, span-at, span-other}
 use Rattle.tests.specs.declared.Number.{Number}
 use Rattle.tests.specs.declared.Number.the-variants.{Is, None}
-use Rattle.records.specs.text.Season.{worse, worstAfter, worst}
+use Rattle.records.specs.text.Season.{worse, worstAfter, worst, latestCount}
 use Rattle.records_season.specs.joints.SeasonCame.{givenNumber, windowOf, withLatest}
 
 pub window-length : (vs : List Float) (gs : List Bool) → length vs ≡ length gs → length (windowOf vs gs) ≡ length vs
@@ -66,16 +66,16 @@ pub moved-more : {A : Type 0} (v w : List A) (d : A) (i : ℕ) → w ≡ span 0 
 moved-more v w d i e = fold-next 0 i (λ k ys. set ys k (getD v (k + 1) d)) v w (set w i (getD w (i + 1) d)) (omega arith) e (ap (set w i) (ap (λ (l : List _). getD l (i + 1) d) e ∙ span-other 0 i (λ k. getD v (k + 1) d) v (i + 1) d (inr (omega arith))))
 
 -- each of nineteen moved by one, and the last put: what the code leaves of twenty
-pub moved-all : {A : Type 0} (v : List A) (x d : A) → length v ≡ 20 → set (span 0 19 (λ k. getD v (k + 1) d) v) 19 x ≡ withLatest x v
+pub moved-all : {A : Type 0} (v : List A) (x d : A) → length v ≡ latestCount → set (span 0 19 (λ k. getD v (k + 1) d) v) 19 x ≡ withLatest x v
 moved-all v x d h =
     let m = span 0 19 (λ k. getD v (k + 1) d) v in
-    let n : length m ≡ 20 = length-span 0 19 (λ k. getD v (k + 1) d) v ∙ h in
+    let n : length m ≡ latestCount = length-span 0 19 (λ k. getD v (k + 1) d) v ∙ h in
     let f : length (drop 1 v) ≡ 19 = length-drop 1 v ∙ omega arith in
-    let e : length (drop 1 v ++ (x ∷ [])) ≡ 20 = length-append (drop 1 v) (x ∷ []) ∙ omega arith in
-    let l : length (set m 19 x) ≡ 20 = length-set m 19 x ∙ n in
+    let e : length (drop 1 v ++ (x ∷ [])) ≡ latestCount = length-append (drop 1 v) (x ∷ []) ∙ omega arith in
+    let l : length (set m 19 x) ≡ latestCount = length-set m 19 x ∙ n in
     ext-getD d (set m 19 x) (withLatest x v) (l ∙ sym e) (λ i k. each v x d h f n i (omega arith) (decLt i 19))
   where
-    each : {A : Type 0} (v : List A) (x d : A) → length v ≡ 20 → length (drop 1 v) ≡ 19 → length (span 0 19 (λ k. getD v (k + 1) d) v) ≡ 20 → (i : ℕ) → i < 20 → Dec (i < 19)
+    each : {A : Type 0} (v : List A) (x d : A) → length v ≡ latestCount → length (drop 1 v) ≡ 19 → length (span 0 19 (λ k. getD v (k + 1) d) v) ≡ latestCount → (i : ℕ) → i < latestCount → Dec (i < 19)
         → getD (set (span 0 19 (λ k. getD v (k + 1) d) v) 19 x) i d ≡ getD (withLatest x v) i d
     each v x d h f n i l (yes k) =
         let o : 1 + i ≡ i + 1 = omega arith in

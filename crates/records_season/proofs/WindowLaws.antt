@@ -8,11 +8,11 @@ use lib.ListN.{length, drop, replicate, length-append, length-replicate, replica
 use lib.Seq.{drop-drop, drop-at, drop-append-le, drop-append-add}
 use Rattle.tests.specs.declared.Number.{Number}
 use Rattle.tests.specs.declared.Number.the-variants.{None}
-use Rattle.records.specs.text.Season.{worse, worstAfter, worst, latest}
+use Rattle.records.specs.text.Season.{worse, worstAfter, worst, latest, latestCount}
 use Rattle.records_season.specs.joints.SeasonCame.{lastTwenty, withLatest}
 
 -- no series has been
-pub window-start : replicate 20 None ≡ lastTwenty []
+pub window-start : replicate latestCount None ≡ lastTwenty []
 unfolding lastTwenty
 window-start = refl
 
@@ -20,10 +20,10 @@ window-start = refl
 pub window-more : (fs : List Number) (f : Number) → withLatest f (lastTwenty fs) ≡ lastTwenty (fs ++ (f ∷ []))
 unfolding lastTwenty
 window-more fs f =
-    let all = replicate 20 None ++ fs in
-    let l : length all ≡ 20 + length fs = length-append (replicate 20 None) fs in
+    let all = replicate latestCount None ++ fs in
+    let l : length all ≡ latestCount + length fs = length-append (replicate latestCount None) fs in
     let e : length (fs ++ (f ∷ [])) ≡ length fs + 1 = length-append fs (f ∷ []) in
-    rw (e, ← append-assoc (replicate 20 None) fs (f ∷ []), drop-append-le (length fs + 1) all (f ∷ []) (omega arith), drop-drop 1 (length fs) all)
+    rw (e, ← append-assoc (replicate latestCount None) fs (f ∷ []), drop-append-le (length fs + 1) all (f ∷ []) (omega arith), drop-drop 1 (length fs) all)
 
 -- F's that are not given do not count
 worst-none : (n : ℕ) (fs : List Number) → worst (replicate n None ++ fs) ≡ worst fs
@@ -37,17 +37,17 @@ drop-same m n = ap (drop m) (sym (replicate-append-replicate m n None)) ∙ drop
 -- THE WORST OF THEM
 pub window-worst : (fs : List Number) → worst (lastTwenty fs) ≡ worst (latest fs)
 unfolding lastTwenty
-window-worst fs = go (decLe 20 (length fs))
+window-worst fs = go (decLe latestCount (length fs))
   where
-    go : Dec (20 ≤ length fs) → worst (drop (length fs) (replicate 20 None ++ fs)) ≡ worst (latest fs)
+    go : Dec (latestCount ≤ length fs) → worst (drop (length fs) (replicate latestCount None ++ fs)) ≡ worst (latest fs)
     go (yes h) =
-        let e : length fs ≡ 20 + (length fs - 20) = omega arith in
-        ap worst (ap (λ (k : ℕ). drop k (replicate 20 None ++ fs)) e ∙ drop-append-add (replicate 20 None) fs (length fs - 20))
+        let e : length fs ≡ latestCount + (length fs - latestCount) = omega arith in
+        ap worst (ap (λ (k : ℕ). drop k (replicate latestCount None ++ fs)) e ∙ drop-append-add (replicate latestCount None) fs (length fs - latestCount))
     go (no h) =
-        let e : 20 ≡ length fs + (20 - length fs) = omega arith in
-        let z : length fs - 20 ≡ 0 = omega arith in
-        let few : drop (length fs) (replicate 20 None) ≡ replicate (20 - length fs) None = ap (λ (k : ℕ). drop (length fs) (replicate k None)) e ∙ drop-same (length fs) (20 - length fs) in
-        ap worst (drop-append-le (length fs) (replicate 20 None) fs (omega arith) ∙ ap (λ (l : List Number). l ++ fs) few) ∙ worst-none (20 - length fs) fs ∙ sym (ap (λ (k : ℕ). worst (drop k fs)) z)
+        let e : latestCount ≡ length fs + (latestCount - length fs) = omega arith in
+        let z : length fs - latestCount ≡ 0 = omega arith in
+        let few : drop (length fs) (replicate latestCount None) ≡ replicate (latestCount - length fs) None = ap (λ (k : ℕ). drop (length fs) (replicate k None)) e ∙ drop-same (length fs) (latestCount - length fs) in
+        ap worst (drop-append-le (length fs) (replicate latestCount None) fs (omega arith) ∙ ap (λ (l : List Number). l ++ fs) few) ∙ worst-none (latestCount - length fs) fs ∙ sym (ap (λ (k : ℕ). worst (drop k fs)) z)
 
 -- ---- F's of series and of one more
 pub map-more : {A : Type 0} (f : A → Number) (l : List A) (x : A) → map f (l ++ (x ∷ [])) ≡ map f l ++ (f x ∷ [])

@@ -17,7 +17,7 @@ use Rattle.records.specs.format.Scan.{last}
 use Rattle.records.specs.readers.Series.{contrastRows, beta, betaH, contrast}
 use Rattle.records.specs.calls.KenwardRogerCall.{scaled, run, number, entries}
 use Rattle.records.specs.text.Text.{numberText, codes}
-use Rattle.records.specs.text.Season.{begins, seriesTo, seriesIn, leftOver, worst, latest, seriesLines, contrastF, fsOf, worstLine, closedText, textsTo, closedTexts, leftText, seasonText}
+use Rattle.records.specs.text.Season.{begins, seriesTo, seriesIn, leftOver, worst, latest, seriesLines, contrastF, fsOf, worstLine, closedText, textsTo, closedTexts, leftText, seasonText, latestCount}
 use Rattle.records.specs.promises.SeasonPrints.{seasonBytes, Unclosed, AllSeries, seriesAt, latestAt, worstAt, PrintsFor, SeasonPrints}
 use Rattle.records.proofs.text.WorstLaws.{worst-of}
 use Rattle.records.proofs.text.SeasonTexts.{texts-front, worst-latest, printed-grows}
@@ -61,9 +61,9 @@ module _ (c : Cutoffs) where
   latest-last : (ts : List (List ℕ)) (i : ℕ) → i < length ts → getD (latest (take (i + 1) ts)) (length (latest (take (i + 1) ts)) - 1) [] ≡ getD ts i []
   latest-last ts i h =
       let l : length (take (i + 1) ts) ≡ i + 1 = length-take-le (i + 1) ts (omega arith) in
-      let d = length-drop (length (take (i + 1) ts) - 20) (take (i + 1) ts) in
-      let e : length (take (i + 1) ts) - 20 + (length (drop (length (take (i + 1) ts) - 20) (take (i + 1) ts)) - 1) ≡ i = omega arith in
-      getD-drop (length (take (i + 1) ts) - 20) (take (i + 1) ts) (length (drop (length (take (i + 1) ts) - 20) (take (i + 1) ts)) - 1) [] ∙ ap (λ (k : ℕ). getD (take (i + 1) ts) k []) e ∙ getD-take (i + 1) ts i [] (omega arith)
+      let d = length-drop (length (take (i + 1) ts) - latestCount) (take (i + 1) ts) in
+      let e : length (take (i + 1) ts) - latestCount + (length (drop (length (take (i + 1) ts) - latestCount) (take (i + 1) ts)) - 1) ≡ i = omega arith in
+      getD-drop (length (take (i + 1) ts) - latestCount) (take (i + 1) ts) (length (drop (length (take (i + 1) ts) - latestCount) (take (i + 1) ts)) - 1) [] ∙ ap (λ (k : ℕ). getD (take (i + 1) ts) k []) e ∙ getD-take (i + 1) ts i [] (omega arith)
 
   worst-same : (s s' : List ℕ) (i j : ℕ) → latestAt s i ≡ latestAt s' j → worstLine c (take (i + 1) (seriesIn s)) ≡ worstLine c (take (j + 1) (seriesIn s'))
   worst-same s s' i j q =

@@ -10,7 +10,7 @@ use Rattle.arithmetic_cutoffs.specs.declared.Cutoffs.{Cutoffs}
 use Rattle.tests.specs.declared.Number.{Number}
 use Rattle.records.specs.format.File.{count}
 use Rattle.records.specs.text.Text.{codes, numberText}
-use Rattle.records.specs.text.Season.{closes, seriesBefore, seriesTo, seriesIn, worst, latest, contrastF, fsOf, worstLine, closedText, textsTo, closedTexts, printed, added}
+use Rattle.records.specs.text.Season.{closes, seriesBefore, seriesTo, seriesIn, worst, latest, contrastF, fsOf, worstLine, closedText, textsTo, closedTexts, printed, added, latestCount}
 use Rattle.records.proofs.text.SeasonLaws.{seriesTo-before}
 
 -- ---- a list that another begins with
@@ -73,7 +73,7 @@ module _ (c : Cutoffs) where
 
   -- the latest twenty's are the latest twenty
   latest-fs : (ts : List (List ℕ)) → latest (fsOf c ts) ≡ map (contrastF c) (latest ts)
-  latest-fs ts = ap latest (fs-are ts) ∙ ap (λ (k : ℕ). drop (k - 20) (map (contrastF c) ts)) (length-map ts (contrastF c)) ∙ sym (map-drop (contrastF c) (length ts - 20) ts)
+  latest-fs ts = ap latest (fs-are ts) ∙ ap (λ (k : ℕ). drop (k - latestCount) (map (contrastF c) ts)) (length-map ts (contrastF c)) ∙ sym (map-drop (contrastF c) (length ts - latestCount) ts)
 
   -- so the `worst` line turns on the latest twenty alone
   pub worst-latest : (ts : List (List ℕ)) → worstLine c ts ≡ codes "worst " ++ (numberText (worst (map (contrastF c) (latest ts))) ++ codes "\n")

@@ -7,17 +7,17 @@ use lib.Seq.{take-all}
 use lib.Ieee.{nan}
 use mathlib.Core.Bool.{false}
 use denote.Ref.{now}
-use Rattle.records.specs.text.Season.{worstAfter, worst}
+use Rattle.records.specs.text.Season.{worstAfter, worst, latestCount}
 use Rattle.records_season.specs.joints.SeasonCame.{windowOf}
 use Rattle.records_season.proofs.WindowCode.{window-length, worst-more}
 use Rattle.records_season.proofs.worst_of.Statement.{statement}
 use Rattle.records_season.proofs.worst_of.Tie as tie
 
 abbrev Inv-loop : tie.InvT-loop
-Inv-loop values given w₀ i₀ w i = (i ≤ 20) × (w ≡ worst (take i (windowOf values given)))
+Inv-loop values given w₀ i₀ w i = (i ≤ latestCount) × (w ≡ worst (take i (windowOf values given)))
 
 abbrev μ-loop : tie.MeasureT-loop
-μ-loop values given w₀ i₀ w i = 20 - i
+μ-loop values given w₀ i₀ w i = latestCount - i
 
 -- ---- the stages of the code, each from the next that is named here: where a line is put in, one of these moves
 abbrev start : tie.At-loop Inv-loop μ-loop → tie.Start Inv-loop μ-loop
