@@ -230,16 +230,3 @@ packed-once N =
       below = packed-below N;
       once = one-pair N;
     }
-
--- ---- document 01's examples (a), in both orders, and (b)
-example-a : packed 3 1 2 ≡ 4
-unfolding packed
-example-a = refl
-
-example-a-mirrored : packed 3 2 1 ≡ 4
-unfolding packed
-example-a-mirrored = refl
-
-example-b : packed 3 2 2 ≡ 5
-unfolding packed
-example-b = refl

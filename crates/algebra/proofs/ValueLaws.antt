@@ -15,9 +15,8 @@ use Rattle.arithmetic.proofs.MarkLaws.{add-value, sub-value, mul-value, div-val
 use Rattle.algebra.specs.Fold.{span}
 use Rattle.algebra.specs.Table.{row, blank, table}
 use Rattle.algebra.specs.Kind.{Arith, floats, marks, zeroOf}
-use Rattle.algebra.specs.Product.{at, sum, cell, product, transpose, sumCells, likeCells, trace, plusCells, minusCells, timesNumber, overNumber, identity}
-use Rattle.algebra.specs.Elimination.{Stopping, larger, pivotRow, swapRows, factor, lessBy, lessRow, cleared, eliminateColumn, eliminateTo, zeroPivot, columnOrStop, stopping, backSum, backCell, backTo, joined, refused, solution, inverse, inverseRefused}
-use Rattle.algebra.specs.Cholesky.{put, lessDot, belowDiagonal, choleskyColumn, choleskyTo, notPositive, choleskyRefused, lower}
+use Rattle.algebra.specs.Product.{at, sum, cell, product, transpose, sumCells, minusCells, timesNumber, overNumber, identity}
+use Rattle.algebra.specs.Elimination.{Stopping, larger, pivotRow, swapRows, factor, lessBy, lessRow, cleared, eliminateColumn, eliminateTo, zeroPivot, columnOrStop, stopping, backSum, backCell, backTo, joined, refused, solution}
 use Rattle.algebra.specs.Jacobi.{State, two, ratio, tangent, cosine, sine, turnedFirst, turnedSecond, turnRow, turnColumns, rotatedCell, rotated, squared, bound, rotateTested, rotate, rowTo, sweepTo, sweepsTo, mirrored, jacobi}
 use Rattle.algebra.specs.Small.{sandwich, givenCells, values, allMarks}
 use Rattle.algebra.proofs.FoldLaws.{fold-both, fold-ext}
@@ -156,19 +155,6 @@ module _ {A B : Type 0} {R : A → B → Type 0} {N : Arith A} {M : Arith B} (k 
   sumCells-alike r c f g s =
       fold-both R 0 r _ _ (zeroOf N) (zeroOf M) (k .of plusZero) (λ i h l x y q. fold-both R 0 c _ _ x y q (λ j v u x′ y′ q′. k .plus q′ (s i j l u)))
 
-  pub likeCells-alike : (r c : ℕ) {a b : List (List A)} {a′ b′ : List (List B)} → Like a a′ → Like b b′ → R (likeCells N r c a b) (likeCells M r c a′ b′)
-  unfolding likeCells
-  likeCells-alike r c p q = sumCells-alike r c _ _ (λ i j h l. k .times (p .each i .each j) (q .each i .each j))
-
-  pub trace-alike : (n : ℕ) {a : List (List A)} {a′ : List (List B)} → Like a a′ → R (trace N n a) (trace M n a′)
-  unfolding trace
-  trace-alike n p = sum-alike n _ _ (λ i l. p .each i .each i)
-
-  pub plusCells-alike : (K C r c : ℕ) {a b : List (List A)} {a′ b′ : List (List B)} → Like a a′ → Like b b′
-      → Like (plusCells N K C r c a b) (plusCells M K C r c a′ b′)
-  unfolding plusCells
-  plusCells-alike K C r c p q = table-alike K C r c _ _ (λ i j h l. k .plus (p .each i .each j) (q .each i .each j))
-
   pub minusCells-alike : (K C r c : ℕ) {a b : List (List A)} {a′ b′ : List (List B)} → Like a a′ → Like b b′
       → Like (minusCells N K C r c a b) (minusCells M K C r c a′ b′)
   unfolding minusCells
@@ -273,12 +259,6 @@ module _ {A B : Type 0} {R : A → B → Type 0} {N : Arith A} {M : Arith B} (k 
   unfolding solution
   solution-alike K W C n cols p q = backTo-alike n K C n cols (eliminateTo-alike n n (n + cols) (joined-alike K W n cols p q))
 
-  pub inverse-alike : {a : List (List A)} {a′ : List (List B)} (K W C n : ℕ) → Like a a′ → Like (inverse N K W C n a) (inverse M K W C n a′)
-  inverse-alike K W C n p = solution-alike K W C n n p (identity-alike K C n)
-
-  pub inverseRefused-alike : {a : List (List A)} {a′ : List (List B)} (K W C n : ℕ) → Like a a′ → inverseRefused N K W C n a ≡ inverseRefused M K W C n a′
-  inverseRefused-alike K W C n p = refused-alike K W n n p (identity-alike K C n)
-
   -- ---- Jacobi
   pub ratio-alike : {a b c : A} {a′ b′ c′ : B} → R a a′ → R b b′ → R c c′ → R (ratio N a b c) (ratio M a′ b′ c′)
   unfolding ratio
@@ -380,42 +360,6 @@ module _ {A B : Type 0} {R : A → B → Type 0} {N : Arith A} {M : Arith B} (k 
   unfolding jacobi
   jacobi-alike x K C n r =
       sweepsTo-alike 30 x K C n (record { a = mirrored-alike K C n r; v = identity-alike K C n; count = refl; seen = k .of plusZero })
-
-  -- ---- Cholesky
-  pub put-alike : {m : List (List A)} {m′ : List (List B)} {x : A} {y : B} (i j : ℕ) → R x y → Like m m′ → Like (put N i j x m) (put M i j y m′)
-  unfolding put
-  put-alike i j e p = each-set i p (each-set j (p .each i) e)
-
-  pub lessDot-alike : {m : List (List A)} {m′ : List (List B)} (hi i j : ℕ) → Like m m′ → R (lessDot N hi m i j) (lessDot M hi m′ i j)
-  unfolding lessDot
-  lessDot-alike hi i j p = fold-both R 0 hi _ _ _ _ (p .each i .each j) (λ h v u x y e. k .minus e (k .times (p .each i .each h) (p .each j .each h)))
-
-  pub belowDiagonal-alike : {m : List (List A)} {m′ : List (List B)} {d : A} {d′ : B} (n j : ℕ) → R d d′ → Like m m′
-      → Like (belowDiagonal N n j d m) (belowDiagonal M n j d′ m′)
-  unfolding belowDiagonal
-  belowDiagonal-alike n j e p = fold-both Like (j + 1) n _ _ _ _ p (λ i h l x y q. put-alike i j (k .over (lessDot-alike j i j q) e) q)
-
-  pub choleskyColumn-alike : {m : List (List A)} {m′ : List (List B)} (n j : ℕ) → Like m m′ → Like (choleskyColumn N n j m) (choleskyColumn M n j m′)
-  unfolding choleskyColumn
-  choleskyColumn-alike n j p =
-      let e = k .root (lessDot-alike j j j p) in
-      belowDiagonal-alike n j e (put-alike j j e p)
-
-  pub choleskyTo-alike : {m : List (List A)} {m′ : List (List B)} (d n : ℕ) → Like m m′ → Like (choleskyTo N d n m) (choleskyTo M d n m′)
-  unfolding choleskyTo
-  choleskyTo-alike d n p = fold-both Like 0 d _ _ _ _ p (λ j h l x y q. choleskyColumn-alike n j q)
-
-  pub notPositive-alike : {m : List (List A)} {m′ : List (List B)} (j : ℕ) → Like m m′ → notPositive N j m ≡ notPositive M j m′
-  unfolding notPositive
-  notPositive-alike j p = rw (k .value (lessDot-alike j j j p))
-
-  pub choleskyRefused-alike : {m : List (List A)} {m′ : List (List B)} (d n : ℕ) → Like m m′ → choleskyRefused N d n m ≡ choleskyRefused M d n m′
-  unfolding choleskyRefused
-  choleskyRefused-alike d n p = fold-ext 0 d _ _ false (λ j h l z. rw (notPositive-alike j (choleskyTo-alike j n p)))
-
-  pub lower-alike : {m : List (List A)} {m′ : List (List B)} (K C n : ℕ) → Like m m′ → Like (lower N K C n m) (lower M K C n m′)
-  unfolding lower
-  lower-alike K C n p = table-alike K C n n _ _ (λ i j h l. cond-both R (ltb i j) (ltb i j) _ _ _ _ refl (k .of plusZero) (p .each i .each j))
 
   -- ---- small matrices
   pub sandwich-alike : {l m : List (List A)} {l′ m′ : List (List B)} (K C q p : ℕ) → Like l l′ → Like m m′ → Like (sandwich N K C q p l m) (sandwich M K C q p l′ m′)

@@ -12,3 +12,4 @@ pub mod CutoffLaws
 pub mod AcceptedArchive
 pub mod Examples
 pub mod CutoffExamples
+pub mod ArchiveExamples

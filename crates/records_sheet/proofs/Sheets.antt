@@ -143,21 +143,6 @@ module _ (file : Shape) (z : Sizes) (s : List ℕ) (sized : any (count s) (beyon
   any-missing-read = any-same kindNumbers (missingIn t (flagsAfter N t s (count s))) (missing t s) (λ k _. missing-read k)
 
 -- ---- sizes that a byte can name leave each kind small widths
-abbrev pub byteSizes : Sizes
-byteSizes = record { specimens = 256; coefficients = 256; columns = 256; blocks = 256; thetas = 256; contrasts = 256; parameters = 256; weighted = true; hypothesis = true }
-
-small-below : (z : Sizes) → Small z → Below z byteSizes
-small-below z h = record {
-  specimens = h .specimens;
-  coefficients = h .coefficients;
-  columns = h .columns;
-  blocks = h .blocks;
-  thetas = h .thetas;
-  contrasts = h .contrasts;
-  parameters = h .parameters;
-  weighted = λ _. refl;
-  hypothesis = λ _. refl;
-}
 
 -- sizes below the limits of a w that a byte can name are small
 pub below-small : (z : Sizes) (w : ℕ) → w ≤ 256 → Below z (limits w) → Small z

@@ -7,9 +7,9 @@ use native.Mathlib.Nat.{mul-le-mul}
 use native.Mathlib.Omega.{arith}
 use lib.Dec.{eqb, ltb}
 use lib.ListN.{length}
-use borrow.Author.Tests.{ne-eqb, ltb-true}
+use borrow.Author.Tests.{ne-eqb, eqb-true, eqb-false, ltb-true}
 use Rattle.algebra.specs.Reasons.{first}
-use Rattle.algebra.proofs.ReasonLaws.{Line}
+use Rattle.algebra.proofs.ReasonLaws.{Line, Iff}
 use Rattle.adjustment.specs.Adjusted.{adjustmentReasons}
 use Rattle.records.specs.format.Scan.{total}
 use Rattle.records.specs.format.Kinds.{kindAt, width, archiveKinds}
@@ -103,3 +103,19 @@ module _ (w : ℕ) (lab s lent : List ℕ) where
   pub archiving-number : (archivingRefusal w lab s lent ≡ 0 → ⊥) → archivingReturned w lab s lent < 128
   unfolding told
   archiving-number h = rw (ne-eqb (archivingRefusal w lab s lent) 0 h) refusal-below
+
+  -- so that a number below 128 is returned precisely where it refuses, and one from 128 on precisely where nothing does
+  pub archiving-refuses : (n : ℕ) → (n ≡ 0 → ⊥) → n < 128 → Iff (archivingReturned w lab s lent ≡ n) (archivingRefusal w lab s lent ≡ n)
+  unfolding told
+  archiving-refuses n z l = record { to = to (eqb (archivingRefusal w lab s lent) 0) refl; from = λ e. rw (e, ne-eqb n 0 z) }
+    where
+      to : (b : Bool) → eqb (archivingRefusal w lab s lent) 0 ≡ b → archivingReturned w lab s lent ≡ n → archivingRefusal w lab s lent ≡ n
+      to true q e = let a = archiving-length (eqb-true (archivingRefusal w lab s lent) 0 q) .0 in absurd (omega arith)
+      to false q e = rw q at e
+
+  pub archiving-accepts : Iff (128 ≤ archivingReturned w lab s lent) (archivingRefusal w lab s lent ≡ 0)
+  archiving-accepts = record { to = to (eqb (archivingRefusal w lab s lent) 0) refl; from = λ e. archiving-length e .0 }
+    where
+      to : (b : Bool) → eqb (archivingRefusal w lab s lent) 0 ≡ b → 128 ≤ archivingReturned w lab s lent → archivingRefusal w lab s lent ≡ 0
+      to true q h = eqb-true (archivingRefusal w lab s lent) 0 q
+      to false q h = let a = archiving-number (eqb-false (archivingRefusal w lab s lent) 0 q) in absurd (omega arith)

@@ -36,7 +36,7 @@ unfolding satterthwaiteReasons parameterReasons lengthReasons orderReasons formR
 satterthwaite-precisely lab s answer = call-precisely (testCall s) lab answer refl
 
 -- ---- 12: "a file whose neighbouring records don't rise, checked directly after the multiple-of-16 test of 2": precisely where the file's length m is a multiple of 16 and it falls
-file-twelve : (m : ℕ) (f : Bool) (rest : List Line) → lacks 12 rest ≡ true → Iff (first ((2, not (eqb (m % 16) 0)) ∷ ((12, f) ∷ rest)) ≡ 12) ((m % 16 ≡ 0) × (f ≡ true))
+pub file-twelve : (m : ℕ) (f : Bool) (rest : List Line) → lacks 12 rest ≡ true → Iff (first ((2, not (eqb (m % 16) 0)) ∷ ((12, f) ∷ rest)) ≡ 12) ((m % 16 ≡ 0) × (f ≡ true))
 unfolding first
 file-twelve m f rest h =
     let i = first-alone ((2, not (eqb (m % 16) 0)) ∷ []) rest 12 f (λ z. omega arith) refl refl h in

@@ -23,8 +23,8 @@ use Rattle.records.specs.format.Kinds.{holds, width, indexOf, valueHolds
 use Rattle.records.specs.format.File.{count, kindOf, rowOf, columnOf, paddingOf, bitsOf, outOf, badRecord, cellCount, cellRow, cellColumn, isCell, again, has, beyond, missing, notFinite, present, lengthReasons, formReasons}
 use Rattle.records.specs.format.Order.{matrixOf, thenBy, standsBefore, falls, orderReasons}
 use Rattle.records.specs.readers.Shortened.{torn, allTorn}
-use Rattle.records.specs.readers.Series.{specimens, sizes, kinds, cellValue, sigma2, blockOf, asSent, miscounted, badSize, badWeight, misfit, zeroContrast, blockReasons, sizeReasons, valueReasons, reasons, refusal}
-use Rattle.records.specs.promises.TornKeeps.{ofSpecimen, ofTorn, newRow, withoutTorn, columnLost}
+use Rattle.records.specs.readers.Series.{specimens, zColumns, sizes, kinds, cellValue, sigma2, blockOf, asSent, miscounted, badSize, badWeight, misfit, zeroContrast, blockReasons, sizeReasons, valueReasons, reasons, refusal}
+use Rattle.records.specs.promises.TornKeeps.{ofSpecimen, ofTorn, newRow, withoutTorn}
 use Rattle.records.proofs.format.ScanLaws.{or-false, or-true, any-hit, any-none, none-any, none-any-cells}
 use Rattle.records.proofs.format.Slots.{Inside, Within, within, cell-names, names-cell}
 use Rattle.records.proofs.readers.KeptLaws.{kept-rises}
@@ -32,7 +32,7 @@ use Rattle.records.proofs.readers.ShortLaws.{torn-is}
 use Rattle.records.proofs.readers.AcceptedSeries.{AcceptedSeries}
 use Rattle.records.proofs.promises.TakenFields.{taken-fields}
 use Rattle.records.proofs.promises.TakenOut.{hasSpecimens, specimen-rows, partAt, same-part, specimensLeft, sentSpecimen, sent-below, sent-stays, new-rises, recordsLeft, sentRecord, sentRow, count-taken, record-below, record-stays, specimen-row, unchanged-row, row-no-larger, specimen-row-below, isCell-taken, has-taken, specimen-taken, other-taken, block-taken}
-use Rattle.records.proofs.promises.TakenSizes.{withSpecimens, complete-has, some-left, specimens-taken, coefficients-taken, rows-taken, present-taken, zColumns-taken, sizes-taken}
+use Rattle.records.proofs.promises.TakenSizes.{withSpecimens, complete-has, some-left, specimens-taken, coefficients-taken, rows-taken, present-taken, sizes-taken}
 
 -- ---- the order of records
 -- "by .., then by ..": the first decides, or it is the same and the rest decides
@@ -295,12 +295,12 @@ module _ (w : ℕ) (s : List ℕ) (a : AcceptedSeries w s) where
           (λ r l. ap (λ (x : Float). lt x plusZero) (specimen-taken w s a 5 r 0 refl l) ∙ any-none (specimens s) (λ i. lt (cellValue s 5 i 0) plusZero) (sentSpecimen s r) (sent-below s r l) h)
       go false h = refl
 
-  -- ---- where no column of Z is lost
-  module _ (noneLost : any (count s) (columnLost s) ≡ false) where
+  -- ---- where there are as many columns of Z
+  module _ (asMany : zColumns (withoutTorn s) ≡ zColumns s) where
     -- the table at its sizes says the same of a kind, but for the rows of specimens, which are fewer
     kind-part : {A : Type 0} (part : Kind → A) (k : ℕ) → partAt part (kenwardRogerKinds (withSpecimens (specimensLeft s) (sizes s))) k ≡ partAt part (kinds s) k
         → part (kindAt (kinds (withoutTorn s)) k) ≡ part (kindAt (kinds s) k)
-    kind-part part k e = ap (λ (z : Sizes). part (kindAt (kenwardRogerKinds z) k)) (sizes-taken w s a noneLost) ∙ same-part part (kenwardRogerKinds (withSpecimens (specimensLeft s) (sizes s))) (kinds s) k e
+    kind-part part k e = ap (λ (z : Sizes). part (kindAt (kenwardRogerKinds z) k)) (sizes-taken w s a asMany) ∙ same-part part (kenwardRogerKinds (withSpecimens (specimensLeft s) (sizes s))) (kinds s) k e
 
     column-kind : (k : ℕ) → kindAt (kinds (withoutTorn s)) k .column ≡ kindAt (kinds s) k .column
     unfolding kenwardRogerKinds
@@ -322,7 +322,7 @@ module _ (w : ℕ) (s : List ℕ) (a : AcceptedSeries w s) where
         kind-part (λ (u : Kind). u .row) k (rw (y .0, y .1, x .1))
 
     specimen-row-kind : (k : ℕ) → ofSpecimen k ≡ true → kindAt (kinds (withoutTorn s)) k .row ≡ Index (cond (hasSpecimens (sizes s) k) (specimensLeft s) 0)
-    specimen-row-kind k e = ap (λ (z : Sizes). kindAt (kenwardRogerKinds z) k .row) (sizes-taken w s a noneLost) ∙ specimen-rows (withSpecimens (specimensLeft s) (sizes s)) k e
+    specimen-row-kind k e = ap (λ (z : Sizes). kindAt (kenwardRogerKinds z) k .row) (sizes-taken w s a asMany) ∙ specimen-rows (withSpecimens (specimensLeft s) (sizes s)) k e
 
     -- each record is within the sizes
     row-held : (j : ℕ) → j < recordsLeft s → holds (kindAt (kinds s) (kindOf s (sentRecord s j)) .row) (rowOf s (sentRecord s j)) ≡ true
@@ -386,7 +386,7 @@ module _ (w : ℕ) (s : List ℕ) (a : AcceptedSeries w s) where
     -- Z has the columns that the blocks want
     fits-taken : misfit (withoutTorn s) ≡ misfit s
     unfolding misfit ofSpecimen
-    fits-taken = rw (rows-taken s 3 refl, rows-taken s 4 refl, zColumns-taken w s a noneLost, blocks-taken)
+    fits-taken = rw (rows-taken s 3 refl, rows-taken s 4 refl, asMany, blocks-taken)
 
     -- THE FILE WITHOUT ITS TORN SPECIMENS IS ACCEPTED
     accepted-taken : AcceptedSeries w (withoutTorn s)

@@ -197,7 +197,7 @@ module _ (w : ℕ) (s : List ℕ) (a : AcceptedSeries w s) where
     unfolding columns
     zColumns-taken = let low = most-of-kind s 2 (columnOf s) (columns (withoutTorn s) 2) column-stays in let high = columns-few s 2 in omega arith
 
-    -- THE SIZES
-    pub sizes-taken : sizes (withoutTorn s) ≡ withSpecimens (specimensLeft s) (sizes s)
-    unfolding sizes ofSpecimen
-    sizes-taken = rw (specimens-taken, coefficients-taken, zColumns-taken, rows-taken s 3 refl, rows-taken s 4 refl, rows-taken s 9 refl, rows-taken s 10 refl, present-taken)
+  -- ---- THE SIZES, where there are as many columns of Z
+  pub sizes-taken : zColumns (withoutTorn s) ≡ zColumns s → sizes (withoutTorn s) ≡ withSpecimens (specimensLeft s) (sizes s)
+  unfolding sizes ofSpecimen
+  sizes-taken asMany = rw (specimens-taken, coefficients-taken, asMany, rows-taken s 3 refl, rows-taken s 4 refl, rows-taken s 9 refl, rows-taken s 10 refl, present-taken)

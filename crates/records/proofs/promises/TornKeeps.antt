@@ -25,7 +25,7 @@ use Rattle.records.specs.readers.CutoffTable.{cutoffsIn}
 use Rattle.records.specs.text.Text.{textOf}
 use Rattle.records.specs.calls.KenwardRogerCall.{adjusted, scaled, run, testReasons, allReasons, number, entries, seriesCall}
 use Rattle.records.specs.calls.ArchiveCall.{seriesArchive, seriesReasons, seriesRefusal, archivingCall, told, archivingReturned}
-use Rattle.records.specs.promises.TornKeeps.{designRun, designReasons, designCall, ofSpecimen, ofTorn, newRow, withoutTorn, columnLost, TornKeeps}
+use Rattle.records.specs.promises.TornKeeps.{designRun, designReasons, designCall, ofSpecimen, ofTorn, newRow, withoutTorn, TornKeeps}
 use Rattle.records.proofs.format.ScanLaws.{any-none, none-any}
 use Rattle.records.proofs.readers.KeptLaws.{kept-all}
 use Rattle.records.proofs.readers.ShortLaws.{row-ext, short-x, short-z, short-weights, none-torn}
@@ -48,7 +48,7 @@ unfolding number entries allReasons testReasons design designReasons
 short-alike w c s answer = record { stated = refl; besides = refl; number = rw (short-run c s); full = λ z. rw (short-run c s, z) }
 
 -- ---- the series of the file without its torn specimens is the shortened one
-module _ (w : ℕ) (s : List ℕ) (e : refusal w s ≡ 0) (noneLost : any (count s) (columnLost s) ≡ false) where
+module _ (w : ℕ) (s : List ℕ) (e : refusal w s ≡ 0) (asMany : zColumns (withoutTorn s) ≡ zColumns s) where
   abbrev a : AcceptedSeries w s
   a = accepted-series w s e
 
@@ -65,7 +65,7 @@ module _ (w : ℕ) (s : List ℕ) (e : refusal w s ≡ 0) (noneLost : any (count
 
   z-left : asSent (withoutTorn s) .z ≡ design s .z
   unfolding asSent ofSpecimen
-  z-left = rw (zColumns-taken w s a noneLost) (rows-left 2 (zColumns s) refl) ∙ sym (short-z s)
+  z-left = rw asMany (rows-left 2 (zColumns s) refl) ∙ sym (short-z s)
 
   weights-left : asSent (withoutTorn s) .weights ≡ design s .weights
   unfolding asSent ofSpecimen
@@ -127,7 +127,7 @@ module _ (w : ℕ) (s : List ℕ) (e : refusal w s ≡ 0) (noneLost : any (count
     run-taken = rw (coefficients-taken w s a, design-taken, phi-taken, sigma2-taken w s a, beta-taken, betaH-taken, rows-taken s 9 refl, contrast-taken)
 
     number-taken : number w c (withoutTorn s) ≡ number w c s
-    number-taken = number-is c (withoutTorn s) w ∙ rw (refusal-taken w s a noneLost, design-taken, phi-taken, sigma2-taken w s a, run-taken) (sym (number-is c s w ∙ rw e))
+    number-taken = number-is c (withoutTorn s) w ∙ rw (refusal-taken w s a asMany, design-taken, phi-taken, sigma2-taken w s a, run-taken) (sym (number-is c s w ∙ rw e))
 
     entries-taken : entries w c (withoutTorn s) ≡ entries w c s
     unfolding entries
@@ -144,7 +144,7 @@ module _ (w : ℕ) (s : List ℕ) (e : refusal w s ≡ 0) (noneLost : any (count
     series-refusal-taken : seriesRefusal w c (withoutTorn s) ≡ seriesRefusal w c s
     unfolding seriesRefusal seriesReasons refusal reasons lengthReasons orderReasons formReasons blockReasons sizeReasons valueReasons
     series-refusal-taken =
-        first-next (reasons w (withoutTorn s)) (adjustmentReasons c (design (withoutTorn s)) (phi (withoutTorn s)) (sigma2 (withoutTorn s))) refl (refusal-taken w s a noneLost)
+        first-next (reasons w (withoutTorn s)) (adjustmentReasons c (design (withoutTorn s)) (phi (withoutTorn s)) (sigma2 (withoutTorn s))) refl (refusal-taken w s a asMany)
         ∙ rw (design-taken, phi-taken, sigma2-taken w s a) (sym (first-next (reasons w s) (adjustmentReasons c (design s) (phi s) (sigma2 s)) refl e))
 
     -- what the calls return, and the lent bytes
@@ -181,9 +181,10 @@ torn-keeps =
       noneTorn = none-torn;
       shortNumber = λ w lab s answer. alike-returned (seriesCall w s) (designCall w (shortened (asSent s)) s) lab answer (short-alike w (cutoffsIn lab) s answer);
       shortBytes = λ w lab s answer. alike-written (seriesCall w s) (designCall w (shortened (asSent s)) s) lab answer (short-alike w (cutoffsIn lab) s answer);
-      takenNumber = λ w lab s answer e noneLost. alike-returned (seriesCall w (withoutTorn s)) (seriesCall w s) lab answer (taken-alike w s e noneLost (cutoffsIn lab) answer);
-      takenBytes = λ w lab s answer e noneLost. alike-written (seriesCall w (withoutTorn s)) (seriesCall w s) lab answer (taken-alike w s e noneLost (cutoffsIn lab) answer);
-      takenText = λ w c s e noneLost. text-taken w s e noneLost c;
-      takenArchive = λ w lab s lent e noneLost. (archiving-told w s e noneLost lab lent, alike-written (archivingCall w (withoutTorn s)) (archivingCall w s) lab lent (archiving-alike w s e noneLost (cutoffsIn lab) lent));
+      takenNumber = λ w lab s answer e asMany. alike-returned (seriesCall w (withoutTorn s)) (seriesCall w s) lab answer (taken-alike w s e asMany (cutoffsIn lab) answer);
+      takenBytes = λ w lab s answer e asMany. alike-written (seriesCall w (withoutTorn s)) (seriesCall w s) lab answer (taken-alike w s e asMany (cutoffsIn lab) answer);
+      takenText = λ w c s e asMany. text-taken w s e asMany c;
+      takenArchive = λ w lab s lent e asMany. (archiving-told w s e asMany lab lent, alike-written (archivingCall w (withoutTorn s)) (archivingCall w s) lab lent (archiving-alike w s e asMany (cutoffsIn lab) lent));
+      asMany = λ w s e noneLost. zColumns-taken w s (accepted-series w s e) noneLost;
       takenNone = λ w s e none. whole-file w s (accepted-series w s e) none;
     }

@@ -107,6 +107,13 @@ pub record InOrder : Type 0 where
   -- "directly after the multiple-of-16 test of 2 and before 2's other reasons": a falling file with a byte too many, and one with a bad kind
   pub afterLength : refusal 24 (with [] (recordOf 8 0 0 0 one ++ (0 ∷ []))) ≡ 2
   pub beforeForm : refusal 24 (with [] (recordOf 11 0 0 0 one ++ recordOf 9 0 0 0 one)) ≡ 12
+  -- "read from the bytes as they stand": row and column count where the kind does not use them, so that two sigma2's of other rows, and two β_H's of other columns, rise, and are 2 as unused fields
+  pub unusedRow : refusal 24 (recordOf 7 0 0 0 one ++ recordOf 7 1 0 0 one) ≡ 2
+  pub unusedRowFalls : refusal 24 (recordOf 7 1 0 0 one ++ recordOf 7 0 0 0 one) ≡ 12
+  pub unusedColumn : refusal 24 (with [] (recordOf 10 0 0 0 one ++ recordOf 10 0 1 0 one)) ≡ 2
+  -- byte 3 and the value do not count: neighbours that differ in them alone are equal
+  pub byteThree : refusal 24 (with [] (9 ∷ 0 ∷ 0 ∷ 1 ∷ (bytesOf 4 0 ++ bytesOf 8 one))) ≡ 12
+  pub value : refusal 24 (with [] (recordOf 9 0 0 0 infinity)) ≡ 12
 
 -- 2's "cell twice" is still reached: one block with two k's rises, and no other reason holds
 pub record Reached : Type 0 where
@@ -122,7 +129,7 @@ reached = record { rising = refl; good = refl; cellTwice = refl; complete = refl
 
 pub in-order : InOrder
 unfolding refusal reasons lengthReasons orderReasons falls standsBefore matrixOf numbersMatrix formReasons blockReasons sizeReasons valueReasons first sizes outOf badRecord isCell again has rows columns beyond missing kindAt holds width indexOf valueHolds kenwardRogerKinds limits any most word long bytesOf
-in-order = record { column = refl; row = refl; kind = refl; equal = refl; groups = refl; byCount = refl; countFalls = refl; afterLength = refl; beforeForm = refl }
+in-order = record { column = refl; row = refl; kind = refl; equal = refl; groups = refl; byCount = refl; countFalls = refl; afterLength = refl; beforeForm = refl; unusedRow = refl; unusedRowFalls = refl; unusedColumn = refl; byteThree = refl; value = refl }
 
 pub read : Read
 unfolding refusal reasons lengthReasons orderReasons falls standsBefore matrixOf numbersMatrix formReasons blockReasons sizeReasons valueReasons first sizes asSent torn allTorn row fold miscounted badSize badWeight misfit zeroContrast blockOf outOf badRecord isCell again has cell rows columns beyond missing notFinite kindAt holds width indexOf valueHolds kenwardRogerKinds limits any most last total word long bytesOf isFinite isZero ofBits lt le eq

@@ -132,9 +132,6 @@ module _ (out : ℕ → Bool) where
           let g = kept-grows (getD (ks n) j 0) (getD (ks n) i 0) (omega arith) in
           absurd (omega arith)
 
-  pub kept-above : (n i : ℕ) → i < length (keptBelow n out) → i ≤ getD (keptBelow n out) i 0
-  kept-above n i l = let a = kept-at n i l .place in let b = kept-few (getD (ks n) i 0) in omega arith
-
   -- ---- where nothing is left out each stands at its own place, and where something is not there is one
   pub kept-all : (n : ℕ) → ((i : ℕ) → i < n → out i ≡ false) → length (keptBelow n out) ≡ n
   unfolding keptBelow

@@ -97,21 +97,4 @@ module _ (out : ℕ → Bool) where
           → lastOf (keptBelow (suc n) out) p f d ≡ cond (not (out n) && p n) (f n) (last n (λ i. not (out i) && p i) f d)
       go true e h = ap (λ (ks : List ℕ). lastOf ks p f d) (skip-next n e) ∙ h ∙ rw e refl
       go false e h = ap (λ (ks : List ℕ). lastOf ks p f d) (take-next n e) ∙ last-one (keptBelow n out) n p f d ∙ rw (e, h) refl
-
-  -- ---- the numbers that are not left out below m are the first of those below n
-  pub kept-first : (m n j : ℕ) → m ≤ n → j < length (keptBelow m out) → getD (keptBelow n out) j 0 ≡ getD (keptBelow m out) j 0
-  kept-first m n j l h =
-      let a = kept-at out m j h in
-      let b = a .below in
-      ap (λ (i : ℕ). getD (keptBelow n out) i 0) (sym (a .place)) ∙ kept-as out n (getD (keptBelow m out) j 0) (omega arith) (a .stays) .same
-
-  -- so what is asked of the first j of them is asked of all numbers before number j of them
-  pub any-before : (n j : ℕ) (p : ℕ → Bool) → j < length (keptBelow n out) → any j (λ l. p (getD (keptBelow n out) l 0)) ≡ any (getD (keptBelow n out) j 0) (λ i. not (out i) && p i)
-  any-before n j p h =
-      let i : ℕ = getD (keptBelow n out) j 0 in
-      let a = kept-at out n j h in
-      let b = a .below in
-      let e = a .place in
-      ap (λ (m : ℕ). any m (λ l. p (getD (keptBelow n out) l 0))) (sym e)
-      ∙ any-same (length (keptBelow i out)) (λ l. p (getD (keptBelow n out) l 0)) (λ l. p (getD (keptBelow i out) l 0)) (λ l k. ap p (kept-first i n l (omega arith) k))
-      ∙ any-kept i p
+      -- ---- the numbers that are not left out below m are the first of those below n

@@ -10,11 +10,11 @@ use Rattle.arithmetic_cutoffs.specs.declared.Cutoffs.{Cutoffs}
 use Rattle.algebra.specs.Reasons.{first}
 use Rattle.tests.specs.declared.Number.{Number}
 use Rattle.tests.specs.declared.Number.the-variants.{Is, None}
-use Rattle.records.specs.format.Bytes.{word, bytesOf}
+use Rattle.records.specs.format.Bytes.{word, long, bytesOf}
 use Rattle.records.specs.format.Scan.{any, most, last}
-use Rattle.records.specs.format.Kinds.{kindAt, width, kenwardRogerKinds}
+use Rattle.records.specs.format.Kinds.{kindAt, holds, width, kenwardRogerKinds, limits}
 use Rattle.records.specs.format.Written.{recordOf}
-use Rattle.records.specs.format.File.{isCell, has, rows, columns, missing, lengthReasons, formReasons}
+use Rattle.records.specs.format.File.{outOf, badRecord, isCell, has, rows, columns, missing, lengthReasons, formReasons}
 use Rattle.records.specs.format.Order.{numbersMatrix, matrixOf, standsBefore, falls, orderReasons}
 use Rattle.records.specs.readers.Series.{sizes, reasons}
 use Rattle.records.specs.calls.KenwardRogerCall.{allReasons, number, entries}
@@ -60,6 +60,11 @@ closing-examples = record { zeros = refl; row = refl; within = refl; end = refl;
 pub fallen-left : (c : Cutoffs) → (seasonText c (seven ++ one) ≡ codes "refused 2\n") × (seriesLines c (seven ++ one) ≡ codes "refused 12\n")
 unfolding seasonText closedTexts textsTo closedText closes begins seriesBefore seriesTo seriesIn leftOver leftText seriesLines textOf refusalText decimal digit codes number allReasons reasons lengthReasons orderReasons falls standsBefore matrixOf numbersMatrix first any last word bytesOf
 fallen-left c = (refl, refl)
+
+-- a kind 21 that does not close is a record of its series, and a bad kind: it prints `refused 2`
+pub unclosing-printed : (c : Cutoffs) → seasonText c (with-byte 0 14 ++ closingRecord) ≡ codes "refused 2\n"
+unfolding seasonText closedTexts textsTo closedText closes begins seriesBefore seriesTo seriesIn leftOver leftText seriesLines textOf refusalText decimal digit codes number allReasons reasons lengthReasons orderReasons falls standsBefore matrixOf numbersMatrix formReasons outOf badRecord kindAt holds kenwardRogerKinds limits first any last word long bytesOf
+unclosing-printed c = refl
 
 -- an empty series is refused with 2: it has a place among the F's, and none in it
 pub empty-place : (c : Cutoffs) → fsOf c ([] ∷ [] ∷ []) ≡ None ∷ None ∷ []

@@ -19,7 +19,7 @@ use Rattle.records.specs.format.Layout.{answerBytes, answerLength}
 use Rattle.records.specs.calls.Call.{Call, callReturned, callWritten}
 use Rattle.records.specs.text.Text.{textOf}
 use Rattle.records.specs.readers.Shortened.{torn, keptBelow, shortened}
-use Rattle.records.specs.readers.Series.{specimens, contrastRows, asSent, reasons, refusal, design, phi, sigma2, beta, betaH, contrast}
+use Rattle.records.specs.readers.Series.{specimens, zColumns, contrastRows, asSent, reasons, refusal, design, phi, sigma2, beta, betaH, contrast}
 use Rattle.records.specs.calls.KenwardRogerCall.{number, entries, returned, written}
 use Rattle.records.specs.calls.ArchiveCall.{archivingReturned, archivingWritten}
 
@@ -64,9 +64,9 @@ unfoldable pub withoutTorn : List ℕ → List ℕ
 withoutTorn s = sequence (count s) (λ i. cond (ofTorn s i) [] (renumbered s i))
 
 -- record i is of a column of Z that loses its last record: it has none in a row that is kept. "sizes but n stay as sent", so that such a column stays in the series, as zeros; a file has its columns by the largest index,
--- and the file without the record may have fewer.
+-- and the file without the record may have fewer. It has as many where the last column keeps a record, whatever the others lose.
 unfoldable pub columnLost : List ℕ → ℕ → Bool
-columnLost s i = eqb (kindOf s i) kindZ && not (any (count s) (λ j. eqb (kindOf s j) 2 && eqb (columnOf s j) (columnOf s i) && not (torn (asSent s) (rowOf s j))))
+columnLost s i = eqb (kindOf s i) kindZ && not (any (count s) (λ j. eqb (kindOf s j) kindZ && eqb (columnOf s j) (columnOf s i) && not (torn (asSent s) (rowOf s j))))
 
 pub record TornKeeps : Type 0 where
   -- a series without a zero weight has the design that it had
@@ -74,12 +74,14 @@ pub record TornKeeps : Type 0 where
   -- "The answer equals the definition's on the shortened series": the number that is returned, and the lent bytes
   pub shortNumber : (w : ℕ) (lab s answer : List ℕ) → returned w lab s answer ≡ designReturned w lab (shortened (asSent s)) s answer
   pub shortBytes : (w : ℕ) (lab s answer : List ℕ) → written w lab s answer ≡ designWritten w lab (shortened (asSent s)) s answer
-  -- and it is the answer of the file without the torn specimens, for every file that the reader accepts and of which no column of Z is lost: number, lent bytes, the program's text, and the archive
-  pub takenNumber : (w : ℕ) (lab s answer : List ℕ) → refusal w s ≡ 0 → any (count s) (columnLost s) ≡ false → returned w lab (withoutTorn s) answer ≡ returned w lab s answer
-  pub takenBytes : (w : ℕ) (lab s answer : List ℕ) → refusal w s ≡ 0 → any (count s) (columnLost s) ≡ false → written w lab (withoutTorn s) answer ≡ written w lab s answer
-  pub takenText : (w : ℕ) (c : Cutoffs) (s : List ℕ) → refusal w s ≡ 0 → any (count s) (columnLost s) ≡ false
+  -- and it is the answer of the file without the torn specimens, for every file that the reader accepts and that without them has as many columns of Z: number, lent bytes, the program's text, and the archive
+  pub takenNumber : (w : ℕ) (lab s answer : List ℕ) → refusal w s ≡ 0 → zColumns (withoutTorn s) ≡ zColumns s → returned w lab (withoutTorn s) answer ≡ returned w lab s answer
+  pub takenBytes : (w : ℕ) (lab s answer : List ℕ) → refusal w s ≡ 0 → zColumns (withoutTorn s) ≡ zColumns s → written w lab (withoutTorn s) answer ≡ written w lab s answer
+  pub takenText : (w : ℕ) (c : Cutoffs) (s : List ℕ) → refusal w s ≡ 0 → zColumns (withoutTorn s) ≡ zColumns s
       → textOf (number w c (withoutTorn s)) (entries w c (withoutTorn s)) ≡ textOf (number w c s) (entries w c s)
-  pub takenArchive : (w : ℕ) (lab s lent : List ℕ) → refusal w s ≡ 0 → any (count s) (columnLost s) ≡ false
+  pub takenArchive : (w : ℕ) (lab s lent : List ℕ) → refusal w s ≡ 0 → zColumns (withoutTorn s) ≡ zColumns s
       → (archivingReturned w lab (withoutTorn s) lent ≡ archivingReturned w lab s lent) × (archivingWritten w lab (withoutTorn s) lent ≡ archivingWritten w lab s lent)
+  -- it has as many where no column loses its last record
+  pub asMany : (w : ℕ) (s : List ℕ) → refusal w s ≡ 0 → any (count s) (columnLost s) ≡ false → zColumns (withoutTorn s) ≡ zColumns s
   -- where no specimen is torn it is the file itself
   pub takenNone : (w : ℕ) (s : List ℕ) → refusal w s ≡ 0 → any (specimens s) (torn (asSent s)) ≡ false → withoutTorn s ≡ s
