@@ -45,7 +45,7 @@ sizes s = record {
 abbrev pub kinds : List ℕ → Table
 kinds s = satterthwaiteKinds (sizes s)
 
--- what refuses a file before anything is computed, in order: its length, its form, its values
+-- what refuses a file before anything is computed, in order: its length, its order and its form (2, 12, 2: Reader), its values
 unfoldable pub valueReasons : List ℕ → List (ℕ × Bool)
 valueReasons s = (4, any (count s) (notFinite s)) ∷ []
 

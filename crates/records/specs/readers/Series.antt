@@ -120,7 +120,7 @@ misfit s =
 unfoldable pub zeroContrast : List ℕ → Bool
 zeroContrast s = present s kindContrast && not (any (contrastRows s) (λ r. any (coefficients s) (λ c. not (isZero (cellValue s kindContrast r c)))))
 
--- "Refusals, lowest number first": what refuses a file before anything is computed, in order: its length, its form, its blocks' parameter counts, its sizes, its values. w is the limit of specimens.
+-- What refuses a file before anything is computed, in order: its length, its order and its form (2, 12, 2: Reader), its blocks' parameter counts, its sizes, its values. From 3 on this is document 01's "lowest number first". w is the limit of specimens.
 -- "Req 04": 13 comes "after 2 and before 3"
 unfoldable pub blockReasons : List ℕ → List (ℕ × Bool)
 blockReasons s = (13, any (count s) (miscounted s)) ∷ []
