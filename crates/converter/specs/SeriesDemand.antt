@@ -6,7 +6,7 @@ use mathlib.Core.Path.{_≡_}
 use mathlib.Core.Bool.{true, false}
 use mathlib.Core.List.{List, map}
 use lib.IntN.{ℤ, natAbs}
-use lib.ListN.{getD}
+use lib.ListN.{length, getD}
 use Rattle.arithmetic.specs.Marks.{MarkBears}
 use Rattle.arithmetic_cutoffs.specs.declared.Cutoffs.{Cutoffs}
 use Rattle.arithmetic_cutoffs.specs.Cutoffs.{documentCutoffs}
@@ -14,9 +14,9 @@ use Rattle.tests.specs.Answer.{noEntry}
 use Rattle.records.specs.readers.Series.{coefficients, contrastRows}
 use Rattle.records.specs.readers.CutoffTable.{badTable, cutoffsIn, builtInTable}
 use Rattle.records.specs.calls.KenwardRogerCall.{number, entries, returned, written}
-use Rattle.records.specs.readers.Archive.{archiveBytes}
+use Rattle.records.specs.readers.Archive.{archiveLength}
 use Rattle.records.specs.readers.SecondFile.{ownTests}
-use Rattle.records.specs.calls.ArchiveCall.{seriesArchive, testingReturned, testingWritten}
+use Rattle.records.specs.calls.ArchiveCall.{leftArchive, testingReturned, testingWritten}
 use Rattle.records.specs.format.Layout.{answerLength}
 use Rattle.tests.specs.Verdict.{verdict}
 use Rattle.converter.specs.Converted.{kenwardRogerChange, converted}
@@ -74,13 +74,14 @@ abbrev pub KenwardRogerAnswer : Type 0
 KenwardRogerAnswer = (w : ℕ) → EachTable (SameAnswers w) w
 
 -- and for a test from the series' archive with the series' own records of kinds 8 to 10 (document 02, "Req 02"), with one table on both sides: the archive and the second file of the converted series answer as those
--- of the series
-abbrev pub SameArchiveAnswers : List ℕ → List ℕ → List ℕ → Type 0
-SameArchiveAnswers lab s s' =
-    SameAnswer answerLength (testingWritten lab (archiveBytes (seriesArchive (cutoffsIn lab) s)) (ownTests s)) (testingReturned lab (archiveBytes (seriesArchive (cutoffsIn lab) s')) (ownTests s')) (testingWritten lab (archiveBytes (seriesArchive (cutoffsIn lab) s')) (ownTests s'))
+-- of the series, each archive being the bytes that the writer left in the 7,184 that it was lent
+abbrev pub SameArchiveAnswers : ℕ → List ℕ → List ℕ → List ℕ → Type 0
+SameArchiveAnswers w lab s s' =
+    (lent lent' : List ℕ) → length lent ≡ archiveLength → length lent' ≡ archiveLength
+    → SameAnswer answerLength (testingWritten lab (leftArchive w lab s lent) (ownTests s)) (testingReturned lab (leftArchive w lab s' lent') (ownTests s')) (testingWritten lab (leftArchive w lab s' lent') (ownTests s'))
 
 abbrev pub ArchiveAnswer : Type 0
-ArchiveAnswer = (w : ℕ) → EachTable SameArchiveAnswers w
+ArchiveAnswer = (w : ℕ) → EachTable (SameArchiveAnswers w) w
 
 -- and at the panel, "specimens n 1–24"
 abbrev pub PanelDemand : Type 0
@@ -94,4 +95,4 @@ abbrev pub BuiltInAnswer : Type 0
 BuiltInAnswer = SeriesWith (SameAnswers 24 builtInTable) 24 documentCutoffs
 
 abbrev pub BuiltInArchiveAnswer : Type 0
-BuiltInArchiveAnswer = SeriesWith (SameArchiveAnswers builtInTable) 24 documentCutoffs
+BuiltInArchiveAnswer = SeriesWith (SameArchiveAnswers 24 builtInTable) 24 documentCutoffs

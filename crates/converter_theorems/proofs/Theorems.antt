@@ -15,7 +15,8 @@ use Rattle.records.specs.readers.CutoffTable.{badTable, cutoffsIn, builtInTable
 use Rattle.records.specs.calls.Call.{callWritten}
 use Rattle.records.specs.calls.KenwardRogerCall as kenwardRoger
 use Rattle.records.specs.calls.SatterthwaiteCall as satterthwaite
-use Rattle.records.specs.calls.ArchiveCall.{seriesRefusal}
+use Rattle.records.specs.readers.Archive.{archiveLength}
+use Rattle.records.specs.calls.ArchiveCall.{seriesRefusal, archivingCall, archivingRefusal}
 use Rattle.records.proofs.calls.CallLaws.{files-decide}
 use Rattle.records.proofs.readers.CutoffLaws.{rotation-fits, built-in-accepted, built-in-numbers}
 use Rattle.records.proofs.promises.ArchiveKeeps.{answered-archived, archive-keeps}
@@ -99,16 +100,22 @@ pub answer-kenward-roger : KenwardRogerAnswer
 answer-kenward-roger w lab ok s k m near nears e inside =
     series-answer lab ok w s (converted (kenwardRogerChange k m) s) e (converter-kenward-roger w lab ok s k m near nears e inside)
 
--- So does a test from its archive with its own records of kinds 8 to 10 and the same table, since that is the call's answer.
+-- a series that the call accepts is archived, in lent bytes of the stated length
+archived-left : (lab : List ℕ) → badTable lab ≡ false → (w : ℕ) (s : List ℕ) → kenwardRoger.number w (cutoffsIn lab) s ≡ 0 → (lent : List ℕ) → length lent ≡ archiveLength → archivingRefusal w lab s lent ≡ 0
+unfolding seriesRefusal
+archived-left lab ok w s e lent h = files-decide (archivingCall w s) lab lent refl h ok ∙ answered-archived w (cutoffsIn lab) s e
+
+-- So does a test from its archive, as the writer left it, with its own records of kinds 8 to 10 and the same table, since that is the call's answer.
 pub answer-archive : ArchiveAnswer
 answer-archive w lab ok s k m near nears e inside =
     let s' = converted (kenwardRogerChange k m) s in
     let a = answer-kenward-roger w lab ok s k m near nears e inside in
-    let h : seriesRefusal w (cutoffsIn lab) s ≡ 0 = answered-archived w (cutoffsIn lab) s e in
-    let h' : seriesRefusal w (cutoffsIn lab) s' ≡ 0 = answered-archived w (cutoffsIn lab) s' (converter-kenward-roger w lab ok s k m near nears e inside .accepted) in
+    λ lent lent' stated stated'.
+    let h = archived-left lab ok w s e lent stated in
+    let h' = archived-left lab ok w s' (converter-kenward-roger w lab ok s k m near nears e inside .accepted) lent' stated' in
     record {
-      returns = λ answer l. archive-keeps .sameNumber w lab s' answer h' ∙ a .returns answer l;
-      writes = λ answer l. rw (archive-keeps .sameBytes w lab s answer h, archive-keeps .sameBytes w lab s' answer h') (a .writes answer l);
+      returns = λ answer l. archive-keeps .sameNumber w lab s' lent' answer h' ∙ a .returns answer l;
+      writes = λ answer l. rw (archive-keeps .sameBytes w lab s lent answer h, archive-keeps .sameBytes w lab s' lent' answer h') (a .writes answer l);
     }
 
 pub answer-panel : PanelAnswer
@@ -124,7 +131,7 @@ pub built-in-answer : BuiltInAnswer
 built-in-answer = subst (λ (c : Cutoffs). SeriesWith (SameAnswers 24 builtInTable) 24 c) built-in-numbers (answer-panel builtInTable built-in-accepted)
 
 pub built-in-archive-answer : BuiltInArchiveAnswer
-built-in-archive-answer = subst (λ (c : Cutoffs). SeriesWith (SameArchiveAnswers builtInTable) 24 c) built-in-numbers (answer-archive 24 builtInTable built-in-accepted)
+built-in-archive-answer = subst (λ (c : Cutoffs). SeriesWith (SameArchiveAnswers 24 builtInTable) 24 c) built-in-numbers (answer-archive 24 builtInTable built-in-accepted)
 
 pub built-in-entry-answer : BuiltInEntryAnswer
 built-in-entry-answer = subst (λ (c : Cutoffs). ParametersWith (SameEntryBytes builtInTable) c) built-in-numbers (answer-satterthwaite builtInTable built-in-accepted)

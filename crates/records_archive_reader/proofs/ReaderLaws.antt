@@ -153,9 +153,9 @@ module _ (s : List ℕ) (within : any (count s) (beyond (kinds s) s) ≡ false) 
   unfolding archiveOf
   variance-read = alone-cell Archived (sizes s) s within L room 18 (variance-flat (sizes s))
 
-  archive-read : GivesArchive s sheet
+  sheet-gives-archive : GivesArchive s sheet
   unfolding archiveOf sizes sizesAt stack
-  archive-read =
+  sheet-gives-archive =
       let z : Sizes = sizes s in
       record {
         phi = cells-read Archived z s within L room 15 (coefficients s) (coefficients s) (phi-flat z);
@@ -237,7 +237,7 @@ archive-sizes-taken s z h e = formed-sizes Archived 1 (omega arith) (omega arith
 
 -- the sheet at hand, of L numbers
 pub gives-archive : (s : List ℕ) → refusal s ≡ 0 → (L : ℕ) → slotCount (kinds s) ≤ L → (xs : List Float) → xs ≡ sheetAfter L (kinds s) s (count s) → GivesArchive s xs
-gives-archive s h L room xs e = subst (GivesArchive s) (sym e) (archive-read s (archive-sizes-taken s (sizes s) h refl .within) L room)
+gives-archive s h L room xs e = subst (GivesArchive s) (sym e) (sheet-gives-archive s (archive-sizes-taken s (sizes s) h refl .within) L room)
 
 -- ---- the number of an archive of good form, by who gives it
 module _ (s : List ℕ) (formed : formedNumber reader s ≡ 0) where

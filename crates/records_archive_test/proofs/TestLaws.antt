@@ -29,7 +29,7 @@ use Rattle.records_sheet_parts.proofs.Read.{Flat, kind-starts, kind-fits, numbe
 use Rattle.records_form.proofs.FormLaws.{FormedSizes}
 use Rattle.records_archive_reader.proofs.ReaderLaws.{GivesArchive, archive-sizes-taken, gives-archive, w-fits, phi-fits, phi-a-fits, ps-fit, variance-fits}
 use Rattle.records_second_file.proofs.SecondLaws.{second-sizes, same-coefficients, as-many, contrast-flat}
-use Rattle.records_archive_test.specs.joints.Read.{ArchiveRead, SecondRead}
+use Rattle.records_archive_test.specs.joints.Read.{ArchiveOnSheet, SecondOnSheet}
 use Rattle.records.specs.declared.Shape.the-variants.{Archived, Second}
 
 -- the sheets of the call have room for every cell that the limits allow
@@ -56,7 +56,7 @@ record GivesTests (t : List ℕ) (xs : List Float) : Type 0 where
   contrast : cellsAt xs (firstSlot (second.kinds t) 9) (second.contrastRows t) (second.coefficients t) ≡ second.contrast t
 
 -- ---- a second file that its reader takes, on its sheet
-module _ (p : ℕ) (t : List ℕ) (xs : List Float) (h : SecondRead p t xs) where
+module _ (p : ℕ) (t : List ℕ) (xs : List Float) (h : SecondOnSheet p t xs) where
   own-tests : FormedSizes Second 1 t (second.sizes t)
   own-tests = second-sizes p t (h .taken) (second.sizes t) refl
 
@@ -109,13 +109,13 @@ module _ (p : ℕ) (t : List ℕ) (xs : List Float) (h : SecondRead p t xs) wher
           rw (eb, eh, eg, el, kind-starts (kindsOf Second z) fs ef 8 (lit< tt), kind-starts (kindsOf Second z) fs ef 9 (lit< tt), kind-starts (kindsOf Second z) fs ef 10 (lit< tt), ← of-beta, ez, y .beta, y .betaH, y .contrast)
 
 -- what is lent holds the second file once its reader takes it
-pub second-taken : (p : ℕ) (t : List ℕ) (L : ℕ) (ys : List Float) → slotCount testTable ≤ L → second.refusal p t ≡ 0 → ys ≡ sheetAfter L (second.kinds t) t (count t) → SecondRead p t ys
+pub second-taken : (p : ℕ) (t : List ℕ) (L : ℕ) (ys : List Float) → slotCount testTable ≤ L → second.refusal p t ≡ 0 → ys ≡ sheetAfter L (second.kinds t) t (count t) → SecondOnSheet p t ys
 second-taken p t L ys l e q =
     let n : length ys ≡ L = ap length q ∙ length-sheet L (second.kinds t) t (count t) in
     record { taken = e; numbers = q ∙ ap (λ (m : ℕ). sheetAfter m (second.kinds t) t (count t)) (sym n); room = omega arith }
 
 -- ---- an archive: what is lent holds it once its reader takes it
-pub archive-taken : (s : List ℕ) (L : ℕ) (ys : List Float) → slotCount archiveTable ≤ L → archive.refusal s ≡ 0 → ys ≡ sheetAfter L (archive.kinds s) s (count s) → ArchiveRead s ys
+pub archive-taken : (s : List ℕ) (L : ℕ) (ys : List Float) → slotCount archiveTable ≤ L → archive.refusal s ≡ 0 → ys ≡ sheetAfter L (archive.kinds s) s (count s) → ArchiveOnSheet s ys
 archive-taken s L ys l e q =
     let n : length ys ≡ L = ap length q ∙ length-sheet L (archive.kinds s) s (count s) in
     record { taken = e; numbers = q ∙ ap (λ (m : ℕ). sheetAfter m (archive.kinds s) s (count s)) (sym n); room = omega arith }
@@ -126,7 +126,7 @@ unfolding archive.sizes archive.sizesAt
 archive-p s z e = ap (λ (y : Sizes). y .coefficients) e
 
 -- one that its reader takes, on its sheet, with the sizes that the code has at hand
-module _ (s : List ℕ) (xs : List Float) (h : ArchiveRead s xs) (z : Sizes) (ez : z ≡ archive.sizes s) where
+module _ (s : List ℕ) (xs : List Float) (h : ArchiveOnSheet s xs) (z : Sizes) (ez : z ≡ archive.sizes s) where
   own-room : slotCount (archiveKinds z) ≤ length xs
   own-room = let a = archive-sizes-taken s z (h .taken) ez .fit in let b = h .room in omega arith
 

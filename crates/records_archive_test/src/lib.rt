@@ -12,7 +12,7 @@ ghost use Rattle.tests_run.specs.joints.Units.{responseUnits};
 ghost use Rattle.records.specs.readers.Archive.{coefficients};
 ghost use Rattle.records.specs.readers.SecondFile.{beta, betaH, contrastRows, contrast};
 ghost use Rattle.records.specs.calls.ArchiveCall.{archiveRun, fromArchiveNumber, fromArchiveEntries, testingReturned, testingWritten};
-ghost use Rattle.records_archive_test.specs.joints.Read.{ArchiveRead, SecondRead};
+ghost use Rattle.records_archive_test.specs.joints.Read.{ArchiveOnSheet, SecondOnSheet};
 use arithmetic_cutoffs::Cutoffs;
 use arithmetic_cutoffs::document_cutoffs;
 use records::ANSWER_LENGTH;
@@ -47,7 +47,7 @@ fn tests_with(
     numbers: &[f64],
     refused: &mut bool,
 ) -> [Entry; 7]
-    requires { ⌜ (n ≤ 4) × (p ≤ 6) × SecondRead p (now t) (now numbers) ⌝ }
+    requires { ⌜ (n ≤ 4) × (p ≤ 6) × SecondOnSheet p (now t) (now numbers) ⌝ }
     ensures { λ r. ⌜ r ≡ runOf marks c (responseUnits p n phi «phi_a» ps w sigma2) (beta (now (t .entry))) (betaH (now (t .entry))) (contrastRows (now (t .entry))) (contrast (now (t .entry))) .entries ⌝ }
     ensures { λ r. ⌜ now (refused .exit) ≡ runOf marks c (responseUnits p n phi «phi_a» ps w sigma2) (beta (now (t .entry))) (betaH (now (t .entry))) (contrastRows (now (t .entry))) (contrast (now (t .entry))) .refused ⌝ }
 {
@@ -86,7 +86,7 @@ fn tests_from(
     numbers: &[f64],
     refused: &mut bool,
 ) -> [Entry; 7]
-    requires { ⌜ ArchiveRead (now s) (now sheet) × SecondRead (coefficients (now s)) (now t) (now numbers) ⌝ }
+    requires { ⌜ ArchiveOnSheet (now s) (now sheet) × SecondOnSheet (coefficients (now s)) (now t) (now numbers) ⌝ }
     ensures { λ r. ⌜ r ≡ archiveRun c (now (s .entry)) (now (t .entry)) .entries ⌝ }
     ensures { λ r. ⌜ now (refused .exit) ≡ archiveRun c (now (s .entry)) (now (t .entry)) .refused ⌝ }
 {

@@ -2,19 +2,24 @@
 use Prim.Native.Nat.{ℕ, _+_, _-_, _<_, _≤_}
 use mathlib.Core.Path.{_≡_, refl, ap, sym, _∙_}
 use mathlib.Core.Bool.{not}
-use mathlib.Core.List.{List, _++_}
+use mathlib.Core.List.{List, [], _∷_, _++_}
 use native.Mathlib.Nat.{zero-add}
 use native.Mathlib.Omega.{arith}
 use lib.Dec.{eqb}
-use lib.ListN.{length, drop, List·getD-append}
+use lib.ListN.{length, take, drop, List·getD-append}
 use lib.Seq.{sets, sets-eq, getD-append-add, getD-drop}
 use borrow.Author.Tests.{eqb-true}
 use Rattle.records.specs.format.Bytes.{byte}
 use Rattle.records.specs.readers.Archive.{archiveBytes}
 use Rattle.records.specs.readers.CutoffTable.{cutoffsIn}
-use Rattle.records.specs.calls.ArchiveCall.{seriesArchive, archivingCall, told, archivingRefusal, archivingReturned, archivingWritten}
+use Rattle.records.specs.calls.ArchiveCall.{seriesArchive, seriesRefusal, archivingCall, told, archivingRefusal, archivingReturned, archivingWritten, leftArchive}
 use Rattle.records.proofs.calls.CallLaws.{call-accepted, accepted-fills}
 use Rattle.records.proofs.calls.ArchiveLengths.{archiving-length}
+
+-- as many of two lists as the first has are the first
+front-taken : (xs ys : List ℕ) → take (length xs) (xs ++ ys) ≡ xs
+front-taken [] ys = refl
+front-taken (x ∷ xs) ys = ap (λ (l : List ℕ). x ∷ l) (front-taken xs ys)
 
 -- ---- a list with another put at its front, which it has room for
 module _ (l xs : List ℕ) (room : length xs ≤ length l) where
@@ -60,3 +65,11 @@ module _ (w : ℕ) (lab s lent : List ℕ) (e : archivingRefusal w lab s lent �
 
   pub archiving-rest : (i : ℕ) → archivingReturned w lab s lent ≤ i → byte (archivingWritten w lab s lent) i ≡ byte lent i
   archiving-rest i h = let b = returned-length in rw written-is (put-rest lent file lent-room i (omega arith))
+
+  -- as many of them as are returned are the archive
+  pub archive-left : leftArchive w lab s lent ≡ file
+  archive-left = rw (returned-length, written-is, front-is lent file lent-room) (front-taken file (drop (length file) lent))
+
+  pub archived-series : seriesRefusal w (cutoffsIn lab) s ≡ 0
+  unfolding seriesRefusal
+  archived-series = call-accepted (archivingCall w s) lab lent e .2

@@ -7,7 +7,7 @@ use mathlib.Core.List.{List, [], _∷_, _++_}
 use lib.Dec.{eqb}
 use lib.IntN.{pos, negsuc}
 use lib.ListN.{replicate}
-use lib.Ieee.{Float, fin, round, add, sub, mul, div, neg, lt, eq, le, ofInt, ofBits}
+use lib.Ieee.{Float, fin, round, add, sub, mul, div, neg, lt, eq, le, ofInt, ofBits, toBits}
 use Rattle.arithmetic.specs.Numbers.{plusZero, one, magnitude, isZero, isFinite, sign, isLarger, ofCount}
 use Rattle.arithmetic.specs.SquareRoot.{squareRoot, wholeRoot}
 use Rattle.arithmetic.specs.Marks.{inRange, stepMark, lostProduct, lostQuotient, markedAdd, markedSub, markedMul, markedDiv, markedRoot, also}
@@ -31,17 +31,20 @@ use Rattle.tests.specs.Basis.{largest, dividedCell, divided, contrastBasis}
 use Rattle.tests.specs.KenwardRoger.{Run, unitRow, coefficientTest, scaledPs, scaledBy, aRows, vRows, tested, withTest, coefficientsTo, runOf}
 use Rattle.records.specs.format.Bytes.{word, long, bytesOf}
 use Rattle.records.specs.format.Scan.{any, most, last, total}
-use Rattle.records.specs.format.Kinds.{kindAt, holds, width, indexOf, valueHolds, kenwardRogerKinds, limits}
-use Rattle.records.specs.format.Written.{recordOf}
+use Rattle.records.specs.format.Kinds.{kindAt, holds, width, indexOf, valueHolds, kenwardRogerKinds, archiveKinds, limits}
+use Rattle.records.specs.format.Written.{fieldOf, cellRecord, recordOf, sequence, kindFile, fileOf}
 use Rattle.records.specs.format.File.{outOf, badRecord, isCell, again, has, cell as cellOf, rows, columns, beyond, missing, notFinite, lengthReasons, formReasons}
 use Rattle.records.specs.format.Order.{numbersMatrix, matrixOf, standsBefore, falls, orderReasons}
 use Rattle.records.specs.readers.Shortened.{torn, allTorn, keptBelow, shortened}
 use Rattle.records.specs.readers.Series.{contrastRows, sizes, asSent, blockOf as blockRead, miscounted, badSize, badWeight, misfit, zeroContrast, blockReasons, sizeReasons, valueReasons, reasons, refusal, design, phi, beta, betaH, contrast, sigma2}
+use Rattle.records.specs.readers.Archive.{Archive, sizesAt, archived, archiveContent, archiveBytes}
 use Rattle.records.specs.readers.CutoffTable.{builtInTable}
+use Rattle.records.specs.calls.ArchiveCall.{seriesArchive}
 use Rattle.records.specs.calls.KenwardRogerCall.{adjusted, scaled, run, number, seriesCall, returned}
 use Rattle.records.proofs.calls.CallLaws.{fileAdjustmentRefusal, number-is}
 use Rattle.records.proofs.readers.CutoffLaws.{built-in-returned}
 use Rattle.records.proofs.readers.Examples.{one as oneBits, pulled}
+use Rattle.records.proofs.readers.ArchiveExamples.{exampleArchive}
 
 -- 9: "n = 2, one group, Z = 1, 1, theta 1e10"
 abbrev pub nineFile : List ℕ
@@ -174,3 +177,46 @@ refused-calls = record {
   notDefinite = late nineFile 9 (says .nineTaken) (rw nine-adjustment);
   zeroPivot = late tenFile 10 (says .tenTaken) (rw (ten-adjustment, ten-run));
 }
+
+-- ---- the archive of document 01's example: X 1,1, Φ 0.5, sigma2 8, β 6, contrast 1
+abbrev pub pullFile : List ℕ
+pullFile = pulled [] (recordOf 9 0 0 0 oneBits)
+
+record PullSays : Type 0 where
+  pub designed : design pullFile ≡ tenDesign
+  pub phiRead : phi pullFile ≡ single half
+  pub varianceRead : sigma2 pullFile ≡ eight
+
+pull-says : PullSays
+unfolding design asSent shortened allTorn torn keptBelow phi beta betaH contrast table row blank fold refusal reasons lengthReasons orderReasons falls standsBefore matrixOf numbersMatrix formReasons blockReasons sizeReasons valueReasons first sizes miscounted badSize badWeight misfit zeroContrast blockRead outOf badRecord isCell again has cellOf rows columns beyond missing notFinite kindAt holds width indexOf valueHolds kenwardRogerKinds limits any most last total word long bytesOf isFinite isZero ofBits lt le eq
+pull-says = record { designed = refl; phiRead = refl; varianceRead = refl }
+
+-- what is archived of a design of one coefficient
+abbrev archiveAt : Design → Rows → Float → Archive
+archiveAt d f v =
+    record {
+      coefficients = 1;
+      parameters = matrices d;
+      phi = f;
+      phiA = adjustment documentCutoffs d f .phiA;
+      ps = adjustment documentCutoffs d f .ps;
+      w = adjustment documentCutoffs d f .w;
+      sigma2 = v;
+    }
+
+pull-archive : seriesArchive documentCutoffs pullFile ≡ archiveAt (design pullFile) (phi pullFile) (sigma2 pullFile)
+unfolding seriesArchive adjusted columns most word bytesOf
+pull-archive = refl
+
+pull-archive-bytes : archiveBytes (archiveAt tenDesign (single half) eight) ≡ exampleArchive
+unfolding archiveBytes archiveContent archived sizesAt fileOf kindFile sequence cellRecord fieldOf kindAt width archiveKinds toBits bytesOf adjustmentRefusal adjustmentReasons first outputNotFinite notAllFiniteMarked notAllFinite scaledDown scaledUp precisionOf informationRefused fromPrecision eigen ieRows qStackOf pStack oStack hStack phiARows uRows uAbove uTermAt uTerm qStack stack precision inverseFactorRefused inverseFactor cholesky sigmaRows sigmaCell gRows factorOfMatrix gCell residualCell blockCell groupCell directedCell direction factorOf thetaCell placeOf blockOf placesBefore columnsBefore wRefused wRows inverted ridged smallest mirror ieCell kCell packed qRows pRows oRows hRows lower choleskyRefused notPositive choleskyTo choleskyColumn belowDiagonal lessDot put jacobi mirrored sweepsTo sweepTo rowTo rotate rotateTested bound squared rotated rotatedCell turnColumns turnRow turnedSecond turnedFirst sine cosine tangent ratio identity plusCells minusCells timesNumber overNumber documentCutoffs decimal allMarks values givenCells sandwich solution refused joined backTo backCell backSum stopping columnOrStop zeroPivot eliminateTo eliminateColumn cleared lessBy factor swapRows pivotRow larger trace likeCells sumCells transpose product cell sum table blank row fold markedRoot markedDiv markedMul markedSub markedAdd also lostQuotient lostProduct stepMark inRange squareRoot wholeRoot ofCount isLarger isFinite isZero magnitude sign round add sub mul div neg lt eq le ofInt lib.Ieee.isNan tested vRows aRows contrastBasis divided dividedCell largest unitRow coefficientTest scaledPs scaledBy runOf withTest coefficientsTo
+pull-archive-bytes = refl
+
+-- ITS 128 BYTES
+pub example-archived : archiveBytes (seriesArchive documentCutoffs pullFile) ≡ exampleArchive
+example-archived =
+    ap archiveBytes pull-archive
+    ∙ ap (λ (d : Design). archiveBytes (archiveAt d (phi pullFile) (sigma2 pullFile))) (pull-says .designed)
+    ∙ ap (λ (f : Rows). archiveBytes (archiveAt tenDesign f (sigma2 pullFile))) (pull-says .phiRead)
+    ∙ ap (λ (v : Float). archiveBytes (archiveAt tenDesign (single half) v)) (pull-says .varianceRead)
+    ∙ pull-archive-bytes

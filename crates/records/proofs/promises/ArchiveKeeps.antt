@@ -19,13 +19,13 @@ use Rattle.records.specs.readers.Archive.{archiveBytes}
 use Rattle.records.specs.readers.SecondFile as second
 use Rattle.records.specs.readers.SecondFile.{ownTests}
 use Rattle.records.specs.readers.CutoffTable.{cutoffsIn}
-use Rattle.records.specs.calls.KenwardRogerCall.{scaled, run, testReasons, allReasons, number, entries, seriesCall}
-use Rattle.records.specs.calls.ArchiveCall.{seriesArchive, seriesReasons, seriesRefusal, inResponseUnits, archiveRun, archiveTestReasons, fromArchiveReasons, fromArchiveNumber, fromArchiveEntries, testingCall}
+use Rattle.records.specs.calls.KenwardRogerCall.{scaled, run, testReasons, allReasons, number, entries, seriesCall, returned, written}
+use Rattle.records.specs.calls.ArchiveCall.{seriesArchive, seriesReasons, seriesRefusal, inResponseUnits, archiveRun, archiveTestReasons, fromArchiveReasons, fromArchiveNumber, fromArchiveEntries, testingCall, testingReturned, testingWritten}
 use Rattle.records.specs.promises.ArchiveKeeps.{ArchiveKeeps}
 use Rattle.records.proofs.calls.CallLaws.{first-next, number-is, AnswersAlike, alike-returned, alike-written}
 use Rattle.records.proofs.promises.OwnTests.{tests-accepted, tests-same}
 use Rattle.records.proofs.promises.ArchiveBack.{archive-coefficients, series-accepted, series-adjusted, series-archivable, series-reads-back}
-use Rattle.records.proofs.calls.ArchiveFront.{archiving-front, archiving-rest}
+use Rattle.records.proofs.calls.ArchiveFront.{archiving-front, archiving-rest, archive-left, archived-series}
 use Rattle.records.proofs.calls.ArchiveLengths.{archiving-length, archiving-number}
 use Rattle.records.proofs.promises.ArchiveAgain.{archive-again}
 
@@ -73,6 +73,12 @@ module _ (w : ℕ) (lab s : List ℕ) (e : seriesRefusal w (cutoffsIn lab) s ≡
   unfolding fromArchiveNumber number fromArchiveEntries entries
   answers-alike answer = record { stated = refl; besides = refl; number = number-same w (cutoffsIn lab) s e; full = λ z. rw (number-same w (cutoffsIn lab) s e, run-same w (cutoffsIn lab) s e) }
 
+archived-number : (w : ℕ) (lab s answer : List ℕ) → seriesRefusal w (cutoffsIn lab) s ≡ 0 → testingReturned lab (archiveBytes (seriesArchive (cutoffsIn lab) s)) (ownTests s) answer ≡ returned w lab s answer
+archived-number w lab s answer e = alike-returned (testingCall (archivedFile w lab s e) (ownTests s)) (seriesCall w s) lab answer (answers-alike w lab s e answer)
+
+archived-bytes : (w : ℕ) (lab s answer : List ℕ) → seriesRefusal w (cutoffsIn lab) s ≡ 0 → testingWritten lab (archiveBytes (seriesArchive (cutoffsIn lab) s)) (ownTests s) answer ≡ written w lab s answer
+archived-bytes w lab s answer e = alike-written (testingCall (archivedFile w lab s e) (ownTests s)) (seriesCall w s) lab answer (answers-alike w lab s e answer)
+
 -- a series that the direct call accepts is archived
 pub answered-archived : (w : ℕ) (c : Cutoffs) (s : List ℕ) → number w c s ≡ 0 → seriesRefusal w c s ≡ 0
 unfolding number allReasons seriesRefusal seriesReasons series.reasons lengthReasons orderReasons formReasons series.blockReasons series.sizeReasons series.valueReasons adjustmentReasons
@@ -84,8 +90,11 @@ archive-keeps =
     record {
       readBack = series-reads-back;
       writtenBack = archive-again;
-      sameNumber = λ w lab s answer e. alike-returned (testingCall (archivedFile w lab s e) (ownTests s)) (seriesCall w s) lab answer (answers-alike w lab s e answer);
-      sameBytes = λ w lab s answer e. alike-written (testingCall (archivedFile w lab s e) (ownTests s)) (seriesCall w s) lab answer (answers-alike w lab s e answer);
+      sameNumber = λ w lab s lent answer e. rw (archive-left w lab s lent e) (archived-number w lab s answer (archived-series w lab s lent e));
+      sameBytes = λ w lab s lent answer e. rw (archive-left w lab s lent e) (archived-bytes w lab s answer (archived-series w lab s lent e));
+      left = archive-left;
+      archivedNumber = archived-number;
+      archivedBytes = archived-bytes;
       front = archiving-front;
       rest = archiving-rest;
       lengths = archiving-length;

@@ -3,7 +3,7 @@ use Prim.Native.Nat.{ℕ}
 use mathlib.Core.Bool.{Bool, true, cond}
 use mathlib.Core.List.{List, [], _∷_, _++_}
 use lib.Dec.{eqb}
-use lib.ListN.{length, replicate}
+use lib.ListN.{length, replicate, take}
 use lib.Seq.{sets}
 use Rattle.arithmetic.specs.declared.Marked.{Marked}
 use Rattle.arithmetic_cutoffs.specs.declared.Cutoffs.{Cutoffs}
@@ -62,6 +62,10 @@ module _ (w : ℕ) (lab s : List ℕ) where
 
   abbrev pub archivingWritten : List ℕ → List ℕ
   archivingWritten lent = callWritten (archivingCall w s) lab lent
+
+  -- the archive as the writer left it: as many of the lent bytes, from the front, as it returned
+  abbrev pub leftArchive : List ℕ → List ℕ
+  leftArchive lent = take (archivingReturned lent) (archivingWritten lent)
 
 -- ---- the test from an archive
 -- "the reader's test marks the scaling steps from them": Φ and Φ_A times sigma2, each P divided by it, from the records in residual units

@@ -4,7 +4,7 @@ use native.Mathlib.Omega.{arith}
 use mathlib.Core.Path.{refl, sym, ap, _∙_, subst}
 use denote.Ref.{now}
 use Rattle.tests.specs.KenwardRoger.{Run}
-use Rattle.records_archive_test.specs.joints.Read.{SecondRead}
+use Rattle.records_archive_test.specs.joints.Read.{SecondOnSheet}
 use Rattle.records_archive_reader.proofs.ReaderLaws.{archive-sizes-taken}
 use Rattle.records_archive_test.proofs.TestLaws.{archive-p, inverse-fits, square-fits, adjusted-fits, squares-fit, sigma2-stands, archive-run-is}
 use borrow.Author.Needs.{needs}
@@ -81,7 +81,7 @@ tests-with-requires c κs =
     let a = c .before .before .before .before .before .before .before .before .before .before .before .before .args in
     let g = c .before .before .before .before .before .before .before .before .before .before .before .before .pre in
     let f = archive-sizes-taken (now (a .s)) _ (g .0 .taken) (c .before .before .before .before .before .before .before .archive-sizes .ensures) in
-    (f .parameters, f .coefficients, subst (λ (p : ℕ). SecondRead p (now (a .t)) (now (a .numbers))) (sym (archive-p (now (a .s)) _ (c .before .before .before .before .before .before .before .archive-sizes .ensures))) (g .1))
+    (f .parameters, f .coefficients, subst (λ (p : ℕ). SecondOnSheet p (now (a .t)) (now (a .numbers))) (sym (archive-p (now (a .s)) _ (c .before .before .before .before .before .before .before .archive-sizes .ensures))) (g .1))
 
 returns : tie.Need-returns
 returns c =

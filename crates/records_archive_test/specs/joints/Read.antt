@@ -12,13 +12,13 @@ use Rattle.records.specs.readers.Archive as archive
 use Rattle.records.specs.readers.SecondFile as second
 use Rattle.records_sheet.specs.joints.Sheet.{sheetAfter}
 
-pub record ArchiveRead (s : List ℕ) (sheet : List Float) : Type 0 where
+pub record ArchiveOnSheet (s : List ℕ) (sheet : List Float) : Type 0 where
   pub taken : archive.refusal s ≡ 0
   pub numbers : sheet ≡ sheetAfter (length sheet) (archive.kinds s) s (count s)
   pub room : slotCount archiveTable ≤ length sheet
 
 -- p is the archive's coefficients
-pub record SecondRead (p : ℕ) (t : List ℕ) (sheet : List Float) : Type 0 where
+pub record SecondOnSheet (p : ℕ) (t : List ℕ) (sheet : List Float) : Type 0 where
   pub taken : second.refusal p t ≡ 0
   pub numbers : sheet ≡ sheetAfter (length sheet) (second.kinds t) t (count t)
   pub room : slotCount testTable ≤ length sheet
