@@ -41,8 +41,8 @@ use tests::Entry;
 use tests_entries::answer_of;
 use tests_entries::no_entry;
 
-// What is lent at the panel: a place for each of the 835 cells that its limit allows and some more, six squares of 24 rows of 24, and six parts of 24 rows of 6.
-pub const PANEL_CELLS: usize = 1024;
+// What is lent at the panel: a place for each of the cells that its limit allows, six squares of 24 rows of 24, and six parts of 24 rows of 6. All of it is cleared in each call.
+pub const PANEL_CELLS: usize = 835;
 
 pub const PANEL_WORK: usize = 3456;
 
