@@ -1,4 +1,6 @@
 // From IE on, on small matrices by value: W, U, Φ_A, and the two refusals that are left.
+#![tactic(auto)]
+
 ghost use Rattle.std.specs.Prelude.{◌≡◌, ◌≤◌};
 ghost use Rattle.algebra.specs.Kind.{floats};
 ghost use Rattle.algebra.specs.Jacobi.{State, jacobi};

@@ -1,4 +1,6 @@
 // The Kenward–Roger covariance adjustment as one call, over lent slices, for any number of specimens.
+#![tactic(auto)]
+
 ghost use Rattle.std.specs.Prelude.{◌≡◌, [], ◌+◌, ◌*◌, ◌≤◌, length};
 ghost use Rattle.algebra_large.specs.joints.Slab.{Holds};
 ghost use Rattle.adjustment.specs.Blocks.{places_before};

@@ -1,4 +1,6 @@
 // The matrices of the adjustment in response units, times sigma2 or over it; and the search for a number that is not finite.
+#![tactic(auto)]
+
 ghost use Rattle.std.specs.Prelude.{◌≡◌, false, ◌||◌, ℕ, ◌≤◌};
 ghost use Rattle.algebra.specs.Kind.{marks};
 ghost use Rattle.algebra.specs.Fold.{fold};

@@ -1,4 +1,6 @@
 // Σ, and H_r = G_r S, in the lent slice: n rows and columns with the row stride s. A row of a G stands in a local of 24 cells, so a longer row is made in parts.
+#![tactic(auto)]
+
 ghost use Rattle.std.specs.Prelude.{◌≡◌, true, [], ◌+◌, ◌*◌, ◌≤◌, ◌<◌, length, get_or};
 ghost use Rattle.std.specs.Float.{nan};
 ghost use Rattle.arithmetic.specs.Numbers.{plusZero};

@@ -1,4 +1,6 @@
 // From the Hs and the Os to IE: the small Ps, Qs and IE by value. k is the number of matrices.
+#![tactic(auto)]
+
 ghost use Rattle.std.specs.Prelude.{◌≡◌, ◌+◌, ◌*◌, ◌<◌, ◌≤◌, length};
 ghost use Rattle.algebra.specs.Kind.{floats};
 ghost use Rattle.algebra.specs.Product.{product};

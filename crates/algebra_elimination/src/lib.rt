@@ -1,4 +1,6 @@
 // A X = B and the inverse on plain numbers. A and B stand side by side in one matrix: the n columns of A, then those of B.
+#![tactic(auto)]
+
 ghost use Rattle.std.specs.Prelude.{◌≡◌, ◌+◌, ◌<◌, ◌≤◌};
 ghost use Rattle.algebra.specs.Kind.{floats, zero_of};
 ghost use Rattle.algebra.specs.Table.{row};

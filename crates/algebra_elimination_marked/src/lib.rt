@@ -1,4 +1,6 @@
 // Elimination of A X = B on marked numbers. A and B stand side by side in one matrix: the n columns of A, then those of B, w in all.
+#![tactic(auto)]
+
 ghost use Rattle.std.specs.Prelude.{◌≡◌, cond, ◌+◌, ◌<◌, ◌≤◌};
 ghost use Rattle.arithmetic.specs.Numbers.{is_larger};
 ghost use Rattle.algebra.specs.Kind.{marks, zero_of};

@@ -1,4 +1,6 @@
 // Jacobi's sweeps on plain numbers. No mark is kept, so the state's `seen` stays +0.
+#![tactic(auto)]
+
 ghost use Rattle.std.specs.Prelude.{◌≡◌, ◌+◌, ◌<◌, ◌≤◌};
 ghost use Rattle.algebra.specs.Kind.{floats};
 ghost use Rattle.algebra_jacobi.specs.joints.Starts.{mirrored_cell};

@@ -1,5 +1,7 @@
 // Jacobi's rotations on marked numbers. The matrix and the vectors travel as one value, `both`. The products of the rotation test are marked steps too:
 // the state's `seen` counts theirs. Its value stays +0, so that its mark alone is handed out, as `inside`.
+#![tactic(auto)]
+
 ghost use Rattle.std.specs.Prelude.{◌≡◌, ◌+◌, ◌<◌, ◌≤◌, true};
 ghost use Rattle.algebra.specs.Table.{table};
 ghost use Rattle.algebra.specs.Kind.{marks, zero_of};

@@ -1,4 +1,6 @@
 // Cholesky, in the place of the matrix that is factored: n rows and columns at a, with stride s.
+#![tactic(auto)]
+
 ghost use Rattle.std.specs.Prelude.{◌≡◌, ◌+◌, ◌*◌, ◌<◌, ◌≤◌, length};
 ghost use Rattle.algebra.specs.Kind.{floats};
 ghost use Rattle.algebra.specs.Cholesky.{less_dot, below_diagonal, cholesky_column, cholesky_to, notPositive, cholesky_refused, lower};

@@ -1,4 +1,6 @@
 // Small matrices of plain numbers, by value: the cells up to the sizes given are in use, and zeros stand past them.
+#![tactic(auto)]
+
 ghost use Rattle.std.specs.Prelude.{◌≡◌, cond, eqb, ◌≤◌};
 ghost use Rattle.arithmetic.specs.Numbers.{one};
 ghost use Rattle.algebra.specs.Table.{blank};

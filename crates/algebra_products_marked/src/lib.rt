@@ -1,4 +1,6 @@
 // Small matrices of marked numbers, by value: the cells up to the sizes given are in use, and zeros stand past them.
+#![tactic(auto)]
+
 ghost use Rattle.std.specs.Prelude.{◌≡◌, ◌≤◌, ◌<◌};
 ghost use Rattle.algebra.specs.Kind.{marks};
 ghost use Rattle.algebra.specs.Product.{cell, product, transpose, like_cells, trace, plus_cells, minusCells, times_number, over_number};
@@ -28,7 +30,7 @@ pub fn cell(a: [[Marked; 6]; 6], b: [[Marked; 6]; 6], inner: usize, i: usize, j:
 }
 
 // What a product needs of its right factor, made once for all rows: the marks of each column, joined, and whether every number is finite.
-#[derive(Drop)]
+#[derive(Clone, Copy)]
 struct Columns {
     marks: [Mark; 6],
     finite: bool,

@@ -1,10 +1,12 @@
 // The lab's small numbers, as document 01 writes them.
+#![tactic(auto)]
+
 ghost use Rattle.std.specs.Prelude.{◌≡◌};
 ghost use Rattle.arithmetic_cutoffs.specs.Cutoffs.{documentCutoffs};
 
 // The lab's small numbers, which go by value through every function that looks at one: a2 and d; V0 and V2; the divisor of div; qρ − 1; df near 2;
 // the smallest eigenvalue of IE; what joins its diagonal; the factor of the rotation test; the cap of a component's df.
-#[derive(Drop)]
+#[derive(Clone, Copy)]
 pub struct Cutoffs {
     pub moment: f64,
     pub leading: f64,

@@ -1,4 +1,6 @@
 // The marked steps: + - * / and the square root on numbers that carry their mark.
+#![tactic(auto)]
+
 ghost use Rattle.std.specs.Prelude.{◌≡◌};
 ghost use Rattle.arithmetic.specs.Numbers.{plusZero};
 ghost use Rattle.arithmetic.specs.Marks.{no_mark, join_marks, in_range, stepMark, lostProduct, lostQuotient, reported, with_product, marked, given, is_inside, markedAdd, markedSub, markedMul, markedDiv, markedRoot, markedMagnitude, also, also_mark};

@@ -1,5 +1,7 @@
 // The C functions of the office application: a lab's table and record bytes in, answer bytes or an archive out, and the number that refuses, 0 or the archive's length for none. Each function without a table is the one with it, at
 // the built-in table.
+#![tactic(auto)]
+
 ghost use Rattle.std.specs.Prelude.{◌≡◌};
 ghost use Rattle.records.specs.readers.CutoffTable.{built_in_table};
 ghost use Rattle.records.specs.calls.KenwardRogerCall as series;

@@ -1,4 +1,6 @@
 // Program `pullseason`: reads a season's file from standard input, to its end, and prints of each series, when it is closed, its tests and the worst of the latest twenty, or the number that refuses it.
+#![tactic(auto)]
+
 ghost use Rattle.std.specs.Prelude.{◌≡◌, ◌≤◌, length, replicate, false};
 ghost use Rattle.records_season.specs.joints.SeasonCame.{season_as, SeasonArrives, piece_room};
 ghost use Rattle.records.specs.text.Season.{latest_count};

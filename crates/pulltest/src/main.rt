@@ -1,4 +1,6 @@
 // Program `pulltest`: reads a record file from standard input, to its end, and prints its tests, or the number that refuses it.
+#![tactic(auto)]
+
 ghost use Rattle.std.specs.Prelude.{◌≡◌, length};
 ghost use Rattle.records_pieces.specs.joints.Arrived.{arrived_as, Arrives};
 

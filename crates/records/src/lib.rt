@@ -1,5 +1,7 @@
 // The record files: their definitions (specs/), and what the table of kinds says of one kind.
 
+#![tactic(auto)]
+
 // The numbers of the kinds of record, as specs/format/KindNumbers.antt has them.
 pub const KIND_X: usize = 1;
 
@@ -55,7 +57,7 @@ pub const PANEL_LIMIT: usize = 24;
 pub const KEPT_LENGTH: usize = 16384;
 
 // Which file it is: a Kenward and Roger series, a Satterthwaite test, an archive, or the second file that is lent with one.
-#[derive(Drop)]
+#[derive(Clone, Copy)]
 pub enum Shape {
     Series,
     Test,
@@ -64,7 +66,7 @@ pub enum Shape {
 }
 
 // What a field of a record is: an index below a limit, a number of its own, or unused.
-#[derive(Drop)]
+#[derive(Clone, Copy)]
 pub enum Field {
     Index(usize),
     Number,
@@ -72,14 +74,14 @@ pub enum Field {
 }
 
 // What the eight value bytes of a record are: the bits of an f64, or a number in the first of them and zeros.
-#[derive(Drop)]
+#[derive(Clone, Copy)]
 pub enum Value {
     Float,
     FirstByte,
 }
 
 // What the records of a kind have in each field, and whether a cell may be absent, as Z's may.
-#[derive(Drop)]
+#[derive(Clone, Copy)]
 pub struct Kind {
     pub count: Field,
     pub row: Field,
@@ -89,7 +91,7 @@ pub struct Kind {
 }
 
 // The sizes of a file: specimens, coefficients, columns of Z, blocks, thetas, contrast rows, Satterthwaite's parameters; whether there are weights, and β_H.
-#[derive(Drop)]
+#[derive(Clone, Copy)]
 pub struct Sizes {
     pub specimens: usize,
     pub coefficients: usize,

@@ -1,4 +1,6 @@
 // The answer bytes: an entry is 24 bytes, and an answer seven entries.
+#![tactic(auto)]
+
 ghost use Rattle.std.specs.Prelude.{◌≡◌, ◌+◌, ◌≤◌, length};
 ghost use Rattle.std.proofs.lemmas.List.Edits.{sets};
 ghost use Rattle.tests.specs.Answer.{is_given};

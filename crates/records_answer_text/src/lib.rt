@@ -1,5 +1,7 @@
 // What the program prints of a run, as bytes in a lent slice of any length. Each part is put at a cursor, and the cursor after it is returned, so that lines can follow one another; no other byte changes.
 // The parts that a program needs for lines of its own are public.
+#![tactic(auto)]
+
 ghost use Rattle.std.specs.Prelude.{◌≡◌, [], ◌∷◌, ◌+◌, ◌≤◌, ◌<◌, length};
 ghost use Rattle.records.specs.text.Text.{digit, hexadecimal, decimal, number_text, mark_text, fields_text, coefficient_line, test_line, coefficient_lines, refusal_text, lines_text, text_of};
 ghost use Rattle.records_answer_text.specs.joints.Cursor.{Put, lines_room};

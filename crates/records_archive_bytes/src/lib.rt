@@ -1,4 +1,6 @@
 // The bytes of an archive: the cells of its table one after another, kind after kind, each matrix by the same functions.
+#![tactic(auto)]
+
 ghost use Rattle.std.specs.Prelude.{◌≡◌, ◌+◌, ◌*◌, ◌<◌, ◌≤◌, length};
 ghost use Rattle.std.proofs.lemmas.List.Edits.{sets};
 ghost use Rattle.records.specs.format.Kinds.{width};

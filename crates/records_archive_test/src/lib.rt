@@ -1,4 +1,6 @@
 // The test from an archive: the bytes of an archive and of a second file in, a number and seven entries out.
+#![tactic(auto)]
+
 ghost use Rattle.std.specs.Prelude.{◌≡◌, ◌≤◌, cond, eqb, length};
 ghost use Rattle.records.specs.format.Layout.{answer_bytes, answer_length};
 ghost use Rattle.records.specs.readers.CutoffTable.{built_in_table};

@@ -1,4 +1,6 @@
 // The archive's writer: the bytes of a series in, the bytes of its archive out. No test is made.
+#![tactic(auto)]
+
 ghost use Rattle.std.specs.Prelude.{◌≡◌, ◌*◌, ◌≤◌, length, cond, eqb};
 ghost use Rattle.std.proofs.lemmas.List.Edits.{sets};
 ghost use Rattle.records.specs.readers.Series.{sizes, kinds};

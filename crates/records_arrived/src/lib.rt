@@ -1,4 +1,6 @@
 // What `pulltest` prints of a file that arrived in pieces.
+#![tactic(auto)]
+
 ghost use Rattle.std.specs.Prelude.{◌≡◌, ◌*◌, ◌≤◌, length};
 ghost use Rattle.arithmetic_cutoffs.specs.Cutoffs.{documentCutoffs};
 ghost use Rattle.records.specs.text.Text.{text_of};

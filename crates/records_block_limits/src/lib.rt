@@ -1,4 +1,6 @@
 // Whether the blocks of a series keep document 01's limits, and fit Z's columns and the thetas.
+#![tactic(auto)]
+
 ghost use Rattle.std.specs.Prelude.{◌≡◌, ℕ, ◌≤◌};
 ghost use Rattle.adjustment.specs.Blocks.{block_at};
 ghost use Rattle.records.specs.format.Scan.{any};

@@ -1,4 +1,6 @@
 // Whether a contrast is all zero, off the sheet of the file that sends it: a series, or the second file of an archive.
+#![tactic(auto)]
+
 ghost use Rattle.std.specs.Prelude.{◌≡◌, ◌+◌, ◌*◌, ◌≤◌, length};
 ghost use Rattle.records_sheet.specs.joints.Sheet.{Small};
 ghost use Rattle.records_contrast.specs.joints.Contrast.{nonzeros, zero_contrast_in};

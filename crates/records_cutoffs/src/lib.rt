@@ -1,4 +1,6 @@
 // A lab's table of cutoffs: whether it is accepted, and the nine numbers that it holds.
+#![tactic(auto)]
+
 ghost use Rattle.std.specs.Prelude.{◌≡◌, ◌<◌, length};
 ghost use Rattle.records.specs.format.File.{count};
 ghost use Rattle.records.specs.readers.CutoffTable.{floorOf, badCutoff, badTable, cutoffsIn};

@@ -1,4 +1,6 @@
 // The whole Satterthwaite call: the bytes of a file in, a number and an entry out (ddf).
+#![tactic(auto)]
+
 ghost use Rattle.std.specs.Prelude.{◌≡◌, false, cond, eqb, ◌≤◌, length, replicate};
 ghost use Rattle.arithmetic.specs.Numbers.{plusZero};
 ghost use Rattle.tests.specs.Satterthwaite.{satterthwaite as test_of};

@@ -1,4 +1,6 @@
 // The fields of the records of a file.
+#![tactic(auto)]
+
 ghost use Rattle.std.specs.Prelude.{◌≡◌, ◌<◌};
 ghost use Rattle.records.specs.format.Scan.{any};
 ghost use Rattle.records.specs.format.File.{count, kind_of, row_of, column_of, padding_of, count_of, bits_of, first_value_of, value_of, notFinite};

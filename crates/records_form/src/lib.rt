@@ -1,4 +1,6 @@
 // Whether a file is a rising list of records that its call reads: a length, the order, a kind, an unused field, an index, a cell twice, missing or beyond the sizes. It may be any of the four files (`Shape`).
+#![tactic(auto)]
+
 ghost use Rattle.std.specs.Prelude.{◌≡◌, false, ◌≤◌, length, replicate};
 ghost use Rattle.algebra.specs.Reasons.{first};
 ghost use Rattle.records.specs.format.Kinds.{kinds_of, limits};

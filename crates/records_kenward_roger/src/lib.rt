@@ -1,4 +1,6 @@
 // The whole Kenward–Roger call: the bytes of a file in, a number and seven entries out (kenward_roger).
+#![tactic(auto)]
+
 ghost use Rattle.std.specs.Prelude.{◌≡◌, cond, ◌*◌, ◌≤◌, length, eqb};
 ghost use Rattle.arithmetic_cutoffs.specs.Cutoffs.{documentCutoffs};
 ghost use Rattle.records.specs.format.Layout.{answer_bytes, answer_length};

@@ -1,4 +1,6 @@
 // The tables of kinds, as code: what sizes leave each kind, and what a field may hold, for any of the four files (`Shape`).
+#![tactic(auto)]
+
 ghost use Rattle.std.specs.Prelude.{◌≡◌, cond};
 ghost use Rattle.records.specs.format.Kinds.{holds, width, indexOf, valueHolds, by_row_and_column, by_row, by_count, alone, absent_is_zero, by_block, unread, kindAt, kenward_roger_kinds, satterthwaiteKinds, archive_kinds, test_kinds, kinds_of, limits};
 

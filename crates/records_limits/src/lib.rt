@@ -1,4 +1,6 @@
 // Which records a call refuses: a kind that it does not read, a nonzero unused field, an index past a limit, or a cell beyond the file's sizes.
+#![tactic(auto)]
+
 ghost use Rattle.std.specs.Prelude.{◌≡◌, not, ◌||◌, eqb, ◌<◌};
 ghost use Rattle.records.specs.format.Scan.{any};
 ghost use Rattle.records.specs.format.Kinds.{kinds_of, valueHolds};

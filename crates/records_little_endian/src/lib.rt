@@ -1,4 +1,6 @@
 // Numbers in bytes, the lowest byte first: read from a slice, and put into one.
+#![tactic(auto)]
+
 ghost use Rattle.std.specs.Prelude.{◌≡◌, ◌+◌, ◌%◌, ◌≤◌, ◌<◌, length, [], ◌∷◌};
 ghost use Rattle.std.proofs.lemmas.List.Edits.{sets};
 ghost use Rattle.records.specs.format.Bytes.{word, long, bytes_of};

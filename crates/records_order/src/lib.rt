@@ -1,4 +1,6 @@
 // Whether the records of a file rise: by kind, then by the count where it numbers a matrix, then row and column. One pass, with one comparison of whole numbers for a pair.
+#![tactic(auto)]
+
 ghost use Rattle.std.specs.Prelude.{◌≡◌, ◌<◌};
 ghost use Rattle.records.specs.format.File.{count, kind_of};
 ghost use Rattle.records.specs.format.Order.{numbersMatrix, matrixOf, falls};

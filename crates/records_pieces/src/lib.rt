@@ -1,4 +1,6 @@
 // A file that arrives in pieces of any lengths: its first records are kept, as many as the lent bytes have room for, and all are compared with their neighbours, so that a falling pair is seen anywhere in a file of any length.
+#![tactic(auto)]
+
 ghost use Rattle.std.specs.Prelude.{◌≡◌, ℕ, ◌+◌, ◌*◌, ◌<◌, ◌≤◌, ◌||◌, ltb, length};
 ghost use Rattle.records.specs.format.Bytes.{byte};
 ghost use Rattle.records_pieces.specs.joints.Arrived.{arrived_as, nothing_yet, with_record, take_record, take_byte, fed, Open};
@@ -6,7 +8,7 @@ ghost use Rattle.records_pieces.specs.joints.Arrived.{arrived_as, nothing_yet, w
 use records_order::key_at;
 
 // How far a file has come: the records that are kept, the bytes of the current record, one more than the last record's key, whether a record fell, and whether there are more records than are kept.
-#[derive(Drop)]
+#[derive(Clone, Copy)]
 pub struct Arrival {
     pub records: usize,
     pub part: usize,

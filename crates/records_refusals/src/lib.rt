@@ -1,4 +1,6 @@
 // The number with which a series is refused before anything is computed, and its numbers in the lent sheet (kenward_roger).
+#![tactic(auto)]
+
 ghost use Rattle.std.specs.Prelude.{◌≡◌, false, cond, ℕ, ◌+◌, ◌*◌, ◌≤◌, length, replicate};
 ghost use Rattle.adjustment.specs.Blocks.{block_at};
 ghost use Rattle.records.specs.format.Kinds.{kinds_of, limits};

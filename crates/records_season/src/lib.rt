@@ -1,5 +1,7 @@
 // A season's file that arrives in pieces of any lengths: each series is judged when the record comes that closes it, and its lines are put at a cursor, then the worst of twenty. What is kept does not grow with the
 // season or with a series: of the open series what records_pieces keeps of a file, and twenty F's, each with whether it is given.
+#![tactic(auto)]
+
 ghost use Rattle.std.specs.Prelude.{◌≡◌, Bool, not, List, [], ◌∷◌, ◌++◌, ℕ, ◌+◌, ◌*◌, ◌/◌, ◌%◌, ◌≤◌, ◌<◌, eqb, length, replicate, Float};
 ghost use Rattle.arithmetic_cutoffs.specs.Cutoffs.{documentCutoffs};
 ghost use Rattle.records.specs.format.Bytes.{byte};

@@ -1,4 +1,6 @@
 // The reader of the second file that is lent with an archive: what refuses its bytes, and its numbers in the lent sheet.
+#![tactic(auto)]
+
 ghost use Rattle.std.specs.Prelude.{◌≡◌, false, ◌≤◌, length, replicate};
 ghost use Rattle.arithmetic.specs.Numbers.{plusZero};
 ghost use Rattle.records.specs.format.Kinds.{test_table};

@@ -1,4 +1,6 @@
 // The blocks of a Kenward–Roger series as its record file gives them, and whether each has its parameter count (kenward_roger).
+#![tactic(auto)]
+
 ghost use Rattle.std.specs.Prelude.{◌≡◌, ℕ, ◌≤◌, ◌<◌};
 ghost use Rattle.algebra.specs.Table.{row};
 ghost use Rattle.adjustment.specs.Blocks.{no_block, block_at};

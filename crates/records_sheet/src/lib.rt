@@ -1,4 +1,6 @@
 // A slot for each cell that a file's sizes leave its kinds: the cells that a file names twice, those that it names and those that it misses, and the number in each. A file is any of the four (`Shape`).
+#![tactic(auto)]
+
 ghost use Rattle.std.specs.Prelude.{◌≡◌, false, ◌+◌, ◌≤◌, ◌<◌, length, replicate};
 ghost use Rattle.arithmetic.specs.Numbers.{plusZero};
 ghost use Rattle.records.specs.format.Scan.{any};

@@ -1,4 +1,6 @@
 // Parts of a sheet of numbers as arrays and tables.
+#![tactic(auto)]
+
 ghost use Rattle.std.specs.Prelude.{◌≡◌, ◌+◌, ◌*◌, ◌≤◌, length};
 ghost use Rattle.records_sheet_parts.specs.joints.Parts.{numbers_at, cells_at, stack_at};
 

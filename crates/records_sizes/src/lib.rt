@@ -1,4 +1,6 @@
 // The sizes of a file, from the largest indices of its records, by which of the four it is (`Shape`).
+#![tactic(auto)]
+
 ghost use Rattle.std.specs.Prelude.{◌≡◌, max};
 ghost use Rattle.algebra.specs.Table.{row};
 ghost use Rattle.records.specs.format.Kinds.{kind_numbers};

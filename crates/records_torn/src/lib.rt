@@ -1,4 +1,6 @@
 // Torn specimens are left out of a series: on its sheet the rows of X and of Z and the weights of the others move to the front of their parts.
+#![tactic(auto)]
+
 ghost use Rattle.std.specs.Prelude.{◌≡◌, ℕ, ◌+◌, ◌≤◌, length, get_or};
 ghost use Rattle.std.specs.Float.{nan};
 ghost use Rattle.algebra_large.specs.joints.Slab.{put_row};

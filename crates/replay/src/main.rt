@@ -1,6 +1,8 @@
 // Replays a list of calls: reads it from standard input, answers each line by the library and compares the answer with the one that is stored in the line.
 // A line is the name of its call, a blank, the call's files in hexadecimal digits (`-` for an empty file) with commas between, a blank, and the stored answer, to the line's end. vectors/README.md says what an answer looks like.
 // Of each line that differs it prints the number, from 1, the call and the library's own answer, or what is wrong with the line; at the end, for each call, how many of its lines were answered as stored, and how many lines differ.
+#![tactic(auto)]
+
 mod calls;
 mod calls_with_table;
 mod files;

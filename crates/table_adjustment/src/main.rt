@@ -1,4 +1,6 @@
 // Runs the adjustment and the tests on the series that standard input holds, a file to a line in hexadecimal digits. For each it prints what `pulltest` prints, and of an accepted one Φ_A, each P and W in residual units and the number of rotations.
+#![tactic(auto)]
+
 mod print;
 
 ghost use Rattle.std.specs.Prelude.{◌≡◌, ◌≤◌};

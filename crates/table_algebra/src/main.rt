@@ -1,5 +1,7 @@
 // Runs each algorithm of the algebra on the fixed cases that standard input holds, and prints the bits of every result.
 // A case is 73 words of sixteen hexadecimal digits, each followed by one byte: the algorithm and the sizes, then the 36 cells of A and the 36 of B, row by row.
+#![tactic(auto)]
+
 mod cases;
 mod large_cases;
 mod print;

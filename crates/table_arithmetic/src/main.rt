@@ -1,5 +1,7 @@
 // Runs the square root and the marked steps on the table that standard input holds, and prints each line with its answer.
 // A line has 42 bytes: a word of four letters, two operands as sixteen hexadecimal digits, two marks (1 inside, 0 outside) and a newline.
+#![tactic(auto)]
+
 ghost use Rattle.std.specs.Prelude.{◌≡◌, ◌+◌, ◌<◌, ◌≤◌, length};
 
 use arithmetic::Marked;

@@ -1,4 +1,6 @@
 // Document 01's bench examples (a) to (j): a line for each letter, with what the functions give. (k) is run by adjustment_table, the `pulltest` example by pulltest.
+#![tactic(auto)]
+
 ghost use Rattle.std.specs.Prelude.{◌≤◌};
 
 use adjustment::packing::index_symmat2vec;

@@ -1,4 +1,6 @@
 // Bytes as two hexadecimal digits and words of 64 bits as sixteen, for the programs that read and print tables.
+#![tactic(auto)]
+
 ghost use Rattle.std.specs.Prelude.{◌+◌, ◌*◌, ◌<◌, ◌≤◌, length};
 
 // The value of a hexadecimal digit; 0 for any other byte.

@@ -1,4 +1,6 @@
 // Where each ordered pair of indices is packed, for one to four matrices: 30 lines of n, r, s and the place of Q_rs.
+#![tactic(auto)]
+
 ghost use Rattle.std.specs.Prelude.{◌<◌, ◌≤◌};
 
 use adjustment::packing::index_symmat2vec;

@@ -1,4 +1,6 @@
 // What a test answers: F and the degrees of freedom, each a number or none, the rank and the mark.
+#![tactic(auto)]
+
 ghost use Rattle.std.specs.Prelude.{◌≡◌};
 ghost use Rattle.tests.specs.Answer.{number_of};
 
@@ -7,14 +9,14 @@ use arithmetic::plain::is_nan;
 pub mod both;
 
 // A number, or none where the Rust has NaN: every F and df.
-#[derive(Drop)]
+#[derive(Clone, Copy)]
 pub enum Number {
     Is(f64),
     None,
 }
 
 // The result of one test.
-#[derive(Drop)]
+#[derive(Clone, Copy)]
 pub struct Entry {
     pub f: Number,
     pub df: Number,

@@ -1,2 +1,4 @@
 // The contrast basis (kr_modcomp).
+#![tactic(auto)]
+
 pub mod basis;

@@ -1,4 +1,6 @@
 // The Satterthwaite test (ddf).
+#![tactic(auto)]
+
 pub mod components;
 pub mod pooled;
 pub mod satterthwaite;

@@ -1,4 +1,6 @@
 // The entries of an answer: one that is not in use, and those of a run, with its number.
+#![tactic(auto)]
+
 ghost use Rattle.std.specs.Prelude.{◌≡◌};
 ghost use Rattle.tests.specs.Answer.{no_entry};
 ghost use Rattle.tests.specs.Entries.{run_refusal, run_entries};

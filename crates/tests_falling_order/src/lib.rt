@@ -1,4 +1,6 @@
 // Falling order, ties by index: of singular values, and of eigenvalues.
+#![tactic(auto)]
+
 ghost use Rattle.std.specs.Prelude.{◌≡◌, cond, ◌+◌, ◌<◌, ◌≤◌, eqb};
 ghost use Rattle.tests.specs.Order.{comesBefore, place_in, index_at};
 

@@ -1,4 +1,6 @@
 // The unmarked part of a Kenward–Roger test: from the matrices u_i and W to a1 and a2, and from these to the degrees of freedom and the scaling of F.
+#![tactic(auto)]
+
 ghost use Rattle.std.specs.Prelude.{◌≡◌, ◌≤◌, ◌<◌, [], get_or};
 ghost use Rattle.std.specs.Float.{nan, binary64};
 ghost use Rattle.std.specs.Float.Ieee.{mul};

@@ -1,4 +1,6 @@
 // The Kenward–Roger run: each coefficient alone, then the contrast if one is given (kenward_roger).
+#![tactic(auto)]
+
 ghost use Rattle.std.specs.Prelude.{◌≡◌, ◌≤◌};
 ghost use Rattle.tests.specs.KenwardRoger.{coefficients_to, run_of};
 ghost use Rattle.tests_kr_modcomp.specs.joints.Parts.{scaled_of};
