@@ -1,0 +1,10 @@
+-- `adjustment_adjusted::inverted_of` meets its contract.
+use Rattle.adjustment_adjusted.proofs.PartLaws.{inverted-of-is, made-is}
+use borrow.Author.Rules.{rules}
+use Rattle.adjustment_adjusted.proofs.inverted_of.Goals as goal
+
+pub returns : goal.returns
+returns c =
+    let j = c.jacobi-both in
+    let k = c.args.c in
+    (inverted-of-is k _ _ j.result _ j.ensures.0 _ c.inverted.ensures, made-is k _ _ j.result _ j.ensures.0)

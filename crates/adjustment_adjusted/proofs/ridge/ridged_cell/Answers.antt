@@ -1,0 +1,10 @@
+-- `adjustment_adjusted::ridge::ridged_cell` meets its contract.
+use borrow.Author.Tests.{eq-eqb, ne_eqb}
+use borrow.Author.Rules.{rules}
+use Rattle.adjustment_adjusted.proofs.ridge.ridged_cell.Goals as goal
+
+pub returns-then-i-j : goal.returns-then-i-j
+returns-then-i-j c = rw (eq-eqb _ _ c.if-i-j.true)
+
+pub returns-else-i-j : goal.returns-else-i-j
+returns-else-i-j c = rw (ne_eqb _ _ c.if-i-j.false)

@@ -1,0 +1,45 @@
+-- `adjustment_kr_vcov_adj::precision::sigma_and_precision` meets its contract.
+use Rattle.adjustment_kr_vcov_adj.proofs.PrecisionLaws.{number-nine, number-ten, precision-in}
+use Rattle.adjustment_work.proofs.WorkLaws.{square-held}
+use Rattle.adjustment_work.specs.joints.Work.{zeros}
+use Rattle.adjustment_adjusted.specs.joints.FromInformation.{accepted}
+use Rattle.adjustment_covariance.specs.joints.Lent.{design}
+use Rattle.adjustment.specs.Covariance.{Design}
+use Rattle.algebra_large.specs.joints.Slab.{rows_at}
+use mathlib.Core.Bool.{Bool, cond}
+use mathlib.Core.Path.{◌≡◌, sym, ap, ◌∙◌}
+use native.Mathlib.Omega.{arith}
+use borrow.Author.Rules.{rules}
+use Rattle.adjustment_kr_vcov_adj.proofs.precision.sigma_and_precision.Goals as goal
+
+pub build_sigma_g-requires : goal.build_sigma_g-requires
+build_sigma_g-requires c =
+    let g = c.requires in
+    let l = c.clear_all.auto.0 in
+    (square-held _ _ 0 _ _ g.0 (omega arith) (omega arith) c.square_at-a.ensures.0, g.2)
+
+pub returns-then-fill_factor : goal.returns-then-fill_factor
+unfolding accepted
+returns-then-fill_factor c =
+    let d : Design = design c.args.n (rows_at c.args.zs 0 c.args.n c.args.columns c.args.z.now) c.args.weighted c.args.weights.now c.args.blocks c.args.count c.args.theta in (
+      number-nine _ d _ _ _ _ _ c.requires.0 c.requires.1 c.clear_all.ensures c.square_at-a.ensures.0 c.build_sigma_g.ensures c.fill_factor.ensures.0 _ c.fill_factor.ensures.1 c.if-fill_factor.true,
+      c.clear_all-then-fill_factor.ensures ∙ ap zeros (c.fill_factor.auto.0 ∙ c.build_sigma_g.auto.0 ∙ c.clear_all.auto.0),
+    )
+
+pub returns-then-fill_inverse : goal.returns-then-fill_inverse
+unfolding accepted
+returns-then-fill_inverse c =
+    let d : Design = design c.args.n (rows_at c.args.zs 0 c.args.n c.args.columns c.args.z.now) c.args.weighted c.args.weights.now c.args.blocks c.args.count c.args.theta in (
+      ap (λ (b : Bool). cond b 10 0) (sym c.if-fill_inverse.true)
+          ∙ number-ten _ d _ _ _ _ _ c.requires.0 c.requires.1 c.clear_all.ensures c.square_at-a.ensures.0 c.build_sigma_g.ensures c.fill_factor.ensures.0 _ c.fill_inverse.result c.fill_factor.ensures.1 c.if-fill_factor.false c.fill_inverse.ensures.1,
+      c.clear_all-then-fill_inverse.ensures ∙ ap zeros (c.fill_inverse.auto.0 ∙ c.fill_factor.auto.0 ∙ c.build_sigma_g.auto.0 ∙ c.clear_all.auto.0),
+    )
+
+pub returns : goal.returns
+unfolding accepted
+returns c =
+    let d : Design = design c.args.n (rows_at c.args.zs 0 c.args.n c.args.columns c.args.z.now) c.args.weighted c.args.weights.now c.args.blocks c.args.count c.args.theta in (
+      ap (λ (b : Bool). cond b 10 0) (sym c.if-fill_inverse.false)
+          ∙ number-ten _ d _ _ _ _ _ c.requires.0 c.requires.1 c.clear_all.ensures c.square_at-a.ensures.0 c.build_sigma_g.ensures c.fill_factor.ensures.0 _ c.fill_inverse.result c.fill_factor.ensures.1 c.if-fill_factor.false c.fill_inverse.ensures.1,
+      precision-in _ d _ _ _ _ _ c.requires.0 c.requires.1 c.clear_all.ensures c.square_at-a.ensures.0 c.build_sigma_g.ensures c.fill_factor.ensures.0 _ _ _ _ c.fill_inverse.ensures.0 c.fill_precision.ensures c.clear_rest.ensures,
+    )

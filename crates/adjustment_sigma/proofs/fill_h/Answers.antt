@@ -1,0 +1,46 @@
+-- `adjustment_sigma::fill_h` meets its contract.
+use Prim.Native.Nat.{◌≤◌, ◌-◌}
+use mathlib.Core.Path.{◌≡◌, refl, ◌∙◌}
+use mathlib.Core.List.{[]}
+use lib.ListN.{length}
+use Rattle.algebra.proofs.FoldLaws.{fold_start, fold_end}
+use Rattle.algebra_large.specs.joints.Slab.{rows_at, put_rows}
+use Rattle.algebra_large.proofs.SlabLaws.{fill_more}
+use Rattle.algebra_large.proofs.ProductLaws.{row-apart-whole}
+use Rattle.adjustment.specs.Covariance.{g_rows}
+use Rattle.adjustment.specs.Information.{h_rows}
+use Rattle.adjustment_covariance.specs.joints.Lent.{design}
+use Rattle.adjustment_covariance.proofs.GainLaws.{h-cells}
+use native.Mathlib.Omega.{arith}
+use Rattle.adjustment_sigma.proofs.fill_h.Goals as goal
+
+pub loop-i-init : goal.loop-i-init
+unfolding put_rows
+loop-i-init c = (omega arith, refl, fold_start _ _ _)
+
+pub start-a-requires : goal.start-a-requires
+start-a-requires c = (record { wide = c.requires.0.0.wide; fits = omega (arith, c.requires.0.0.fits) }, c.loop-i-test.true)
+
+pub h_row-requires : goal.h_row-requires
+h_row-requires c =
+    let g = c.requires in (
+      (omega arith, record { wide = g.0.1.wide; fits = omega (arith, g.0.1.fits) }, row-apart-whole _ _ g.0.2 _ _ _ c.loop-i-test.true g.0.0.wide c.start-a.ensures.0),
+      (g.1.0, g.1.1, c.loop-i-test.true),
+    )
+
+pub loop-i-preserved : goal.loop-i-preserved
+loop-i-preserved c =
+    let v = c.loop-i.invariant in
+    let g = c.requires in (
+      omega arith,
+      c.h_row.auto.0 ∙ v.1,
+      fill_more _ _ _ _ _ _ _ _ _ _ c.start-a.ensures.0 v.2 c.h_row.ensures
+          (λ j l. h-cells _ _ _ _ _ _ _ _ _ g.0.2 g.0.0.wide c.loop-i-test.true v.2 j l),
+    )
+
+pub shape_of-work : goal.shape_of-work
+shape_of-work c = c.loop-i.invariant.1
+
+pub returns : goal.returns
+unfolding put_rows
+returns c = fold_end _ _ _ _ _ _ c.loop-i.invariant.0 c.loop-i-test.false c.loop-i.invariant.2

@@ -1,0 +1,19 @@
+use Prim.Native.Nat.{◌≤◌, ◌-◌}
+use mathlib.Core.Path.{◌≡◌, refl, ◌∙◌}
+use lib.ListN.{length}
+use Rattle.algebra.proofs.FoldLaws.{fold_start, fold_end}
+use Rattle.algebra_large.specs.joints.Slab.{put_rows, rows_at}
+use Rattle.algebra_large.specs.joints.Steps.{gained_to}
+use Rattle.algebra_large.proofs.SlabLaws.{fill_more, rows-apart-at}
+use Rattle.arithmetic.specs.Numbers.{plusZero}
+use Rattle.algebra.specs.Kind.{floats}
+use Rattle.algebra.specs.Product.{product}
+use Rattle.algebra_large.proofs.ProductLaws.{row-apart-one, row-holds, row-apart-whole, product-row}
+use native.Mathlib.Omega.{arith}
+use Rattle.algebra_large_products.proofs.whole.product.Given as goal
+
+abbrev pub invariant-loop-i : goal.invariant-loop-i
+invariant-loop-i l = (l.i ≤ l.r) × (length l.work ≡ length l.initial.work) × (l.work ≡ put_rows l.s l.d l.i l.c (product floats l.r l.c l.r l.n l.c (rows_at l.t l.p l.r l.n l.initial.work) (rows_at l.u l.q l.n l.c l.initial.work)) l.initial.work)
+
+abbrev pub decreases-loop-i : goal.decreases-loop-i
+decreases-loop-i l = l.r - l.i

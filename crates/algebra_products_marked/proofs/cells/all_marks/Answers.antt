@@ -1,0 +1,26 @@
+-- `algebra_products_marked::cells::all_marks` meets its contract.
+use Prim.Native.Nat.{◌≤◌, ◌<◌, ◌-◌}
+use mathlib.Core.Path.{◌≡◌}
+use Rattle.algebra.specs.Small.{allMarks}
+use Rattle.algebra.specs.Fold.{fold}
+use Rattle.algebra.proofs.FoldLaws.{fold_start, fold_next}
+use Rattle.algebra_products.proofs.LoopLaws.{mark_step, rows_to, rows_none, rows_more, rows_end}
+use borrow.Author.Rules.{rules}
+use native.Mathlib.Omega.{arith}
+use Rattle.algebra_products_marked.proofs.cells.all_marks.Goals as goal
+
+pub loop-i-init : goal.loop-i-init
+loop-i-init c = (omega arith, rows_none _ _ _)
+
+pub loop-j-init : goal.loop-j-init
+loop-j-init c = (omega arith, omega arith, fold_start _ _ _)
+
+pub loop-j-preserved : goal.loop-j-preserved
+loop-j-preserved c = (omega arith, omega arith, fold_next _ _ _ _ _ _ (omega arith) c.loop-j.invariant.2 c.also-all.ensures)
+
+pub loop-i-preserved : goal.loop-i-preserved
+loop-i-preserved c = (omega arith, rows_more _ _ _ _ _ _ _ c.loop-i.invariant.1 c.loop-j.invariant.2 c.loop-j.invariant.1 c.loop-j-test.false)
+
+pub returns : goal.returns
+unfolding allMarks
+returns c = rows_end _ _ _ _ _ _ c.loop-i.invariant.0 c.loop-i-test.false c.loop-i.invariant.1

@@ -1,0 +1,10 @@
+-- `algebra_products_marked::product` meets its contract.
+use native.Mathlib.Omega.{arith}
+use borrow.Author.Rules.{rules}
+use Rattle.algebra_products_marked.proofs.product.Goals as goal
+
+pub product_rows-requires : goal.product_rows-requires
+product_rows-requires c = (omega arith, omega arith, omega arith, c.column_marks-right.ensures.0, c.column_marks-right.ensures.1)
+
+pub returns : goal.returns
+returns c = c.product_rows.ensures

@@ -1,0 +1,8 @@
+-- `arithmetic_steps::div` meets its contract.
+use Rattle.arithmetic.specs.Marks.{markedDiv}
+use borrow.Author.Rules.{rules}
+use Rattle.arithmetic_steps.proofs.div.Goals as goal
+
+pub returns : goal.returns
+unfolding markedDiv
+returns c = rw (c.lost_quotient.ensures, c.step_mark.ensures)

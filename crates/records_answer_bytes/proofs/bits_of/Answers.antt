@@ -1,0 +1,13 @@
+-- `records_answer_bytes::bits_of` meets its contract.
+use borrow.Author.Rules.{rules}
+use mathlib.Core.Path.{sym, ap, ◌∙◌}
+use Rattle.records.specs.format.Layout.{bits_of}
+use Rattle.records_answer_bytes.proofs.bits_of.Goals as goal
+
+pub returns-in-Is : goal.returns-in-Is
+unfolding bits_of
+returns-in-Is c = c.to_bits.ensures ∙ sym (ap bits_of c.in-Is.is)
+
+pub returns-in-None : goal.returns-in-None
+unfolding bits_of
+returns-in-None c = sym (ap bits_of c.in-None.is)

@@ -1,0 +1,46 @@
+-- `records_answer_bytes::put_answer` meets its contract: after i turns the first i entries stand, and seven fill the answer.
+use Prim.Native.Nat.{ℕ, ◌≤◌, ◌<◌, ◌-◌, ◌*◌}
+use mathlib.Core.Path.{◌≡◌, refl, ap, ◌∙◌}
+use mathlib.Core.Bool.{false}
+use mathlib.Core.List.{List}
+use native.Mathlib.Omega.{arith}
+use borrow.Author.Rules.{rules}
+use lib.Ieee.{nan}
+use lib.ListN.{length, get_or, take}
+use lib.Seq.{sets, take_all}
+use Rattle.tests.specs.declared.Number.TheVariants.{Is}
+use Rattle.tests.specs.declared.Entry.{Entry}
+use Rattle.records.specs.format.Layout.{answer_bytes, entryBytes}
+use Rattle.records_little_endian.proofs.StoreLaws.{sets-all}
+use Rattle.records_answer_bytes.proofs.LayoutLaws.{length-answer, store}
+use Rattle.records_answer_bytes.proofs.put_answer.Goals as goal
+
+-- what would be read past the end of the entries
+abbrev past : Entry
+past = record { f = Is nan; df = Is nan; rank = 0; inside = false }
+
+pub loop-i-init : goal.loop-i-init
+unfolding answer_bytes
+loop-i-init c = (omega arith, search rules, c.requires, c.requires, refl)
+
+pub loop-i-preserved : goal.loop-i-preserved
+loop-i-preserved c =
+    let g = c.args in
+    let p = c.put_entry in
+    let k : length p.new.0 ≡ length l.loop.a = p.auto.0 in
+    let h : c.loop-i.i < length g.t2 = omega arith in (
+      omega arith,
+      c.loop-i.invariant.1,
+      c.loop-i.invariant.2,
+      omega arith,
+      p.ensures ∙ ap (λ (a : List ℕ). sets a (24 * c.loop-i.i) (entryBytes (get_or g.t2 c.loop-i.i past))) c.loop-i.invariant.4 ∙ store g.a.now g.t2 c.loop-i.i past h,
+    )
+
+pub returns : goal.returns
+returns c =
+    let g = c.args in
+    let e : c.loop-i.i ≡ 7 = omega arith in
+    let x : length g.t2 ≡ 7 = c.loop-i.invariant.1 in
+    let all : take c.loop-i.i g.t2 ≡ g.t2 = take_all c.loop-i.i g.t2 (omega arith) in
+    let k : length (answer_bytes g.t2) ≡ length g.a.now = let y = length-answer g.t2 in let z = c.loop-i.invariant.2 in omega arith in
+    c.loop-i.invariant.4 ∙ ap (λ (es : List Entry). sets g.a.now 0 (answer_bytes es)) all ∙ sets-all g.a.now (answer_bytes g.t2) k

@@ -1,0 +1,19 @@
+-- `records_answer_text::put_number` meets its contract.
+use native.Mathlib.Omega.{arith}
+use mathlib.Core.Path.{◌≡◌, sym, ap, ◌∙◌}
+use Rattle.records.specs.text.Text.{codes, hexadecimal, number_text}
+use Rattle.records_answer_text.proofs.CursorLaws.{named}
+use borrow.Author.Rules.{rules}
+use Rattle.records_answer_text.proofs.put_number.Goals as goal
+
+pub returns-in-Is : goal.returns-in-Is
+unfolding number_text
+returns-in-Is c =
+    let is : hexadecimal 16 c.to_bits.result ≡ number_text c.args.number = ap (hexadecimal 16) c.to_bits.ensures ∙ sym (ap number_text c.in-Is.is) in
+    named c.put_hexadecimal.ensures is (omega arith)
+
+pub returns-in-None : goal.returns-in-None
+unfolding codes number_text
+returns-in-None c =
+    let is : codes "none" ≡ number_text c.args.number = sym (ap number_text c.in-None.is) in
+    named c.put_text.ensures is (omega arith)

@@ -1,0 +1,51 @@
+-- `records_archive_test::judge` meets its contract.
+use Prim.Native.Nat.{ℕ}
+use mathlib.Core.Path.{◌≡◌, refl, sym, ap, ◌∙◌}
+use lib.Ieee.{of_bits}
+use Rattle.records.specs.readers.Archive as archive
+use Rattle.records.specs.readers.SecondFile as second
+use Rattle.records_archive_test.proofs.TestLaws.{archive-sheet, tests-sheet, archive-taken, second-taken, archive-p}
+use Rattle.records_archive_test.proofs.NumberLaws.{archive-refuses, second-refuses, tests-answer}
+use borrow.Author.Rules.{rules}
+use Rattle.records_archive_test.proofs.judge.Goals as goal
+
+-- the archive's reader takes it
+archive-accepted : (c : tie.Else1) → archive.refusal c.before.before.before.before.before.before.before.before.args.s.now ≡ 0
+archive-accepted c = sym c.before.before.before.refusal.ensures.0 ∙ c.if1.false
+
+-- and the second file's takes that, for the archive's coefficients
+second-accepted : (c : tie.Else2) → second.refusal (archive.coefficients c.before.before.before.before.before.before.before.before.before.before.before.before.before.before.before.args.s.now) c.before.before.before.before.before.before.before.before.before.before.before.before.before.before.before.args.t.now ≡ 0
+second-accepted c =
+    let a = c.before.before.before.before.before.before.before.before.before.before.before.before.before.before.before.args in
+    ap (λ (p : ℕ). second.refusal p a.t.now) (sym (archive-p a.s.now _ c.before.before.before.before.before.before.archive-sizes.ensures)) ∙ sym c.before.before.before.refusal2.ensures.0 ∙ c.if2.false
+
+pub refusal-first-requires : goal.refusal-first-requires
+unfolding of_bits
+refusal-first-requires c = ((refl, archive-sheet), (refl, archive-sheet))
+
+pub returns-then-first-ne0 : goal.returns-then-first-ne0
+returns-then-first-ne0 c =
+    let a = c.args in
+    archive-refuses a.c a.s.now a.t.now _ _ c.refusal-first.ensures.0 c.if-first-ne0.true c.no_entry.ensures
+
+pub refusal-second-requires : goal.refusal-second-requires
+unfolding of_bits
+refusal-second-requires c = ((refl, tests-sheet), (refl, tests-sheet))
+
+pub returns-then-second-ne0 : goal.returns-then-second-ne0
+returns-then-second-ne0 c =
+    let a = c.args in
+    second-refuses a.c a.s.now a.t.now (archive-accepted c) _ _ _ (archive-p a.s.now _ c.archive_sizes-z.ensures) c.refusal-second.ensures.0 c.if-second-ne0.true c.no_entry-then-second-ne0.ensures
+
+pub tests_from-es-requires : goal.tests_from-es-requires
+tests_from-es-requires c =
+    let a = c.args in
+    let e = c.refusal-first.ensures.1 c.if-first-ne0.false in
+    let f = c.refusal-second.ensures.1 c.if-second-ne0.false in
+    (archive-taken a.s.now 512 _ archive-sheet (archive-accepted c) e, second-taken (archive.coefficients a.s.now) a.t.now 64 _ tests-sheet (second-accepted c) f)
+
+pub returns : goal.returns
+returns c =
+    let a = c.args in
+    let e = c.tests_from-es.ensures in
+    tests-answer a.c a.s.now a.t.now (archive-accepted c) (second-accepted c) _ _ _ _ e.1 e.0 c.answer_of.ensures.0 c.answer_of.ensures.1

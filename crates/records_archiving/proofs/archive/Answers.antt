@@ -1,0 +1,19 @@
+-- `records_archiving::archive` meets its contract.
+use mathlib.Core.Path.{sym, ◌∙◌}
+use Rattle.records.specs.readers.CutoffTable.{built_in_table}
+use Rattle.records.proofs.readers.CutoffLaws.{built-in-accepted, built-in-numbers}
+use Rattle.records_archiving.proofs.ArchivingLaws.{other-lent, own-call}
+use borrow.Author.Rules.{rules}
+use Rattle.records_archiving.proofs.archive.Goals as goal
+
+pub returns-then-lent-ne-ARCHIVE_LENGTH : goal.returns-then-lent-ne-ARCHIVE_LENGTH
+returns-then-lent-ne-ARCHIVE_LENGTH c =
+    let a = c.args in
+    other-lent built_in_table a.records.now a.archive.now c.if-lent-ne-ARCHIVE_LENGTH.true
+
+pub returns : goal.returns
+returns c =
+    let a = c.args in
+    let f = c.archive_panel.ensures in
+    let cutoffs = c.document_cutoffs.ensures ∙ sym built-in-numbers in
+    own-call built_in_table a.records.now a.archive.now c.if-lent-ne-ARCHIVE_LENGTH.false built-in-accepted _ cutoffs _ _ f.0 f.1

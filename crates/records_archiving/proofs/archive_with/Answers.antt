@@ -1,0 +1,26 @@
+-- `records_archiving::archive_with` meets its contract.
+use mathlib.Core.Path.{sym, ◌∙◌}
+use Rattle.records.proofs.readers.CutoffLaws.{table-length}
+use Rattle.records_archiving.proofs.ArchivingLaws.{other-lent, refused-table, own-call}
+use borrow.Author.Rules.{rules}
+use Rattle.records_archiving.proofs.archive_with.Goals as goal
+
+pub returns-then-archive-ne-ARCHIVE_LENGTH : goal.returns-then-archive-ne-ARCHIVE_LENGTH
+returns-then-archive-ne-ARCHIVE_LENGTH c =
+    let a = c.args in
+    other-lent a.table.now a.records.now a.archive.now c.if-archive-ne-ARCHIVE_LENGTH.true
+
+pub returns-then-bad_table : goal.returns-then-bad_table
+returns-then-bad_table c =
+    let a = c.args in
+    refused-table a.table.now a.records.now a.archive.now c.if-archive-ne-ARCHIVE_LENGTH.false (sym c.bad_table.ensures ∙ c.if-bad_table.true)
+
+pub cutoffs_in-requires : goal.cutoffs_in-requires
+cutoffs_in-requires c = table-length (start c).args.table.now (sym c.bad_table.ensures ∙ c.if-bad_table.false)
+
+pub returns : goal.returns
+returns c =
+    let a = (start c).args in
+    let f = c.archive_panel.ensures in
+    let table = sym c.bad_table.ensures ∙ c.if-bad_table.false in
+    own-call a.table.now a.records.now a.archive.now c.if-archive-ne-ARCHIVE_LENGTH.false table _ c.cutoffs_in.ensures _ _ f.0 f.1

@@ -1,0 +1,24 @@
+-- `records_ddf::fill_entry` meets its contract.
+use mathlib.Core.Path.{◌∙◌}
+use Rattle.records.specs.format.Layout.{entryBytes}
+use Rattle.records.specs.calls.SatterthwaiteCall.{number, entry}
+use Rattle.records.proofs.calls.CallLaws.{kept-bytes, filled-bytes}
+use Rattle.records_ddf.proofs.Judged.{entry-fills}
+use borrow.Author.Rules.{rules}
+use Rattle.records_ddf.proofs.fill_entry.Reads as reads
+use Rattle.records_ddf.proofs.fill_entry.Lts as lts
+use Rattle.records_answer_bytes.proofs.put_entry.Reads as put-entry-reads
+use Rattle.records_ddf.proofs.judge.Reads as judge-reads
+use Rattle.records_ddf.proofs.fill_entry.Goals as goal
+
+pub returns-then-number-ne0 : goal.returns-then-number-ne0
+returns-then-number-ne0 c =
+    let a = c.args in
+    let e = c.judge-e.ensures.1 in
+    (e, kept-bytes _ (number a.c a.records.now) (entryBytes (entry a.c a.records.now)) a.answer.now e c.if-number-ne0.true)
+
+pub returns : goal.returns
+returns c =
+    let a = c.args in
+    let j = c.judge-e.ensures in
+    filled-bytes _ (number a.c a.records.now) (entryBytes (entry a.c a.records.now)) a.answer.now _ j.1 c.if-number-ne0.false (c.put_entry.ensures ∙ entry-fills _ _ _ c.requires j.0)

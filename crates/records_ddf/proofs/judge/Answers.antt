@@ -1,0 +1,76 @@
+-- `records_ddf::judge` meets its contract.
+use native.Mathlib.Omega.{arith}
+use mathlib.Core.Path.{◌≡◌, refl, sym, ap, ◌∙◌}
+use lib.ListN.{length}
+use lib.Ieee.{of_bits}
+use Rattle.tests.specs.Satterthwaite.{Outcome, satterthwaite as test}
+use Rattle.records.specs.format.Kinds.{kinds_of}
+use Rattle.records.specs.format.File.{count}
+use Rattle.records.specs.readers.Parameters.{kinds, refusal}
+use Rattle.records.specs.calls.SatterthwaiteCall.{outcome as fileOutcome}
+use Rattle.records_sheet.specs.joints.Sheet.{sheet_after}
+use Rattle.records.proofs.readers.Limits.{slot-count}
+use Rattle.records_sheet.proofs.Sheets.{length-sheet}
+use Rattle.records_form.proofs.FormLaws.{FormedSizes}
+use Rattle.records_ddf.specs.joints.Gathered.{inputs_from}
+use Rattle.records_ddf.proofs.Inputs.{outcome-is}
+use Rattle.records_ddf.proofs.Judged.{accepted-sizes, judged-early, judged-late, judged-taken}
+use borrow.Author.Rules.{rules}
+use Rattle.algebra.specs.Kind.{marks}
+use Rattle.records.specs.declared.Shape.TheVariants.{Test}
+use Rattle.records_ddf.proofs.judge.Goals as goal
+
+-- the file is not refused: its sizes are small, and the sheet holds its numbers
+accepted : (c : tie.Else1) → refusal c.before.before.before.before.before.before.before.args.s.now ≡ 0
+accepted c = sym c.before.before.before.refusal.ensures.0 ∙ c.if1.false
+
+sizes-at-hand : (c : tie.After-parameter-sizes) → FormedSizes Test 1 c.before.before.before.before.before.before.before.before.args.s.now c.parameter-sizes.result
+sizes-at-hand c = accepted-sizes _ _ (accepted c.before) c.parameter-sizes.ensures
+
+sheet-at-hand : (c : tie.Else1) → c.before.before.before.refusal.new.1.1.0 ≡ sheet_after 256 (kinds c.before.before.before.before.before.before.before.args.s.now) c.before.before.before.before.before.before.before.args.s.now (count c.before.before.before.before.before.before.before.args.s.now)
+sheet-at-hand c = c.before.before.before.refusal.ensures.1 c.if1.false
+
+-- what was tested is what the file sends
+outcome-at-hand : (c : tie.After-test) → test marks c.before.before.before.before.before.before.before.before.before.before.before.before.before.args.c (inputs_from c.before.before.before.before.before.before.before.before.before.refusal.new.1.1.0 c.before.before.before.before.before.parameter-sizes.result) ≡ fileOutcome c.before.before.before.before.before.before.before.before.before.before.before.before.before.args.c c.before.before.before.before.before.before.before.before.before.before.before.before.before.args.s.now
+outcome-at-hand c =
+    let s = c.before.before.before.before.before.before.before.before.before.before.before.before.before.args.s.now in
+    let t = accepted-sizes s _ (accepted c.before.before.before.before.before.before) refl in
+    let f = t.fit in
+    let h = slot-count 1 Test in
+    outcome-is s t.within 256 (omega arith) c.before.before.before.before.before.before.before.before.before.before.before.before.before.args.c _ _ c.before.before.before.before.before.parameter-sizes.ensures (sheet-at-hand c.before.before.before.before.before.before)
+
+-- src/lib.rt:81:9
+pub refusal-early-requires : goal.refusal-early-requires
+unfolding of_bits
+refusal-early-requires c =
+    let h = slot-count 1 Test in
+    ((refl, omega arith), (refl, omega arith))
+
+-- src/lib.rt:84:9
+pub returns-then-early-ne0 : goal.returns-then-early-ne0
+returns-then-early-ne0 c = judged-early _ _ _ _ c.refusal-early.ensures.0 c.if-early-ne0.true c.no_entry.ensures
+
+-- src/lib.rt:87:18
+pub first_slots-firsts-requires : goal.first_slots-firsts-requires
+first_slots-firsts-requires c = (sizes-at-hand c).small
+
+-- src/lib.rt:89:9
+pub test-e-requires : goal.test-e-requires
+test-e-requires c =
+    let t = sizes-at-hand c in
+    let f = t.fit in
+    let h = slot-count 1 Test in
+    let e = ap length (sheet-at-hand c) ∙ length-sheet 256 (kinds c.args.s.now) c.args.s.now (count c.args.s.now) in
+    ((t.coefficients, t.contrasts, t.parameters), (c.first_slots-firsts.ensures, omega arith))
+
+-- src/lib.rt:92:9
+pub returns-then-refused : goal.returns-then-refused
+returns-then-refused c =
+    let o = outcome-at-hand c in
+    judged-late _ _ _ (accepted c) (sym (ap (λ (y : Outcome). y.refused) o) ∙ sym c.test-e.ensures.1 ∙ c.if-refused.true) c.no_entry-then-refused.ensures
+
+-- src/lib.rt:75:1
+pub returns : goal.returns
+returns c =
+    let o = outcome-at-hand c in
+    judged-taken _ _ _ (accepted c) (sym (ap (λ (y : Outcome). y.refused) o) ∙ sym c.test-e.ensures.1 ∙ c.if-refused.false) (c.test-e.ensures.0 ∙ ap (λ (y : Outcome). y.entry) o)

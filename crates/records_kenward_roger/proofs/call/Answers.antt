@@ -1,0 +1,21 @@
+-- `records_kenward_roger::call` meets its contract.
+use mathlib.Core.Path.{refl, sym, ◌∙◌}
+use Rattle.records.specs.readers.CutoffTable.{built_in_table}
+use Rattle.records.proofs.readers.CutoffLaws.{built-in-accepted, built-in-numbers}
+use Rattle.records.specs.calls.KenwardRogerCall.{number, series_call}
+use Rattle.records.proofs.calls.CallLaws.{other_length, own-answer}
+use borrow.Author.Rules.{rules}
+use Rattle.records_kenward_roger.proofs.call.Goals as goal
+
+pub returns-then-answer-ne-ANSWER_LENGTH : goal.returns-then-answer-ne-ANSWER_LENGTH
+returns-then-answer-ne-ANSWER_LENGTH c =
+    let a = c.args in
+    other_length (series_call 24 a.records.now) built_in_table a.answer.now c.if-answer-ne-ANSWER_LENGTH.true
+
+pub returns : goal.returns
+unfolding number
+returns c =
+    let a = c.args in
+    let f = c.fill_answer.ensures in
+    let cutoffs = c.document_cutoffs.ensures ∙ sym built-in-numbers in
+    own-answer (series_call 24 a.records.now) built_in_table a.answer.now refl c.if-answer-ne-ANSWER_LENGTH.false built-in-accepted _ cutoffs _ _ f.0 f.1

@@ -1,0 +1,28 @@
+-- `records_kenward_roger::call_with` meets its contract.
+use mathlib.Core.Path.{refl, sym, ◌∙◌}
+use Rattle.records.proofs.readers.CutoffLaws.{table-length}
+use Rattle.records.specs.calls.KenwardRogerCall.{number, series_call}
+use Rattle.records.proofs.calls.CallLaws.{other_length, other-table, own-answer}
+use borrow.Author.Rules.{rules}
+use Rattle.records_kenward_roger.proofs.call_with.Goals as goal
+
+pub returns-then-answer-ne-ANSWER_LENGTH : goal.returns-then-answer-ne-ANSWER_LENGTH
+returns-then-answer-ne-ANSWER_LENGTH c =
+    let a = c.args in
+    other_length (series_call 24 a.records.now) a.table.now a.answer.now c.if-answer-ne-ANSWER_LENGTH.true
+
+pub returns-then-bad_table : goal.returns-then-bad_table
+returns-then-bad_table c =
+    let a = c.args in
+    other-table (series_call 24 a.records.now) a.table.now a.answer.now refl c.if-answer-ne-ANSWER_LENGTH.false (sym c.bad_table.ensures ∙ c.if-bad_table.true)
+
+pub cutoffs_in-requires : goal.cutoffs_in-requires
+cutoffs_in-requires c = table-length (start c).args.table.now (sym c.bad_table.ensures ∙ c.if-bad_table.false)
+
+pub returns : goal.returns
+unfolding number
+returns c =
+    let a = (start c).args in
+    let f = c.fill_answer.ensures in
+    let table = sym c.bad_table.ensures ∙ c.if-bad_table.false in
+    own-answer (series_call 24 a.records.now) a.table.now a.answer.now refl c.if-answer-ne-ANSWER_LENGTH.false table _ c.cutoffs_in.ensures _ _ f.0 f.1

@@ -1,0 +1,156 @@
+-- `records_kenward_roger::kenward_roger_modcomp_data` meets its contract.
+use Prim.Native.Nat.{ℕ, ◌*◌, ◌≤◌}
+use native.Mathlib.Nat.{mul-le-mul}
+use native.Mathlib.Omega.{arith}
+use mathlib.Core.Path.{◌≡◌, refl, sym, ◌∙◌}
+use lib.Seq.{length-take-le}
+use Rattle.adjustment.specs.Adjusted.{Adjustment}
+use Rattle.records_refusals.specs.joints.Room.{SeriesShort}
+use Rattle.records_kenward_roger.proofs.Calls.{few-blocks, few-thetas, few-coefficients, run-within, few-weights, weighed-ends, in_order, start-within, sigma2-place, theta-ends, phi-ends}
+use Rattle.records_kenward_roger.proofs.Calls.{holds-is, lent_is, number-is-own, adjusted-is, answer-same}
+use borrow.Author.Rules.{rules}
+use Rattle.records_kenward_roger.proofs.kenward_roger_modcomp_data.Goals as goal
+
+-- ---- what holds at them: the series that is lent, and its specimens are few
+abbrev lent : (c : tie.Start) → SeriesShort c.args.limit c.args.s.now c.args.z c.args.firsts.now c.args.sheet.now
+lent c = c.requires.0
+
+within : (c : tie.Start) → c.args.n ≤ c.args.limit
+within c = run-within _ _ _ _ _ (lent c) _ c.requires.1
+
+few-specimens : (c : tie.Start) → c.args.n ≤ 256
+few-specimens c = let x = within c in let m = (lent c).most in omega arith
+
+square-small : (n : ℕ) → n ≤ 256 → n * n ≤ 65536
+square-small n l = mul-le-mul l l
+
+squares-within : (n m : ℕ) → n ≤ m → n * n ≤ m * m
+squares-within n m l = mul-le-mul l l
+
+same-most : {a b : ℕ} → a ≡ b → a ≤ b
+same-most e = omega arith
+
+-- the series, from where its parts are lent
+abbrev lent_at : (c : tie.After-vcov-adj16-with-pw-arg2) → let a = (start-of-cells (squares (parts c))).args in SeriesShort a.limit a.s.now a.z a.firsts.now a.sheet.now
+lent_at c = lent (start-of-cells (squares (parts c)))
+
+pub overflow_mul-squares : goal.overflow_mul-squares
+overflow_mul-squares c = let y = square-small c.args.n (few-specimens c) in omega arith
+
+pub overflow_mul-squares-2 : goal.overflow_mul-squares-2
+overflow_mul-squares-2 c = let y = square-small c.args.n (few-specimens c) in omega arith
+
+pub overflow_mul-parts : goal.overflow_mul-parts
+overflow_mul-parts c = let m = few-specimens c in omega arith
+
+pub overflow_add-weighed : goal.overflow_add-weighed
+overflow_add-weighed c =
+    let x = start-within _ _ _ _ _ (lent c) 5 (omega arith) in
+    let y = x.1 in
+    let m = few-weights _ _ _ _ _ (lent c) _ c.requires.1 _ c.given.ensures in
+    let l = (lent c).most in
+    omega arith
+
+pub blocks_of-blocks-requires : goal.blocks_of-blocks-requires
+blocks_of-blocks-requires c = few-blocks _ _ _ _ _ (lent c)
+
+pub three_at-theta-requires : goal.three_at-theta-requires
+three_at-theta-requires c = let h = lent c in (theta-ends _ _ _ _ _ h, few-thetas _ _ _ _ _ h)
+
+pub cells_at-phi-requires : goal.cells_at-phi-requires
+cells_at-phi-requires c =
+    let h = lent c in
+    let few = few-coefficients _ _ _ _ _ h in
+    (few, few, phi-ends _ _ _ _ _ h)
+
+pub slice_bounds-vcov_adj16_with_pw-end : goal.slice_bounds-vcov_adj16_with_pw-end
+slice_bounds-vcov_adj16_with_pw-end c =
+    let y = squares-within c.args.n c.args.limit (within c) in
+    let r = c.requires.2 in
+    omega arith
+
+pub slice_bounds-vcov_adj16_with_pw-end-2 : goal.slice_bounds-vcov_adj16_with_pw-end-2
+slice_bounds-vcov_adj16_with_pw-end-2 c = sym (length-take-le _ _ (slice-relend-prefix-vcov-adj16-with-pw c))
+
+pub slice_bounds-vcov_adj16_with_pw-end-3 : goal.slice_bounds-vcov_adj16_with_pw-end-3
+slice_bounds-vcov_adj16_with_pw-end-3 c =
+    let b = start-of-cells c in
+    let x = within b in
+    let r = b.pre.3 in
+    omega arith
+
+pub slice_bounds-vcov_adj16_with_pw-end-4 : goal.slice_bounds-vcov_adj16_with_pw-end-4
+slice_bounds-vcov_adj16_with_pw-end-4 c = sym (length-take-le _ _ (slice-relend-prefix-vcov-adj16-with-pw-2 c))
+
+pub offset_bounds-sheet-x : goal.offset_bounds-sheet-x
+offset_bounds-sheet-x c = let x = start-within _ _ _ _ _ (lent_at c) 1 (omega arith) in let y = x.1 in omega arith
+
+pub slice_bounds-vcov_adj16_with_pw-count : goal.slice_bounds-vcov_adj16_with_pw-count
+slice_bounds-vcov_adj16_with_pw-count c = in_order _ _ _ _ _ (lent_at c) 1 (omega arith)
+
+pub slice_bounds-vcov_adj16_with_pw-start : goal.slice_bounds-vcov_adj16_with_pw-start
+slice_bounds-vcov_adj16_with_pw-start c = in_order _ _ _ _ _ (lent_at c) 1 (omega arith)
+
+pub slice_bounds-vcov_adj16_with_pw-end-5 : goal.slice_bounds-vcov_adj16_with_pw-end-5
+slice_bounds-vcov_adj16_with_pw-end-5 c = (start-within _ _ _ _ _ (lent_at c) 2 (omega arith)).0
+
+pub offset_bounds-sheet-random : goal.offset_bounds-sheet-random
+offset_bounds-sheet-random c = let x = start-within _ _ _ _ _ (lent_at c) 2 (omega arith) in let y = x.1 in omega arith
+
+pub slice_bounds-vcov_adj16_with_pw-count-2 : goal.slice_bounds-vcov_adj16_with_pw-count-2
+slice_bounds-vcov_adj16_with_pw-count-2 c = in_order _ _ _ _ _ (lent_at c) 2 (omega arith)
+
+pub slice_bounds-vcov_adj16_with_pw-start-2 : goal.slice_bounds-vcov_adj16_with_pw-start-2
+slice_bounds-vcov_adj16_with_pw-start-2 c = in_order _ _ _ _ _ (lent_at c) 2 (omega arith)
+
+pub slice_bounds-vcov_adj16_with_pw-end-6 : goal.slice_bounds-vcov_adj16_with_pw-end-6
+slice_bounds-vcov_adj16_with_pw-end-6 c = (start-within _ _ _ _ _ (lent_at c) 3 (omega arith)).0
+
+pub offset_bounds-sheet-weights : goal.offset_bounds-sheet-weights
+offset_bounds-sheet-weights c = let x = start-within _ _ _ _ _ (lent_at c) 5 (omega arith) in let y = x.1 in omega arith
+
+pub slice_bounds-vcov_adj16_with_pw-end-7 : goal.slice_bounds-vcov_adj16_with_pw-end-7
+slice_bounds-vcov_adj16_with_pw-end-7 c =
+    let q = weighed (squares c) in
+    let b = q in
+    weighed-ends _ _ _ _ _ (lent b) _ b.pre.1 _ q.given.ensures
+
+pub offset_bounds-sheet-variance : goal.offset_bounds-sheet-variance
+offset_bounds-sheet-variance c = let x = start-within _ _ _ _ _ (lent_at c) 7 (omega arith) in let y = x.1 in omega arith
+
+pub bounds-sheet-variance : goal.bounds-sheet-variance
+bounds-sheet-variance c = sigma2-place _ _ _ _ _ (lent_at c)
+
+pub vcov_adj16_with_pw-requires : goal.vcov_adj16_with_pw-requires
+vcov_adj16_with_pw-requires c =
+    let d = squares c in
+    let q = d in
+    let b = q in
+    let h = lent b in
+    let eb = d.before.before.blocks-of.ensures.0 in
+    let own = same-most (slice-aggregate-vcov-adj16-with-pw c) in
+    let narrow = same-most (slice-aggregate-vcov-adj16-with-pw-2 c) in (
+      record { high = omega arith; few = few-coefficients _ _ _ _ _ h; squares = own; parts = omega (arith, narrow) },
+      holds-is _ _ _ _ _ h _ b.pre.1,
+      lent_is _ _ _ _ _ h _ b.pre.1 _ q.given.ensures _ eb,
+    )
+
+pub returns : goal.returns
+returns c =
+    let d = squares c in
+    let q = d in
+    let b = q in
+    let eb = d.before.before.blocks-of.ensures.0 in
+    let et = d.before.three-at.ensures in
+    let ep = d.cells_at.ensures in
+    let em = q.given.ensures in
+    let r = c.vcov_adj16_with_pw.ensures in
+    let en = number-is-own _ _ _ _ _ (lent b) _ b.pre.1 _ em _ eb b.args.c _ _ et ep _ refl in
+    let ea = adjusted-is _ _ _ _ _ (lent b) _ b.pre.1 _ em _ eb b.args.c _ _ et ep in
+    record {
+      number = r.0 ∙ en;
+      phi_a = answer-same (λ (t : Adjustment). t.phi_a) _ _ _ _ _ r.1.1.1.0 ea;
+      ps = answer-same (λ (t : Adjustment). t.ps) _ _ _ _ _ r.1.1.1.1.0 ea;
+      w = answer-same (λ (t : Adjustment). t.w) _ _ _ _ _ r.1.1.1.1.1.0 ea;
+      rotations = answer-same (λ (t : Adjustment). t.rotations) _ _ _ _ _ r.1.1.1.1.1.1 ea;
+    }

@@ -1,0 +1,7 @@
+-- `records_order::numbers_matrix` meets its contract.
+use Rattle.records.specs.format.Order.{numbersMatrix}
+use Rattle.records_order.proofs.numbers_matrix.Goals as goal
+
+pub returns : goal.returns
+unfolding numbersMatrix
+returns c = cc

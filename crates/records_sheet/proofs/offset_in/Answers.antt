@@ -1,0 +1,48 @@
+-- `records_sheet::offset_in` meets its contract.
+use Prim.Native.Nat.{◌+◌, ◌*◌, ◌<◌}
+use mathlib.Core.Path.{◌≡◌}
+use native.Mathlib.Omega.{arith}
+use Rattle.records.specs.format.Cells.{offset}
+use Rattle.records.proofs.format.Slots.{offset-below}
+use Rattle.records_sheet.proofs.Bounds.{two-widths, slots-bound}
+use borrow.Author.Rules.{rules}
+use Rattle.records_sheet.proofs.offset_in.Reads as reads
+use Rattle.records_sheet.proofs.offset_in.Lts as lts
+use Rattle.records_kinds.proofs.width.Reads as width-reads
+use Rattle.records_sheet.proofs.offset_in.Goals as goal
+
+is-offset : (c : tie.After-width2) → (c.before.before.args.n * c.before.width.result + c.before.before.args.r) * c.width2.result + c.before.before.args.c ≡ offset c.before.before.args.k c.before.before.args.n c.before.before.args.r c.before.before.args.c
+unfolding offset
+is-offset c =
+    let a = c.before.width.ensures in
+    let b = c.width2.ensures in
+    cc
+
+few : (c : tie.After-width2) → offset c.before.before.args.k c.before.before.args.n c.before.before.args.r c.before.before.args.c < 16777216
+few c =
+    let p = c.before.before.requires in
+    let k = c.before.before.args.k in
+    let l = slots-bound k (record { number = p.0; row = p.1; column = p.2 }) in
+    let m = offset-below k c.before.before.args.n c.before.before.args.r c.before.before.args.c (record { number = p.3; row = p.4; column = p.5 }) in
+    omega arith
+
+pub overflow_mul-result : goal.overflow_mul-result
+overflow_mul-result c =
+    let p = c.requires in
+    let a = c.width.ensures in
+    omega (arith, two-widths c.args.n c.width.result (omega arith) (omega arith))
+
+pub overflow_add-result : goal.overflow_add-result
+overflow_add-result c =
+    let p = c.requires in
+    let a = c.width.ensures in
+    omega (arith, two-widths c.args.n c.width.result (omega arith) (omega arith))
+
+pub overflow_mul-result-2 : goal.overflow_mul-result-2
+overflow_mul-result-2 c = let e = is-offset c in let l = few c in omega arith
+
+pub overflow_add-result-2 : goal.overflow_add-result-2
+overflow_add-result-2 c = let e = is-offset c in let l = few c in omega arith
+
+pub returns : goal.returns
+returns c = let e = is-offset c in let l = few c in (e, omega arith)

@@ -1,0 +1,35 @@
+-- `records_sheet::slots_of` meets its contract.
+use mathlib.Core.Path.{◌≡◌}
+use Prim.Native.Nat.{◌*◌, ◌≤◌}
+use native.Mathlib.Omega.{arith}
+use Rattle.records.specs.format.Cells.{slots}
+use Rattle.records_sheet.proofs.Bounds.{two-widths, slots-bound}
+use borrow.Author.Rules.{rules}
+use Rattle.records_sheet.proofs.slots_of.Reads as reads
+use Rattle.records_sheet.proofs.slots_of.Lts as lts
+use Rattle.records_kinds.proofs.width.Reads as width-reads
+use Rattle.records_sheet.proofs.slots_of.Goals as goal
+
+is-slots : (c : tie.After-width3) → c.before.before.width.result * c.before.width2.result * c.width3.result ≡ slots c.before.before.before.args.k
+unfolding slots
+is-slots c =
+    let a = c.before.before.width.ensures in
+    let b = c.before.width2.ensures in
+    let d = c.width3.ensures in
+    cc
+
+few : (c : tie.After-width3) → slots c.before.before.before.args.k ≤ 16777216
+few c = let p = c.before.before.before.requires in slots-bound c.before.before.before.args.k (record { number = p.0; row = p.1; column = p.2 })
+
+pub overflow_mul-result : goal.overflow_mul-result
+overflow_mul-result c =
+    let p = c.requires in
+    let a = c.width.ensures in
+    let b = c.width-2.ensures in
+    omega (arith, two-widths c.width.result c.width-2.result (omega arith) (omega arith))
+
+pub overflow_mul-result-2 : goal.overflow_mul-result-2
+overflow_mul-result-2 c = let e = is-slots c in let l = few c in omega arith
+
+pub returns : goal.returns
+returns c = let e = is-slots c in let l = few c in (e, omega arith)

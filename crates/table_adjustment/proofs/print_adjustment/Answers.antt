@@ -1,0 +1,55 @@
+-- `table_adjustment::print_adjustment` meets its contract.
+use native.Mathlib.Omega.{arith}
+use mathlib.Core.Path.{◌≡◌, sym, ap, ◌∙◌, subst}
+use lib.ListN.{length}
+use Rattle.records.specs.readers.Series.{design}
+use Rattle.records_sheet.specs.joints.Sheet.{Small}
+use Rattle.records_torn.proofs.ShortSheet.{length-short}
+use Rattle.records_refusals.specs.joints.Room.{SeriesRead, SeriesShort}
+use Rattle.records_refusals.proofs.RoomLaws.{at-hand, accepted-small, can-shorten, kept_run, series-short}
+use borrow.Author.Rules.{rules}
+use Rattle.table_adjustment.proofs.print_adjustment.Reads as reads
+use Rattle.table_adjustment.proofs.print_adjustment.Lts as lts
+use Rattle.algebra_products.proofs.zeros.Reads as zeros-reads
+use Rattle.arithmetic_cutoffs.proofs.document_cutoffs.Reads as document-cutoffs-reads
+use Rattle.records_kenward_roger.proofs.kenward_roger_modcomp_data.Reads as kenward-roger-modcomp-data-reads
+use Rattle.records_sheet.proofs.first_slots.Reads as first-slots-reads
+use Rattle.records_sizes.proofs.series_sizes.Reads as series-sizes-reads
+use Rattle.records_torn.proofs.shorten.Reads as shorten-reads
+use Rattle.table_adjustment.proofs.at_most.Reads as at-most-reads
+use Rattle.table_adjustment.proofs.print.matrix.Reads as matrix-reads
+use Rattle.table_adjustment.proofs.print.numbered.Reads as numbered-reads
+use Rattle.table_adjustment.proofs.print.rotations.Reads as rotations-reads
+use Rattle.table_adjustment.proofs.print_adjustment.Goals as goal
+
+-- the series is read, and then its torn specimens are left out
+as_read : (c : tie.After-first-slots) → SeriesRead 24 c.before.before.before.before.args.file.now c.before.series-sizes.result c.first-slots.result c.before.before.before.before.args.sheet.now
+as_read c =
+    let a = c.before.before.before.before.args in
+    at-hand 24 a.file.now _ _ a.sheet.now c.before.before.before.before.requires c.before.series-sizes.ensures c.first-slots.ensures
+
+as_short : (c : tie.After-shorten) → SeriesShort 24 c.before.before.before.before.before.before.before.args.file.now c.before.before.before.before.series-sizes.result c.before.before.before.first-slots.result c.shorten.new.1.1.0
+as_short c = series-short _ _ _ _ _ (as_read c.before.before.before) _ c.shorten.ensures.1
+
+-- as many specimens are left as are run
+left-run : (c : tie.After-shorten) → c.shorten.result ≡ (design c.before.before.before.before.before.before.before.args.file.now).n
+left-run c = kept_run _ _ _ _ _ (as_read c.before.before.before) _ c.shorten.ensures.0.0
+
+slice-aggregate-kenward-roger-modcomp-data-2 :
+    tie.Need-slice-aggregate-kenward-roger-modcomp-data-2
+slice-aggregate-kenward-roger-modcomp-data-2 c = search rules
+
+pub first_slots-firsts-requires : goal.first_slots-firsts-requires
+first_slots-firsts-requires c =
+    let a = c.args in
+    let g = c.requires in
+    subst Small (sym c.series_sizes-z.ensures) (accepted-small 24 g.some a.file.now g.taken g.most)
+
+pub shorten-kept-requires : goal.shorten-kept-requires
+shorten-kept-requires c = can-shorten _ _ _ _ _ (as_read c)
+
+pub kenward_roger_modcomp_data-requires : goal.kenward_roger_modcomp_data-requires
+kenward_roger_modcomp_data-requires c = (as_short c, left-run c, omega arith, omega arith)
+
+pub shape_of-sheet : goal.shape_of-sheet
+shape_of-sheet c = ap length c.shorten-kept.ensures.1 ∙ length-short _ _

@@ -1,0 +1,26 @@
+-- `table_adjustment::print_case` meets its contract.
+use native.Mathlib.Omega.{arith}
+use mathlib.Core.Path.{refl}
+use lib.Ieee.{of_bits}
+use Rattle.records.specs.declared.Shape.TheVariants.{Series}
+use Rattle.records.proofs.readers.Limits.{slot-count}
+use Rattle.records_refusals.proofs.RoomLaws.{series-read}
+use borrow.Author.Rules.{rules}
+use Rattle.table_adjustment.proofs.print_case.Reads as reads
+use Rattle.table_adjustment.proofs.print_case.Lts as lts
+use Rattle.records_refusals.proofs.refusal.Reads as refusal-reads
+use Rattle.table_adjustment.proofs.print_adjustment.Reads as print-adjustment-reads
+use Rattle.table_adjustment.proofs.print_tests.Reads as print-tests-reads
+use Rattle.table_adjustment.proofs.print_case.Goals as goal
+
+pub refusal-requires : goal.refusal-requires
+unfolding of_bits
+refusal-requires c =
+    let e = slot-count 24 Series in
+    record { some = omega arith; most = omega arith; clear = refl; blank = refl; flagged = omega arith; written = omega arith }
+
+pub print_adjustment-requires : goal.print_adjustment-requires
+print_adjustment-requires c =
+    let a = c.args in
+    let r = c.refusal.ensures in
+    series-read 24 a.file.now _ _ _ _ (refusal-requires c c.refusal.lifetimes) r.0 c.if-refusal-eq0.true r.1

@@ -1,0 +1,8 @@
+-- `tests::both::square_one` meets its contract.
+use Rattle.tests.specs.Both.{squareOne}
+use borrow.Author.Rules.{rules}
+use Rattle.tests.proofs.both.square_one.Goals as goal
+
+pub returns : goal.returns
+unfolding squareOne
+returns c = rw (← c.square_root.ensures, ← c.div-t.ensures) c.mul.ensures

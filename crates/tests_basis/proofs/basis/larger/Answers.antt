@@ -1,0 +1,8 @@
+-- `tests_basis::basis::larger` meets its contract.
+use Rattle.tests_basis.proofs.basis.larger.Goals as goal
+
+pub returns-then-s-v : goal.returns-then-s-v
+returns-then-s-v c = rw c.if-s-v.true
+
+pub returns : goal.returns
+returns c = rw c.if-s-v.false

@@ -1,0 +1,14 @@
+use Prim.Native.Nat.{◌≤◌, ◌-◌}
+use mathlib.Core.Path.{◌≡◌, refl}
+use lib.Ieee.{of_bits}
+use Rattle.algebra.specs.Product.{sum}
+use Rattle.algebra.proofs.FoldLaws.{fold_start, fold_next, fold_end}
+use Rattle.tests.specs.PooledDf.{expected}
+use native.Mathlib.Omega.{arith}
+use Rattle.tests_ddf.proofs.pooled.expected.Given as goal
+
+abbrev pub invariant-loop-i : goal.invariant-loop-i
+invariant-loop-i l = (l.i ≤ l.n) × (l.sum ≡ expected l.i l.nu)
+
+abbrev pub decreases-loop-i : goal.decreases-loop-i
+decreases-loop-i l = l.n - l.i

@@ -1,0 +1,13 @@
+-- `tests_ddf::variance::df_of_relative` meets its contract.
+use lib.Ieee.{of_bits}
+use Rattle.tests.specs.VarianceDf.{dfOfRelative}
+use borrow.Author.Rules.{rules}
+use Rattle.tests_ddf.proofs.variance.df_of_relative.Goals as goal
+
+pub returns-then-is_positive : goal.returns-then-is_positive
+unfolding dfOfRelative of_bits
+returns-then-is_positive c = rw (← c.is_positive.ensures, c.if-is_positive.true)
+
+pub returns : goal.returns
+unfolding dfOfRelative
+returns c = rw (← c.is_positive.ensures, c.if-is_positive.false)

@@ -1,0 +1,12 @@
+-- `tests_entries::answer_of` meets its contract.
+use Rattle.tests.specs.Entries.{run_refusal, run_entries}
+use borrow.Author.Rules.{rules}
+use Rattle.tests_entries.proofs.answer_of.Goals as goal
+
+pub returns-then-refused : goal.returns-then-refused
+unfolding run_refusal run_entries
+returns-then-refused c = (rw (c.if-refused.true, c.no_entry.ensures), rw c.if-refused.true)
+
+pub returns : goal.returns
+unfolding run_refusal run_entries
+returns c = (rw c.if-refused.false, rw c.if-refused.false)

@@ -1,0 +1,11 @@
+-- `tests_kr_modcomp::full_rank::theta_entry` meets its contract.
+use Rattle.tests_kr_modcomp.proofs.Parts.{theta-entry-is}
+use borrow.Author.Rules.{rules}
+use Rattle.tests_kr_modcomp.proofs.full_rank.theta_entry.Goals as goal
+
+pub returns : goal.returns
+returns c =
+    let a = c.sandwich-a.ensures in
+    let x = c.solve-x.ensures in
+    let u = c.u_split-all.ensures in
+    (theta-entry-is _ _ _ _ _ _ _ _ _ _ _ _ _ _ _ _ _ _ _ _ a x.0 c.theta_phi-tp.ensures c.theta_seen-before.ensures u.0 u.1 c.wald_entry.ensures, rw (← a) x.1)
