@@ -5,7 +5,7 @@ use Rattle.arithmetic.proofs.plain.magnitude.Goals as goal
 
 pub returns-then-x : goal.returns-then-x
 unfolding of_bits
-returns-then-x c = magnitude-zero _ c.well-formed.0.1 c.if-x.true
+returns-then-x c = magnitude-zero _ c.well_formed.0.1 c.if-x.true
 
 pub returns-then-x-2 : goal.returns-then-x-2
 unfolding of_bits

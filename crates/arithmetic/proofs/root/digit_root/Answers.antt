@@ -6,6 +6,7 @@ use native.Mathlib.Omega.{arith}
 use borrow.Author.Rules.{rules}
 use Rattle.arithmetic.proofs.RootLoop.{Rooting, start, small, taken, passed, ended, same}
 use Rattle.arithmetic.proofs.root.digit_root.Goals as goal
+use Rattle.arithmetic.proofs.root.digit_root.Goals.{then-t-rem, else-t-rem}
 
 pub loop-i-init : goal.loop-i-init
 loop-i-init c = start c.args.a (omega arith)
@@ -35,10 +36,10 @@ pub loop-i-preserved : goal.loop-i-preserved
 loop-i-preserved c =
     let l = c.loop-i in
     let a = c.args.a in
-    ⊎_elim
-    (λ w. same (taken a l.i l.r l.rem l.rest l.invariant (omega arith) w.0.taken) w.1 w.2)
-    (λ w. same (passed a l.i l.r l.rem l.rest l.invariant (omega arith) w.0.left) w.1 w.2)
-    c.if-t-rem.branch
+    elim c.if-t-rem.branch [
+      then-t-rem w ↦ same (taken a l.i l.r l.rem l.rest l.invariant (omega arith) w.if-t-rem.true) w.r-is w.rem-is
+      | else-t-rem w ↦ same (passed a l.i l.r l.rem l.rest l.invariant (omega arith) w.if-t-rem.false) w.r-is w.rem-is
+    ]
 
 pub returns : goal.returns
 returns c = ended _ _ _ _ _ (omega arith) c.loop-i.invariant (omega arith)

@@ -26,16 +26,16 @@ float_to_bits-b c = is_number _ c.if-x.false
 
 pub root_bits-requires : goal.root_bits-requires
 unfolding of_bits
-root_bits-requires c = (bits_pos _ c.well-formed.0.1 c.if-x.false c.if-x-2.false c.if-x-3.false, c.if-b-lt9218868437227405312.true)
+root_bits-requires c = (bits_pos _ c.well_formed.0.1 c.if-x.false c.if-x-2.false c.if-x-3.false, c.if-b-lt9218868437227405312.true)
 
 pub float_from_bits-result : goal.float_from_bits-result
 unfolding of_bits
-float_from_bits-result c = subst (λ (x : ℕ). T (not (nan_bits binary64 x))) (sym c.root_bits.ensures) (no_nan _ (bits-lt _ (bits_pos _ c.well-formed.0.1 c.if-x.false c.if-x-2.false c.if-x-3.false) c.if-b-lt9218868437227405312.true))
+float_from_bits-result c = subst (λ (x : ℕ). T (not (nan_bits binary64 x))) (sym c.root_bits.ensures) (no_nan _ (bits-lt _ (bits_pos _ c.well_formed.0.1 c.if-x.false c.if-x-2.false c.if-x-3.false) c.if-b-lt9218868437227405312.true))
 
 pub returns-then-b-lt9218868437227405312 : goal.returns-then-b-lt9218868437227405312
 unfolding of_bits
-returns-then-b-lt9218868437227405312 c = ap (of_bits binary64) c.root_bits.ensures ∙ root-pattern _ c.well-formed.0.1 c.if-x.false c.if-x-2.false c.if-x-3.false c.if-b-lt9218868437227405312.true
+returns-then-b-lt9218868437227405312 c = ap (of_bits binary64) c.root_bits.ensures ∙ root-pattern _ c.well_formed.0.1 c.if-x.false c.if-x-2.false c.if-x-3.false c.if-b-lt9218868437227405312.true
 
 pub returns-else-b-lt9218868437227405312 : goal.returns-else-b-lt9218868437227405312
 unfolding of_bits
-returns-else-b-lt9218868437227405312 c = root-infinite _ c.well-formed.0.1 c.if-x.false c.if-x-2.false c.if-x-3.false c.if-b-lt9218868437227405312.false
+returns-else-b-lt9218868437227405312 c = root-infinite _ c.well_formed.0.1 c.if-x.false c.if-x-2.false c.if-x-3.false c.if-b-lt9218868437227405312.false
