@@ -7,4 +7,4 @@ pub returns : goal.returns
 returns c =
     let j = c.jacobi-both in
     let k = c.args.c in
-    (inverted-of-is k _ _ j.result _ j.ensures.0 _ c.inverted.ensures, made-is k _ _ j.result _ j.ensures.0)
+    record { value = inverted-of-is k _ _ j.result _ j.ensures.0 _ c.inverted.ensures; made_after = made-is k _ _ j.result _ j.ensures.0 }

@@ -13,7 +13,7 @@ use Rattle.adjustment_kr_vcov_adj.proofs.from_precision.Goals as goal
 pub information-ie-requires : goal.information-ie-requires
 information-ie-requires c =
     let g = c.requires in
-    ((g.0, g.1), (g.2, ap (λ (m : ℕ). m + 1) c.places_before-k.ensures))
+    record { sized = (g.0, g.1); lent = (g.2, ap (λ (m : ℕ). m + 1) c.places_before-k.ensures) }
 
 pub from_information-number-requires : goal.from_information-number-requires
 from_information-number-requires c =
@@ -28,20 +28,20 @@ returns-then-number-ne0 c =
     let i = c.information-ie.ensures in
     let f = c.from_information-number.ensures in
     let n = c.places_before-k.ensures in
-    let e = adjusted-is a.c d a.phi _ _ _ _ _ (ap (λ (m : ℕ). m + 1) n) i.1.1.0 i.1.1.1.0 i.1.1.1.1 in
-    let num = f.0 ∙ number_is a.c d a.phi _ _ _ _ _ (ap (λ (m : ℕ). m + 1) n) i.1.1.0 i.1.1.1.0 i.1.1.1.1 _ in (
+    let e = adjusted-is a.c d a.phi _ _ _ _ _ (ap (λ (m : ℕ). m + 1) n) i.narrow_after.1.0 i.narrow_after.1.1.0 i.narrow_after.1.1.1 in
+    let num = f.value ∙ number_is a.c d a.phi _ _ _ _ _ (ap (λ (m : ℕ). m + 1) n) i.narrow_after.1.0 i.narrow_after.1.1.0 i.narrow_after.1.1.1 _ in (
       num,
       (
         c.clear_all.ensures ∙ ap zeros c.information-ie.auto.0 ∙ sym (accepted-no _ _ _ c.if-number-ne0.true),
         (
-          i.1.0,
+          i.narrow_after.0,
           (
-            answer-is _ (λ (t : Adjustment). t.phi_a) _ _ _ _ e f.1.0,
+            answer-is _ (λ (t : Adjustment). t.phi_a) _ _ _ _ e f.phi_a_after.0,
             (
-              answer-is _ (λ (t : Adjustment). t.ps) _ _ _ _ e f.1.1.0,
+              answer-is _ (λ (t : Adjustment). t.ps) _ _ _ _ e f.phi_a_after.1.0,
               (
-                answer-is _ (λ (t : Adjustment). t.w) _ _ _ _ e f.1.1.1.0,
-                answer-is _ (λ (t : Adjustment). t.rotations) _ _ _ _ e f.1.1.1.1,
+                answer-is _ (λ (t : Adjustment). t.w) _ _ _ _ e f.phi_a_after.1.1.0,
+                answer-is _ (λ (t : Adjustment). t.rotations) _ _ _ _ e f.phi_a_after.1.1.1,
               ),
             ),
           ),
@@ -57,20 +57,20 @@ returns c =
     let i = c.information-ie.ensures in
     let f = c.from_information-number.ensures in
     let n = c.places_before-k.ensures in
-    let e = adjusted-is a.c d a.phi _ _ _ _ _ (ap (λ (m : ℕ). m + 1) n) i.1.1.0 i.1.1.1.0 i.1.1.1.1 in
-    let num = f.0 ∙ number_is a.c d a.phi _ _ _ _ _ (ap (λ (m : ℕ). m + 1) n) i.1.1.0 i.1.1.1.0 i.1.1.1.1 _ in (
+    let e = adjusted-is a.c d a.phi _ _ _ _ _ (ap (λ (m : ℕ). m + 1) n) i.narrow_after.1.0 i.narrow_after.1.1.0 i.narrow_after.1.1.1 in
+    let num = f.value ∙ number_is a.c d a.phi _ _ _ _ _ (ap (λ (m : ℕ). m + 1) n) i.narrow_after.1.0 i.narrow_after.1.1.0 i.narrow_after.1.1.1 _ in (
       num,
       (
-        i.0 ∙ sym (accepted-yes _ _ _ c.if-number-ne0.false),
+        i.work_after ∙ sym (accepted-yes _ _ _ c.if-number-ne0.false),
         (
-          i.1.0,
+          i.narrow_after.0,
           (
-            answer-is _ (λ (t : Adjustment). t.phi_a) _ _ _ _ e f.1.0,
+            answer-is _ (λ (t : Adjustment). t.phi_a) _ _ _ _ e f.phi_a_after.0,
             (
-              answer-is _ (λ (t : Adjustment). t.ps) _ _ _ _ e f.1.1.0,
+              answer-is _ (λ (t : Adjustment). t.ps) _ _ _ _ e f.phi_a_after.1.0,
               (
-                answer-is _ (λ (t : Adjustment). t.w) _ _ _ _ e f.1.1.1.0,
-                answer-is _ (λ (t : Adjustment). t.rotations) _ _ _ _ e f.1.1.1.1,
+                answer-is _ (λ (t : Adjustment). t.w) _ _ _ _ e f.phi_a_after.1.1.0,
+                answer-is _ (λ (t : Adjustment). t.rotations) _ _ _ _ e f.phi_a_after.1.1.1,
               ),
             ),
           ),

@@ -11,7 +11,7 @@ ps_of-all_p-requires c =
     let g = c.requires in
     let l = c.fill_os.auto.0 in
     let m = c.fill_sx.auto.0 in
-    (g.0.0.high, g.0.0.few, omega (arith, g.0.0.parts), omega (arith, g.1.0.sound.thetas, g.1.1))
+    (g.sized.0.high, g.sized.0.few, omega (arith, g.sized.0.parts), omega (arith, g.lent.0.sound.thetas, g.lent.1))
 
 pub qs_of-all_q-requires : goal.qs_of-all_q-requires
 qs_of-all_q-requires c =
@@ -19,13 +19,13 @@ qs_of-all_q-requires c =
     let l = c.fill_os.auto.0 in
     let m = c.fill_sx.auto.0 in
     let o = c.fill_hs.auto.0 in
-    (record { high = g.0.0.high; few = g.0.0.few; squares = omega (arith, g.0.0.squares); parts = omega (arith, g.0.0.parts) }, omega (arith, g.1.0.sound.thetas, g.1.1))
+    (record { high = g.sized.0.high; few = g.sized.0.few; squares = omega (arith, g.sized.0.squares); parts = omega (arith, g.sized.0.parts) }, omega (arith, g.lent.0.sound.thetas, g.lent.1))
 
 pub ie_of-requires : goal.ie_of-requires
 ie_of-requires c =
     let g = c.requires in
     let o = c.fill_hs.auto.0 in
-    (g.0.0.high, g.0.0.few, omega (arith, g.0.0.squares), omega (arith, g.1.0.sound.thetas, g.1.1))
+    (g.sized.0.high, g.sized.0.few, omega (arith, g.sized.0.squares), omega (arith, g.lent.0.sound.thetas, g.lent.1))
 
 pub shape_of-work : goal.shape_of-work
 shape_of-work c = c.fill_hs.auto.0
@@ -39,16 +39,16 @@ returns c =
     let os = c.fill_os.ensures in
     let ps = c.ps_of-all_p.ensures in
     let qs = c.qs_of-all_q.ensures in
-    let hn = g.0.0.high in
-    let hN = g.1.0.sound.thetas in (
-      work-is a.s a.n a.p a.k a.x.now a.xs a.z.now a.zs a.columns a.weighted a.weights.now a.blocks a.count a.work.now _ hn hN g.0.0.squares g.1.1 hs,
+    let hn = g.sized.0.high in
+    let hN = g.lent.0.sound.thetas in (
+      work-is a.s a.n a.p a.k a.x.now a.xs a.z.now a.zs a.columns a.weighted a.weights.now a.blocks a.count a.work.now _ hn hN g.sized.0.squares g.lent.1 hs,
       (
         c.clear_all.ensures ∙ ap zeros (c.qs_of-all_q.auto.0 ∙ c.fill_os.auto.0 ∙ c.fill_sx.auto.0),
         (
-          ps-call a.s a.n a.p a.k a.x.now a.xs a.z.now a.zs a.columns a.weighted a.weights.now a.blocks a.count a.work.now _ hn hN g.0.0.squares g.1.1 hs a.narrow.now _ _ g.0.0.few g.0.0.parts sx os _ ps,
+          ps-call a.s a.n a.p a.k a.x.now a.xs a.z.now a.zs a.columns a.weighted a.weights.now a.blocks a.count a.work.now _ hn hN g.sized.0.squares g.lent.1 hs a.narrow.now _ _ g.sized.0.few g.sized.0.parts sx os _ ps,
           (
-            qs-call a.s a.n a.p a.k a.x.now a.xs a.z.now a.zs a.columns a.weighted a.weights.now a.blocks a.count a.work.now _ hn hN g.0.0.squares g.1.1 hs a.narrow.now _ _ g.0.0.few g.0.0.parts sx os _ qs.0,
-            ie-call a.s a.n a.p a.k a.x.now a.xs a.z.now a.zs a.columns a.weighted a.weights.now a.blocks a.count a.work.now _ hn hN g.0.0.squares g.1.1 hs a.narrow.now _ _ g.0.0.few g.0.0.parts sx os _ _ _ _ ps qs.0 c.ie_of.ensures,
+            qs-call a.s a.n a.p a.k a.x.now a.xs a.z.now a.zs a.columns a.weighted a.weights.now a.blocks a.count a.work.now _ hn hN g.sized.0.squares g.lent.1 hs a.narrow.now _ _ g.sized.0.few g.sized.0.parts sx os _ qs.value,
+            ie-call a.s a.n a.p a.k a.x.now a.xs a.z.now a.zs a.columns a.weighted a.weights.now a.blocks a.count a.work.now _ hn hN g.sized.0.squares g.lent.1 hs a.narrow.now _ _ g.sized.0.few g.sized.0.parts sx os _ _ _ _ ps qs.value c.ie_of.ensures,
           ),
         ),
       ),

@@ -12,9 +12,9 @@ returns-then-number-ne0 c =
     let g = c.requires in
     let f = c.sigma_and_precision-number.ensures in
     let h = c.if-number-ne0.true in (
-      early-number a.s a.n a.p a.x.now a.xs a.z.now a.zs a.columns a.weighted a.weights.now a.blocks a.count a.theta a.c a.phi a.sigma2 _ _ _ g.0.high g.0.squares f.0 f.1 h,
+      early-number a.s a.n a.p a.x.now a.xs a.z.now a.zs a.columns a.weighted a.weights.now a.blocks a.count a.theta a.c a.phi a.sigma2 _ _ _ g.0.high g.0.squares f.value f.work_after h,
       (
-        early-work a.s a.n a.p a.x.now a.xs a.z.now a.zs a.columns a.weighted a.weights.now a.blocks a.count a.theta a.c a.phi a.sigma2 _ _ _ g.0.high g.0.squares f.0 f.1 h,
+        early-work a.s a.n a.p a.x.now a.xs a.z.now a.zs a.columns a.weighted a.weights.now a.blocks a.count a.theta a.c a.phi a.sigma2 _ _ _ g.0.high g.0.squares f.value f.work_after h,
         (
           c.clear_all.ensures,
           (sym (accepted-no _ _ _ h), (sym (accepted-no _ _ _ h), (sym (accepted-no _ _ _ h), sym (accepted-no _ _ _ h)))),
@@ -35,19 +35,19 @@ returns c =
     let f = c.sigma_and_precision-number.ensures in
     let h = c.if-number-ne0.false in
     let r = c.from_precision.ensures in
-    let e = late-adjusted a.s a.n a.p a.x.now a.xs a.z.now a.zs a.columns a.weighted a.weights.now a.blocks a.count a.theta a.c a.phi a.sigma2 _ _ _ g.0.high g.0.squares f.0 f.1 h in (
-      late-number a.s a.n a.p a.x.now a.xs a.z.now a.zs a.columns a.weighted a.weights.now a.blocks a.count a.theta a.c a.phi a.sigma2 _ _ _ g.0.high g.0.squares f.0 f.1 h _ r.0,
+    let e = late-adjusted a.s a.n a.p a.x.now a.xs a.z.now a.zs a.columns a.weighted a.weights.now a.blocks a.count a.theta a.c a.phi a.sigma2 _ _ _ g.0.high g.0.squares f.value f.work_after h in (
+      late-number a.s a.n a.p a.x.now a.xs a.z.now a.zs a.columns a.weighted a.weights.now a.blocks a.count a.theta a.c a.phi a.sigma2 _ _ _ g.0.high g.0.squares f.value f.work_after h _ r.value,
       (
-        late-work a.s a.n a.p a.x.now a.xs a.z.now a.zs a.columns a.weighted a.weights.now a.blocks a.count a.theta a.c a.phi a.sigma2 _ _ _ g.0.high g.0.squares f.0 f.1 h _ _ c.sigma_and_precision-number.auto.0 r.1.0,
+        late-work a.s a.n a.p a.x.now a.xs a.z.now a.zs a.columns a.weighted a.weights.now a.blocks a.count a.theta a.c a.phi a.sigma2 _ _ _ g.0.high g.0.squares f.value f.work_after h _ _ c.sigma_and_precision-number.auto.0 r.work_after.0,
         (
-          r.1.1.0,
+          r.work_after.1.0,
           (
-            answer-is _ (λ (t : Adjustment). t.phi_a) _ _ _ _ e r.1.1.1.0,
+            answer-is _ (λ (t : Adjustment). t.phi_a) _ _ _ _ e r.work_after.1.1.0,
             (
-              answer-is _ (λ (t : Adjustment). t.ps) _ _ _ _ e r.1.1.1.1.0,
+              answer-is _ (λ (t : Adjustment). t.ps) _ _ _ _ e r.work_after.1.1.1.0,
               (
-                answer-is _ (λ (t : Adjustment). t.w) _ _ _ _ e r.1.1.1.1.1.0,
-                answer-is _ (λ (t : Adjustment). t.rotations) _ _ _ _ e r.1.1.1.1.1.1,
+                answer-is _ (λ (t : Adjustment). t.w) _ _ _ _ e r.work_after.1.1.1.1.0,
+                answer-is _ (λ (t : Adjustment). t.rotations) _ _ _ _ e r.work_after.1.1.1.1.1,
               ),
             ),
           ),

@@ -19,14 +19,10 @@ unfolding put_rows
 loop-i-init c = (omega arith, refl, fold_start _ _ _)
 
 pub start-a-requires : goal.start-a-requires
-start-a-requires c = (record { wide = c.requires.0.0.wide; fits = omega (arith, c.requires.0.0.fits) }, c.loop-i-test.true)
+start-a-requires c = (record { wide = c.requires.holds.0.wide; fits = omega (arith, c.requires.holds.0.fits) }, c.loop-i-test.true)
 
 pub h_row-requires : goal.h_row-requires
-h_row-requires c =
-    let g = c.requires in (
-      (omega arith, record { wide = g.0.1.wide; fits = omega (arith, g.0.1.fits) }, row-apart-whole _ _ g.0.2 _ _ _ c.loop-i-test.true g.0.0.wide c.start-a.ensures.0),
-      (g.1.0, g.1.1, c.loop-i-test.true),
-    )
+h_row-requires c = let g = c.requires in record { n_in_bounds = (omega arith, record { wide = g.holds.1.wide; fits = omega (arith, g.holds.1.fits) }, row-apart-whole _ _ g.holds.2 _ _ _ c.loop-i-test.true g.holds.0.wide c.start-a.ensures.0); lent = (g.lent.0, g.lent.1, c.loop-i-test.true) }
 
 pub loop-i-preserved : goal.loop-i-preserved
 loop-i-preserved c =
@@ -35,7 +31,7 @@ loop-i-preserved c =
       omega arith,
       c.h_row.auto.0 ∙ v.1,
       fill_more _ _ _ _ _ _ _ _ _ _ c.start-a.ensures.0 v.2 c.h_row.ensures
-          (λ j l. h-cells _ _ _ _ _ _ _ _ _ g.0.2 g.0.0.wide c.loop-i-test.true v.2 j l),
+          (λ j l. h-cells _ _ _ _ _ _ _ _ _ g.holds.2 g.holds.0.wide c.loop-i-test.true v.2 j l),
     )
 
 pub shape_of-work : goal.shape_of-work

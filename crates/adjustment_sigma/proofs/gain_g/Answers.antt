@@ -18,7 +18,7 @@ loop-lo-init c = (omega arith, refl, with_none _ _ _ _ _ _ _ (omega arith))
 pub gain_part-requires : goal.gain_part-requires
 gain_part-requires c =
     let g = c.requires in
-    ((omega arith, record { wide = g.0.1.wide; fits = omega (arith, g.0.1.fits) }, g.0.2, c.part-m.ensures.0, c.part-m.ensures.1, c.loop-lo-test.true), g.1)
+    record { n_in_bounds = (omega arith, record { wide = g.n_in_bounds.1.wide; fits = omega (arith, g.n_in_bounds.1.fits) }, g.n_in_bounds.2, c.part-m.ensures.0, c.part-m.ensures.1, c.loop-lo-test.true); lent = g.lent }
 
 pub overflow_add-lo : goal.overflow_add-lo
 overflow_add-lo c = omega (arith, c.part-m.ensures.1)
@@ -32,7 +32,7 @@ loop-lo-preserved c =
     let g = c.requires in (
       omega (arith, c.part-m.ensures.1),
       c.gain_part.auto.0 ∙ v.1,
-      with-join _ _ _ _ c.part-m.ensures.1 _ c.args.work.now _ _ g.0.0 g.0.1.wide g.0.2 v.2 c.gain_part.ensures,
+      with-join _ _ _ _ c.part-m.ensures.1 _ c.args.work.now _ _ g.n_in_bounds.0 g.n_in_bounds.1.wide g.n_in_bounds.2 v.2 c.gain_part.ensures,
     )
 
 pub shape_of-work : goal.shape_of-work

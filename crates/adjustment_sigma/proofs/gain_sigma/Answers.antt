@@ -15,16 +15,16 @@ use native.Mathlib.Omega.{arith}
 use Rattle.adjustment_sigma.proofs.gain_sigma.Goals as goal
 
 pub places_before-last-requires : goal.places_before-last-requires
-places_before-last-requires c = c.requires.1.0.sound
+places_before-last-requires c = c.requires.lent.0.sound
 
 pub loop-r-init : goal.loop-r-init
 loop-r-init c = (omega arith, c.places_before-last.ensures, refl, refl, terms-none _ _ _ _ (omega arith))
 
 pub g_row-requires : goal.g_row-requires
-g_row-requires c = (omega arith, c.requires.1.0, omega arith, omega arith, c.requires.1.1)
+g_row-requires c = (omega arith, c.requires.lent.0, omega arith, omega arith, c.requires.lent.1)
 
 pub factor-f-requires : goal.factor-f-requires
-factor-f-requires c = (c.requires.1.0.sound, omega arith)
+factor-f-requires c = (c.requires.lent.0.sound, omega arith)
 
 pub loop-r-preserved : goal.loop-r-preserved
 loop-r-preserved c =
@@ -33,7 +33,7 @@ loop-r-preserved c =
       v.1,
       c.gain_from.auto.0 ∙ v.2,
       c.g_row.auto.0 ∙ v.3,
-      terms-more _ (λ j. get_or c.args.work.now (c.args.a + j) nan) _ _ _ _ _ _ _ c.requires.0.0 v.4 c.gain_from.ensures
+      terms-more _ (λ j. get_or c.args.work.now (c.args.a + j) nan) _ _ _ _ _ _ _ c.requires.m_in_bounds.0 v.4 c.gain_from.ensures
           (λ j l. sigma-turn _ _ _ _ _ _ _ _ _ _ _ _ _ _ (omega arith) c.factor-f.ensures c.g_row.ensures j l),
     )
 

@@ -10,11 +10,11 @@ pub gain_g-requires : goal.gain_g-requires
 gain_g-requires c =
     let g = c.requires in
     let l = c.clear_row.auto.0 in
-    ((omega arith, record { wide = g.0.1.wide; fits = omega (arith, g.0.1.fits) }, g.0.2), g.1)
+    record { n_in_bounds = (omega arith, record { wide = g.n_in_bounds.1.wide; fits = omega (arith, g.n_in_bounds.1.fits) }, g.n_in_bounds.2); lent = g.lent }
 
 pub returns : goal.returns
 returns c =
     let g = c.requires in
-    with-cleared _ _ _ _ _ _ _ _ _ c.args.work.now _ _ g.0.0 (λ k h. refl)
-    (λ k j hk hj. apart-cell _ c.args.work.now _ g.0.2 c.clear_row.ensures k j hk (omega (arith, g.0.1.wide)))
+    with-cleared _ _ _ _ _ _ _ _ _ c.args.work.now _ _ g.n_in_bounds.0 (λ k h. refl)
+    (λ k j hk hj. apart-cell _ c.args.work.now _ g.n_in_bounds.2 c.clear_row.ensures k j hk (omega (arith, g.n_in_bounds.1.wide)))
     c.clear_row.ensures c.gain_g.ensures

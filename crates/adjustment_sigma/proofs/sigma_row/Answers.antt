@@ -15,7 +15,7 @@ unfolding put_row
 loop-lo-init c = (omega arith, refl, fold_start _ _ _)
 
 pub sigma_part-requires : goal.sigma_part-requires
-sigma_part-requires c = ((omega (arith, c.part-m.ensures.1), c.part-m.ensures.0, c.part-m.ensures.1), (c.requires.1, c.requires.2))
+sigma_part-requires c = record { m_in_bounds = (omega (arith, c.part-m.ensures.1), c.part-m.ensures.0, c.part-m.ensures.1); lent = (c.requires.1, c.requires.2) }
 
 pub overflow_add-lo : goal.overflow_add-lo
 overflow_add-lo c = omega (arith, c.part-m.ensures.1)

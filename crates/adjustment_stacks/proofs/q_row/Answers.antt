@@ -22,7 +22,4 @@ returns c =
     let g = c.requires in
     let q = c.square_at-q.ensures.0 in
     let e = c.part_at-e.ensures.0 in
-    let o = c.part_at-o.ensures.0 in (
-      q-row-is _ _ _ _ _ _ _ _ _ c.args.narrow.now _ g.0.high g.0.few g.0.parts q e o c.fill_turned.ensures _ _ g.1 c.q_products.ensures,
-      turned-put _ _ _ c.args.k _ _ _ _ _ c.args.narrow.now _ g.0.high g.0.few g.0.parts q e o c.fill_turned.ensures,
-    )
+    let o = c.part_at-o.ensures.0 in record { value = q-row-is _ _ _ _ _ _ _ _ _ c.args.narrow.now _ g.0.high g.0.few g.0.parts q e o c.fill_turned.ensures _ _ g.1 c.q_products.ensures; narrow_after = turned-put _ _ _ c.args.k _ _ _ _ _ c.args.narrow.now _ g.0.high g.0.few g.0.parts q e o c.fill_turned.ensures }

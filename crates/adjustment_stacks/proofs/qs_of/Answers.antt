@@ -25,8 +25,8 @@ loop-r-preserved c =
     let v = c.loop-r.invariant in (
       omega arith,
       c.q_row-next.auto.0 ∙ v.1,
-      turned_more _ _ _ _ _ _ _ _ g.0.high g.0.few g.1 c.loop-r-test.true v.2 _ c.q_row-next.ensures.1,
-      qs-more _ _ _ _ _ _ _ _ g.0.high g.0.few g.1 c.loop-r-test.true v.2 _ _ v.3 c.q_row-next.ensures.0,
+      turned_more _ _ _ _ _ _ _ _ g.0.high g.0.few g.1 c.loop-r-test.true v.2 _ c.q_row-next.ensures.narrow_after,
+      qs-more _ _ _ _ _ _ _ _ g.0.high g.0.few g.1 c.loop-r-test.true v.2 _ _ v.3 c.q_row-next.ensures.value,
     )
 
 pub shape_of-narrow : goal.shape_of-narrow
@@ -34,4 +34,4 @@ shape_of-narrow c = c.loop-r.invariant.1
 
 pub returns : goal.returns
 unfolding o_transposed_s_to
-returns c = (qs-end _ _ _ _ c.loop-r.invariant.0 c.loop-r-test.false c.loop-r.invariant.3, fold_end _ _ _ _ _ _ c.loop-r.invariant.0 c.loop-r-test.false c.loop-r.invariant.2)
+returns c = record { value = qs-end _ _ _ _ c.loop-r.invariant.0 c.loop-r-test.false c.loop-r.invariant.3; narrow_after = fold_end _ _ _ _ _ _ c.loop-r.invariant.0 c.loop-r-test.false c.loop-r.invariant.2 }

@@ -6,4 +6,4 @@ pub returns : goal.returns
 returns c =
     let start = c.identity-b.ensures in
     let solved = c.solve.ensures in
-    (rw start at solved.0, rw start at solved.1)
+    record { value = rw start at solved.value; zero_pivot_after = rw start at solved.zero_pivot_after }

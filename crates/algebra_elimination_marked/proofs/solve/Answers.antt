@@ -9,4 +9,4 @@ returns c =
     let start = c.joined-start.ensures in
     let done = c.eliminate-done.ensures in
     let n = c.requires.0 in
-    (solution-is marks _ _ _ _ _ _ _ _ _ _ start done c.back.ensures, refused-is marks _ _ _ _ _ _ _ _ _ n start done c.is_singular.ensures)
+    record { value = solution-is marks _ _ _ _ _ _ _ _ _ _ start done c.back.ensures; zero_pivot_after = refused-is marks _ _ _ _ _ _ _ _ _ n start done c.is_singular.ensures }

@@ -12,10 +12,6 @@ use native.Mathlib.Omega.{arith}
 use borrow.Author.Rules.{rules}
 use Rattle.algebra_jacobi.proofs.sweeps.Goals as goal
 
-rotated-pair-requires :
-    tie.Need-rotated-pair-requires invariant-loop3 decreases-loop3 invariant-loop2 decreases-loop2 invariant-loop decreases-loop
-rotated-pair-requires c κs = omega arith
-
 pub loop-i-init : goal.loop-i-init
 unfolding sweepsTo
 loop-i-init c = (omega arith, fold_start _ _ _)

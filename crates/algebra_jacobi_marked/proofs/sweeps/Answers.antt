@@ -13,18 +13,6 @@ use borrow.Author.Rules.{rules}
 use Rattle.algebra_jacobi_marked.proofs.Seen.{seen-told}
 use Rattle.algebra_jacobi_marked.proofs.sweeps.Goals as goal
 
-tested-mark-requires :
-    tie.Need-tested-mark-requires invariant-loop3 decreases-loop3 invariant-loop2 decreases-loop2 invariant-loop decreases-loop
-tested-mark-requires c κs = search rules
-
-rotated-pair-requires :
-    tie.Need-rotated-pair-requires invariant-loop3 decreases-loop3 invariant-loop2 decreases-loop2 invariant-loop decreases-loop
-rotated-pair-requires c κs = omega arith
-
-is-inside-requires :
-    tie.Need-is-inside-requires invariant-loop3 decreases-loop3 invariant-loop2 decreases-loop2 invariant-loop decreases-loop
-is-inside-requires c κs = search rules
-
 pub loop-i-init : goal.loop-i-init
 unfolding sweepsTo
 loop-i-init c = (omega arith, fold_start _ _ _)

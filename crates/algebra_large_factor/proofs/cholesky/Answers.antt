@@ -21,7 +21,7 @@ loop-j-preserved c =
     let v = c.loop-j.invariant in
     let h = c.loop-j-test.true in
     let q = shape-rows_at _ _ _ _ _ in
-    (omega arith, c.column-not_positive.auto.0 ∙ v.1, column-more _ _ _ _ _ _ _ _ c.requires q h v.2 c.column-not_positive.ensures.0, refused-more _ _ _ _ _ _ _ _ _ c.requires q h v.2 v.3 c.column-not_positive.ensures.1)
+    (omega arith, c.column-not_positive.auto.0 ∙ v.1, column-more _ _ _ _ _ _ _ _ c.requires q h v.2 c.column-not_positive.ensures.work_after, refused-more _ _ _ _ _ _ _ _ _ c.requires q h v.2 v.3 c.column-not_positive.ensures.value)
 
 pub shape_of-work : goal.shape_of-work
 shape_of-work c = c.loop-j.invariant.1
@@ -30,4 +30,4 @@ pub returns : goal.returns
 unfolding cholesky_to cholesky_refused
 returns c =
     let v = c.loop-j.invariant in
-    (turn_end _ _ _ _ _ _ _ _ _ _ _ v.0 c.loop-j-test.false v.2, fold_end _ _ _ _ _ _ v.0 c.loop-j-test.false v.3)
+    record { work_after = turn_end _ _ _ _ _ _ _ _ _ _ _ v.0 c.loop-j-test.false v.2; value = fold_end _ _ _ _ _ _ v.0 c.loop-j-test.false v.3 }

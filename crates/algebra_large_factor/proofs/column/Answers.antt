@@ -15,4 +15,4 @@ pub returns : goal.returns
 unfolding notPositive of_bits
 returns c =
     let e = c.less_dot-x.ensures in
-    (column-done _ _ _ _ _ _ _ _ _ _ c.requires.0 c.requires.1 c.start-p.ensures.0 e c.sqrt-d.ensures refl c.below_diagonal.ensures, rw e)
+    record { work_after = column-done _ _ _ _ _ _ _ _ _ _ c.requires.0 c.requires.1 c.start-p.ensures.0 e c.sqrt-d.ensures refl c.below_diagonal.ensures; value = rw e }

@@ -11,10 +11,6 @@ use borrow.Author.Rules.{rules}
 use native.Mathlib.Omega.{arith}
 use Rattle.algebra_products.proofs.product.Goals as goal
 
-array-copy-out-with-terms-2 :
-    tie.Need-array-copy-out-with-terms-2 invariant-loop2 decreases-loop2 invariant-loop decreases-loop
-array-copy-out-with-terms-2 c = omega arith
-
 pub loop-i-init : goal.loop-i-init
 loop-i-init c = (omega arith, table_none _ _ _ _ _ _ c.zeros-out.ensures)
 

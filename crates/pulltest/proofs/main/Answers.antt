@@ -12,4 +12,4 @@ slice_bounds-out-end c =
     omega (arith, c.text_arrived-m.ensures.moved, c.text_arrived-m.ensures.short)
 
 pub slice_bounds-write_all-end : goal.slice_bounds-write_all-end
-slice_bounds-write_all-end c = sym (length-take-le c.text_arrived-m.result c.text_arrived-m.new.1.1.0 (array-share-prefix-out c))
+slice_bounds-write_all-end c = sym (length-take-le c.text_arrived-m.result c.text_arrived-m.new.1.1.0 (slice_bounds-out-end c))

@@ -6,4 +6,4 @@ use borrow.Author.Rules.{rules}
 use Rattle.pulltest.proofs.next_piece.Goals as goal
 
 pub returns : goal.returns
-returns c = subst (λ (st : Arrived). Arrives st) (sym c.feed.ensures.0) (fed-arrives _ _ c.feed.ensures.1 c.requires)
+returns c = subst (λ (st : Arrived). Arrives st) (sym c.feed.ensures.current_after) (fed-arrives _ _ c.feed.ensures.by_index c.requires)

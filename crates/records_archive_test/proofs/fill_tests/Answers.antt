@@ -13,11 +13,11 @@ use Rattle.records_archive_test.proofs.fill_tests.Goals as goal
 pub returns-then-told-ne0 : goal.returns-then-told-ne0
 returns-then-told-ne0 c =
     let a = c.args in
-    let e = c.judge-es.ensures.1 in
-    (e, kept-bytes _ (from_archive_number a.c a.archive.now a.tests.now) (answer_bytes (from_archive_entries a.c a.archive.now a.tests.now)) a.answer.now e c.if-told-ne0.true)
+    let e = c.judge-es.ensures.told_after in
+    record { value = e; answer_after = kept-bytes _ (from_archive_number a.c a.archive.now a.tests.now) (answer_bytes (from_archive_entries a.c a.archive.now a.tests.now)) a.answer.now e c.if-told-ne0.true }
 
 pub returns : goal.returns
 returns c =
     let a = c.args in
     let j = c.judge-es.ensures in
-    filled-bytes _ (from_archive_number a.c a.archive.now a.tests.now) (answer_bytes (from_archive_entries a.c a.archive.now a.tests.now)) a.answer.now _ j.1 c.if-told-ne0.false (c.put_answer.ensures ∙ ap answer_bytes j.0)
+    filled-bytes _ (from_archive_number a.c a.archive.now a.tests.now) (answer_bytes (from_archive_entries a.c a.archive.now a.tests.now)) a.answer.now _ j.told_after c.if-told-ne0.false (c.put_answer.ensures ∙ ap answer_bytes j.value)

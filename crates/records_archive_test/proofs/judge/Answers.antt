@@ -10,14 +10,14 @@ use borrow.Author.Rules.{rules}
 use Rattle.records_archive_test.proofs.judge.Goals as goal
 
 -- the archive's reader takes it
-archive-accepted : (c : tie.Else1) → archive.refusal c.before.before.before.before.before.before.before.before.args.s.now ≡ 0
-archive-accepted c = sym c.before.before.before.refusal.ensures.0 ∙ c.if1.false
+archive-accepted : (c : goal.Else-first-ne0) → archive.refusal c.args.s.now ≡ 0
+archive-accepted c = sym c.refusal-first.ensures.value ∙ c.if-first-ne0.false
 
 -- and the second file's takes that, for the archive's coefficients
-second-accepted : (c : tie.Else2) → second.refusal (archive.coefficients c.before.before.before.before.before.before.before.before.before.before.before.before.before.before.before.args.s.now) c.before.before.before.before.before.before.before.before.before.before.before.before.before.before.before.args.t.now ≡ 0
+second-accepted : (c : goal.Else-second-ne0) → second.refusal (archive.coefficients c.args.s.now) c.args.t.now ≡ 0
 second-accepted c =
-    let a = c.before.before.before.before.before.before.before.before.before.before.before.before.before.before.before.args in
-    ap (λ (p : ℕ). second.refusal p a.t.now) (sym (archive-p a.s.now _ c.before.before.before.before.before.before.archive-sizes.ensures)) ∙ sym c.before.before.before.refusal2.ensures.0 ∙ c.if2.false
+    let a = c.args in
+    ap (λ (p : ℕ). second.refusal p a.t.now) (sym (archive-p a.s.now _ c.archive_sizes-z.ensures)) ∙ sym c.refusal-second.ensures.value ∙ c.if-second-ne0.false
 
 pub refusal-first-requires : goal.refusal-first-requires
 unfolding of_bits
@@ -26,7 +26,7 @@ refusal-first-requires c = ((refl, archive-sheet), (refl, archive-sheet))
 pub returns-then-first-ne0 : goal.returns-then-first-ne0
 returns-then-first-ne0 c =
     let a = c.args in
-    archive-refuses a.c a.s.now a.t.now _ _ c.refusal-first.ensures.0 c.if-first-ne0.true c.no_entry.ensures
+    archive-refuses a.c a.s.now a.t.now _ _ c.refusal-first.ensures.value c.if-first-ne0.true c.no_entry.ensures
 
 pub refusal-second-requires : goal.refusal-second-requires
 unfolding of_bits
@@ -35,17 +35,17 @@ refusal-second-requires c = ((refl, tests-sheet), (refl, tests-sheet))
 pub returns-then-second-ne0 : goal.returns-then-second-ne0
 returns-then-second-ne0 c =
     let a = c.args in
-    second-refuses a.c a.s.now a.t.now (archive-accepted c) _ _ _ (archive-p a.s.now _ c.archive_sizes-z.ensures) c.refusal-second.ensures.0 c.if-second-ne0.true c.no_entry-then-second-ne0.ensures
+    second-refuses a.c a.s.now a.t.now (archive-accepted c.before.before.before.before.before.before.before.before) _ _ _ (archive-p a.s.now _ c.archive_sizes-z.ensures) c.refusal-second.ensures.value c.if-second-ne0.true c.no_entry-then-second-ne0.ensures
 
 pub tests_from-es-requires : goal.tests_from-es-requires
 tests_from-es-requires c =
     let a = c.args in
-    let e = c.refusal-first.ensures.1 c.if-first-ne0.false in
-    let f = c.refusal-second.ensures.1 c.if-second-ne0.false in
-    (archive-taken a.s.now 512 _ archive-sheet (archive-accepted c) e, second-taken (archive.coefficients a.s.now) a.t.now 64 _ tests-sheet (second-accepted c) f)
+    let e = c.refusal-first.ensures.sheet_after c.if-first-ne0.false in
+    let f = c.refusal-second.ensures.sheet_after c.if-second-ne0.false in
+    (archive-taken a.s.now 512 _ archive-sheet (archive-accepted c.before.before.before.before.before.before.before.before.before.before) e, second-taken (archive.coefficients a.s.now) a.t.now 64 _ tests-sheet (second-accepted c.before.before.before) f)
 
 pub returns : goal.returns
 returns c =
     let a = c.args in
     let e = c.tests_from-es.ensures in
-    tests-answer a.c a.s.now a.t.now (archive-accepted c) (second-accepted c) _ _ _ _ e.1 e.0 c.answer_of.ensures.0 c.answer_of.ensures.1
+    tests-answer a.c a.s.now a.t.now (archive-accepted c.before.before.before.before.before.before.before.before.before.before.before.before.before) (second-accepted c.before.before.before.before.before.before) _ _ _ _ e.refused_after e.value c.answer_of.ensures.value c.answer_of.ensures.told_after

@@ -21,4 +21,4 @@ unfolding from_archive_number
 returns c =
     let a = c.args in
     let f = c.fill_tests.ensures in
-    own-answer (testing_call a.archive.now a.tests.now) built_in_table a.answer.now refl c.if-answer-ne-ANSWER_LENGTH.false built-in-accepted _ (c.document_cutoffs.ensures ∙ sym built-in-numbers) _ _ f.0 f.1
+    own-answer (testing_call a.archive.now a.tests.now) built_in_table a.answer.now refl c.if-answer-ne-ANSWER_LENGTH.false built-in-accepted _ (c.document_cutoffs.ensures ∙ sym built-in-numbers) _ _ f.value f.answer_after

@@ -29,4 +29,4 @@ unfolding from_archive_number
 returns c =
     let a = c.args in
     let f = c.fill_tests.ensures in
-    own-answer (testing_call a.archive.now a.tests.now) a.table.now a.answer.now refl c.if-answer-ne-ANSWER_LENGTH.false (sym c.bad_table.ensures ∙ c.if-bad_table.false) _ c.cutoffs_in.ensures _ _ f.0 f.1
+    own-answer (testing_call a.archive.now a.tests.now) a.table.now a.answer.now refl c.if-answer-ne-ANSWER_LENGTH.false (sym c.bad_table.ensures ∙ c.if-bad_table.false) _ c.cutoffs_in.ensures _ _ f.value f.answer_after

@@ -68,4 +68,4 @@ returns c =
     let a = c.args in
     let g = c.requires in
     let e = archive-run-is a.s.now a.sheet.now g.0 _ c.archive_sizes-z.ensures _ c.first_slots-firsts.ensures a.c a.t.now _ _ _ _ _ c.cells_at-w.ensures c.cells_at-phi.ensures c.cells_at-phi_a.ensures c.stack_at-ps.ensures refl in
-    (c.tests_with.ensures.0 ∙ ap (λ (r : Run). r.entries) e, c.tests_with.ensures.1 ∙ ap (λ (r : Run). r.refused) e)
+    record { value = c.tests_with.ensures.value ∙ ap (λ (r : Run). r.entries) e; refused_after = c.tests_with.ensures.refused_after ∙ ap (λ (r : Run). r.refused) e }

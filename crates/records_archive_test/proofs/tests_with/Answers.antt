@@ -40,4 +40,4 @@ returns c =
     let a = c.args in
     let g = c.requires in
     let e = tests-run-is a.p a.t.now a.numbers.now g.2 _ c.second_sizes-z.ensures _ c.first_slots-firsts.ensures a.c _ _ _ _ _ c.six_at-beta.ensures c.given.ensures c.six_at-beta_h.ensures c.cells_at-l.ensures in
-    (c.compute_kenward_roger.ensures.0 ∙ ap (λ (r : Run). r.entries) e, c.compute_kenward_roger.ensures.1 ∙ ap (λ (r : Run). r.refused) e)
+    record { value = c.compute_kenward_roger.ensures.value ∙ ap (λ (r : Run). r.entries) e; refused_after = c.compute_kenward_roger.ensures.refused_after ∙ ap (λ (r : Run). r.refused) e }

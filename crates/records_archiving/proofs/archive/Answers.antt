@@ -16,4 +16,4 @@ returns c =
     let a = c.args in
     let f = c.archive_panel.ensures in
     let cutoffs = c.document_cutoffs.ensures ∙ sym built-in-numbers in
-    own-call built_in_table a.records.now a.archive.now c.if-lent-ne-ARCHIVE_LENGTH.false built-in-accepted _ cutoffs _ _ f.0 f.1
+    own-call built_in_table a.records.now a.archive.now c.if-lent-ne-ARCHIVE_LENGTH.false built-in-accepted _ cutoffs _ _ f.value f.archive_after

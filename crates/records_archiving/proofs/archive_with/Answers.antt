@@ -23,4 +23,4 @@ returns c =
     let a = (start c).args in
     let f = c.archive_panel.ensures in
     let table = sym c.bad_table.ensures ∙ c.if-bad_table.false in
-    own-call a.table.now a.records.now a.archive.now c.if-archive-ne-ARCHIVE_LENGTH.false table _ c.cutoffs_in.ensures _ _ f.0 f.1
+    own-call a.table.now a.records.now a.archive.now c.if-archive-ne-ARCHIVE_LENGTH.false table _ c.cutoffs_in.ensures _ _ f.value f.archive_after

@@ -9,4 +9,4 @@ use Rattle.records_arrived.proofs.text_arrived.Goals as goal
 pub returns : goal.returns
 returns c =
     let judged = c.judge_arrived-es.ensures in
-    named c.put_run.ensures (ap₂ text_of judged.1 judged.0) (omega arith)
+    named c.put_run.ensures (ap₂ text_of judged.told_after judged.value) (omega arith)

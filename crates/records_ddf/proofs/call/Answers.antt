@@ -21,4 +21,4 @@ unfolding number
 returns c =
     let a = c.args in
     let f = c.fill_entry.ensures in
-    own-answer (testCall a.records.now) built_in_table a.answer.now refl c.if-answer-ne-ENTRY_LENGTH.false built-in-accepted _ (c.document_cutoffs.ensures ∙ sym built-in-numbers) _ _ f.0 f.1
+    own-answer (testCall a.records.now) built_in_table a.answer.now refl c.if-answer-ne-ENTRY_LENGTH.false built-in-accepted _ (c.document_cutoffs.ensures ∙ sym built-in-numbers) _ _ f.value f.answer_after

@@ -14,11 +14,11 @@ use Rattle.records_ddf.proofs.fill_entry.Goals as goal
 pub returns-then-number-ne0 : goal.returns-then-number-ne0
 returns-then-number-ne0 c =
     let a = c.args in
-    let e = c.judge-e.ensures.1 in
-    (e, kept-bytes _ (number a.c a.records.now) (entryBytes (entry a.c a.records.now)) a.answer.now e c.if-number-ne0.true)
+    let e = c.judge-e.ensures.number_after in
+    record { value = e; answer_after = kept-bytes _ (number a.c a.records.now) (entryBytes (entry a.c a.records.now)) a.answer.now e c.if-number-ne0.true }
 
 pub returns : goal.returns
 returns c =
     let a = c.args in
     let j = c.judge-e.ensures in
-    filled-bytes _ (number a.c a.records.now) (entryBytes (entry a.c a.records.now)) a.answer.now _ j.1 c.if-number-ne0.false (c.put_entry.ensures ∙ entry-fills _ _ _ c.requires j.0)
+    filled-bytes _ (number a.c a.records.now) (entryBytes (entry a.c a.records.now)) a.answer.now _ j.number_after c.if-number-ne0.false (c.put_entry.ensures ∙ entry-fills _ _ _ c.requires j.value)

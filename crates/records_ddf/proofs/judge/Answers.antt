@@ -21,23 +21,23 @@ use Rattle.records.specs.declared.Shape.TheVariants.{Test}
 use Rattle.records_ddf.proofs.judge.Goals as goal
 
 -- the file is not refused: its sizes are small, and the sheet holds its numbers
-accepted : (c : tie.Else1) → refusal c.before.before.before.before.before.before.before.args.s.now ≡ 0
-accepted c = sym c.before.before.before.refusal.ensures.0 ∙ c.if1.false
+accepted : (c : goal.Else-early-ne0) → refusal c.args.s.now ≡ 0
+accepted c = sym c.refusal-early.ensures.value ∙ c.if-early-ne0.false
 
-sizes-at-hand : (c : tie.After-parameter-sizes) → FormedSizes Test 1 c.before.before.before.before.before.before.before.before.args.s.now c.parameter-sizes.result
-sizes-at-hand c = accepted-sizes _ _ (accepted c.before) c.parameter-sizes.ensures
+sizes-at-hand : (c : goal.After-parameter_sizes-z) → FormedSizes Test 1 c.args.s.now c.parameter_sizes-z.result
+sizes-at-hand c = accepted-sizes _ _ (accepted c.before) c.parameter_sizes-z.ensures
 
-sheet-at-hand : (c : tie.Else1) → c.before.before.before.refusal.new.1.1.0 ≡ sheet_after 256 (kinds c.before.before.before.before.before.before.before.args.s.now) c.before.before.before.before.before.before.before.args.s.now (count c.before.before.before.before.before.before.before.args.s.now)
-sheet-at-hand c = c.before.before.before.refusal.ensures.1 c.if1.false
+sheet-at-hand : (c : goal.Else-early-ne0) → c.refusal-early.new.1.1.0 ≡ sheet_after 256 (kinds c.args.s.now) c.args.s.now (count c.args.s.now)
+sheet-at-hand c = c.refusal-early.ensures.sheet_after c.if-early-ne0.false
 
 -- what was tested is what the file sends
-outcome-at-hand : (c : tie.After-test) → test marks c.before.before.before.before.before.before.before.before.before.before.before.before.before.args.c (inputs_from c.before.before.before.before.before.before.before.before.before.refusal.new.1.1.0 c.before.before.before.before.before.parameter-sizes.result) ≡ fileOutcome c.before.before.before.before.before.before.before.before.before.before.before.before.before.args.c c.before.before.before.before.before.before.before.before.before.before.before.before.before.args.s.now
+outcome-at-hand : (c : goal.After-test-e) → test marks c.args.c (inputs_from c.refusal-early.new.1.1.0 c.parameter_sizes-z.result) ≡ fileOutcome c.args.c c.args.s.now
 outcome-at-hand c =
-    let s = c.before.before.before.before.before.before.before.before.before.before.before.before.before.args.s.now in
+    let s = c.args.s.now in
     let t = accepted-sizes s _ (accepted c.before.before.before.before.before.before) refl in
     let f = t.fit in
     let h = slot-count 1 Test in
-    outcome-is s t.within 256 (omega arith) c.before.before.before.before.before.before.before.before.before.before.before.before.before.args.c _ _ c.before.before.before.before.before.parameter-sizes.ensures (sheet-at-hand c.before.before.before.before.before.before)
+    outcome-is s t.within 256 (omega arith) c.args.c _ _ c.parameter_sizes-z.ensures (sheet-at-hand c.before.before.before.before.before.before)
 
 -- src/lib.rt:81:9
 pub refusal-early-requires : goal.refusal-early-requires
@@ -48,7 +48,7 @@ refusal-early-requires c =
 
 -- src/lib.rt:84:9
 pub returns-then-early-ne0 : goal.returns-then-early-ne0
-returns-then-early-ne0 c = judged-early _ _ _ _ c.refusal-early.ensures.0 c.if-early-ne0.true c.no_entry.ensures
+returns-then-early-ne0 c = judged-early _ _ _ _ c.refusal-early.ensures.value c.if-early-ne0.true c.no_entry.ensures
 
 -- src/lib.rt:87:18
 pub first_slots-firsts-requires : goal.first_slots-firsts-requires
@@ -57,20 +57,21 @@ first_slots-firsts-requires c = (sizes-at-hand c).small
 -- src/lib.rt:89:9
 pub test-e-requires : goal.test-e-requires
 test-e-requires c =
-    let t = sizes-at-hand c in
+    let d = c.before.before.before.before in
+    let t = sizes-at-hand d in
     let f = t.fit in
     let h = slot-count 1 Test in
-    let e = ap length (sheet-at-hand c) ∙ length-sheet 256 (kinds c.args.s.now) c.args.s.now (count c.args.s.now) in
+    let e = ap length (sheet-at-hand d.before) ∙ length-sheet 256 (kinds d.args.s.now) d.args.s.now (count d.args.s.now) in
     ((t.coefficients, t.contrasts, t.parameters), (c.first_slots-firsts.ensures, omega arith))
 
 -- src/lib.rt:92:9
 pub returns-then-refused : goal.returns-then-refused
 returns-then-refused c =
-    let o = outcome-at-hand c in
-    judged-late _ _ _ (accepted c) (sym (ap (λ (y : Outcome). y.refused) o) ∙ sym c.test-e.ensures.1 ∙ c.if-refused.true) c.no_entry-then-refused.ensures
+    let o = outcome-at-hand c.before.before in
+    judged-late _ _ _ (accepted c.before.before.before.before.before.before.before.before) (sym (ap (λ (y : Outcome). y.refused) o) ∙ sym c.test-e.ensures.refused_after ∙ c.if-refused.true) c.no_entry-then-refused.ensures
 
 -- src/lib.rt:75:1
 pub returns : goal.returns
 returns c =
-    let o = outcome-at-hand c in
-    judged-taken _ _ _ (accepted c) (sym (ap (λ (y : Outcome). y.refused) o) ∙ sym c.test-e.ensures.1 ∙ c.if-refused.false) (c.test-e.ensures.0 ∙ ap (λ (y : Outcome). y.entry) o)
+    let o = outcome-at-hand c.before in
+    judged-taken _ _ _ (accepted c.before.before.before.before.before.before.before) (sym (ap (λ (y : Outcome). y.refused) o) ∙ sym c.test-e.ensures.refused_after ∙ c.if-refused.false) (c.test-e.ensures.value ∙ ap (λ (y : Outcome). y.entry) o)

@@ -18,4 +18,4 @@ returns c =
     let a = c.args in
     let f = c.fill_answer.ensures in
     let cutoffs = c.document_cutoffs.ensures ∙ sym built-in-numbers in
-    own-answer (series_call 24 a.records.now) built_in_table a.answer.now refl c.if-answer-ne-ANSWER_LENGTH.false built-in-accepted _ cutoffs _ _ f.0 f.1
+    own-answer (series_call 24 a.records.now) built_in_table a.answer.now refl c.if-answer-ne-ANSWER_LENGTH.false built-in-accepted _ cutoffs _ _ f.value f.answer_after

@@ -25,4 +25,4 @@ returns c =
     let a = (start c).args in
     let f = c.fill_answer.ensures in
     let table = sym c.bad_table.ensures ∙ c.if-bad_table.false in
-    own-answer (series_call 24 a.records.now) a.table.now a.answer.now refl c.if-answer-ne-ANSWER_LENGTH.false table _ c.cutoffs_in.ensures _ _ f.0 f.1
+    own-answer (series_call 24 a.records.now) a.table.now a.answer.now refl c.if-answer-ne-ANSWER_LENGTH.false table _ c.cutoffs_in.ensures _ _ f.value f.answer_after

@@ -10,7 +10,7 @@ pub returns-then-number-ne0 : goal.returns-then-number-ne0
 returns-then-number-ne0 c =
     let a = c.args in
     let e = c.judge_panel-es.ensures.told in
-    (e, kept-bytes _ (number 24 a.c a.records.now) (answer_bytes (entries 24 a.c a.records.now)) a.answer.now e c.if-number-ne0.true)
+    record { value = e; answer_after = kept-bytes _ (number 24 a.c a.records.now) (answer_bytes (entries 24 a.c a.records.now)) a.answer.now e c.if-number-ne0.true }
 
 pub returns : goal.returns
 returns c =

@@ -12,11 +12,11 @@ use Rattle.records_kinds.proofs.KnownKind.{Known, asked, same_kind, kept-kind}
 use Rattle.records_limits.proofs.any_beyond.Goals as goal
 
 -- what the loop keeps is what the table says of record i's kind
-known-kind : (c : tie.Joined1 invariant-loop decreases-loop)
-    → let a = c.before.before.before.before.before.before.args in Known (kinds_of a.file a.z) (kind_of a.s.now c.before.before.before.loop.i) c.if1.new c.if1.k
+known-kind : (c : goal.Joined-kind-last)
+    → let a = c.args in Known (kinds_of a.file a.z) (kind_of a.s.now c.loop-i.i) c.if-kind-last.new c.if-kind-last.k
 known-kind c =
-    ⊎_elim (λ w. asked _ _ _ _ _ _ c.before.kind-of.ensures w.1.ensures w.2 w.3)
-    (λ w. same_kind _ _ _ _ _ _ _ c.before.kind-of.ensures w.0.left c.before.before.before.loop.invariant.2 w.1 w.2) c.if1.branch
+    ⊎_elim (λ w. asked _ _ _ _ _ _ c.kind_of-kind.ensures w.1.ensures w.2 w.3)
+    (λ w. same_kind _ _ _ _ _ _ _ c.kind_of-kind.ensures w.0.left c.loop-i.invariant.2 w.1 w.2) c.if-kind-last.branch
 
 pub kind_at-k-requires : goal.kind_at-k-requires
 kind_at-k-requires c = tt
@@ -30,15 +30,15 @@ kind_at-k-requires-then-kind-last c = tt
 
 pub returns-then-out_of : goal.returns-then-out_of
 unfolding beyond
-returns-then-out_of c = sym (any-hit _ _ c.loop-i.i (omega arith) (rw (← (known-kind c).known) (sym c.out_of.ensures ∙ c.if-out_of.true)))
+returns-then-out_of c = sym (any-hit _ _ c.loop-i.i (omega arith) (rw (← (known-kind c.before.before).known) (sym c.out_of.ensures ∙ c.if-out_of.true)))
 
 pub loop-i-preserved : goal.loop-i-preserved
 unfolding beyond
 loop-i-preserved c = (
   refl,
   omega arith,
-  kept-kind _ _ _ _ (known-kind c),
-  any-miss _ _ c.loop-i.invariant.3 (rw (← (known-kind c).known) (sym c.out_of.ensures ∙ c.if-out_of.false)),
+  kept-kind _ _ _ _ (known-kind c.before.before),
+  any-miss _ _ c.loop-i.invariant.3 (rw (← (known-kind c.before.before).known) (sym c.out_of.ensures ∙ c.if-out_of.false)),
 )
 
 pub returns : goal.returns

@@ -29,7 +29,7 @@ none e f g h = rw (e, f, g, h)
 pub offset_bounds-sheet-variance : goal.offset_bounds-sheet-variance
 offset_bounds-sheet-variance c =
     let a = c.args in
-    let p = c.requires.0 in
+    let p = c.requires.small in
     let e = starts a.z 7 a.firsts.now (lit≤ tt) p.2 in
     let b = all-bound Series a.z p.0 7 (lit≤ tt) in
     omega arith
@@ -37,7 +37,7 @@ offset_bounds-sheet-variance c =
 pub bounds-sheet-variance : goal.bounds-sheet-variance
 bounds-sheet-variance c =
     let a = c.args in
-    let p = c.requires.0 in
+    let p = c.requires.small in
     let e = starts a.z 7 a.firsts.now (lit≤ tt) p.2 in
     let b = variance-fits a.z (length a.sheet.now) p.3 in
     omega arith
@@ -46,13 +46,13 @@ pub returns-then-sheet-variance : goal.returns-then-sheet-variance
 unfolding of_bits
 returns-then-sheet-variance c =
     let a = c.args in
-    let p = c.requires.0 in
+    let p = c.requires.small in
     sym (rw (sheet-cases a.z a.blocks a.sheet.now a.firsts.now p.2, c.if-sheet-variance.true))
 
 pub bad_weight-requires : goal.bad_weight-requires
 bad_weight-requires c =
     let a = c.args in
-    let p = c.requires.0 in
+    let p = c.requires.small in
     let e = starts a.z 5 a.firsts.now (lit≤ tt) p.2 in
     let b = weights-fit a.z (length a.sheet.now) p.3 in
     omega arith
@@ -61,7 +61,7 @@ pub returns-then-bad_weight : goal.returns-then-bad_weight
 unfolding of_bits
 returns-then-bad_weight c =
     let a = c.args in
-    sym (rw (sheet-cases a.z a.blocks a.sheet.now a.firsts.now c.requires.0.2, c.if-sheet-variance.false, ← c.bad_weight.ensures, c.if-bad_weight.true))
+    sym (rw (sheet-cases a.z a.blocks a.sheet.now a.firsts.now c.requires.small.2, c.if-sheet-variance.false, ← c.bad_weight.ensures, c.if-bad_weight.true))
 
 pub returns-then-misfit : goal.returns-then-misfit
 unfolding of_bits
@@ -69,7 +69,7 @@ returns-then-misfit c =
     let a = c.args in
     let b = sym c.bad_weight.ensures ∙ c.if-bad_weight.false in
     let t = zero_contrast_in a.z a.sheet.now (get_or a.firsts.now 9 0) in
-    sym (sheet-cases a.z a.blocks a.sheet.now a.firsts.now c.requires.0.2 ∙ seven t c.if-sheet-variance.false b (sym c.misfit.ensures ∙ c.if-misfit.true))
+    sym (sheet-cases a.z a.blocks a.sheet.now a.firsts.now c.requires.small.2 ∙ seven t c.if-sheet-variance.false b (sym c.misfit.ensures ∙ c.if-misfit.true))
 
 pub zero_contrast-requires : goal.zero_contrast-requires
 zero_contrast-requires c =
@@ -86,7 +86,7 @@ returns-then-zero_contrast c =
     let a = c.args in
     let b = sym c.bad_weight.ensures ∙ c.if-bad_weight.false in
     let d = sym c.misfit.ensures ∙ c.if-misfit.false in
-    sym (sheet-cases a.z a.blocks a.sheet.now a.firsts.now c.requires.0.2 ∙ eight c.if-sheet-variance.false b d (sym c.zero_contrast.ensures ∙ c.if-zero_contrast.true))
+    sym (sheet-cases a.z a.blocks a.sheet.now a.firsts.now c.requires.small.2 ∙ eight c.if-sheet-variance.false b d (sym c.zero_contrast.ensures ∙ c.if-zero_contrast.true))
 
 pub returns : goal.returns
 unfolding of_bits
@@ -94,4 +94,4 @@ returns c =
     let a = c.args in
     let b = sym c.bad_weight.ensures ∙ c.if-bad_weight.false in
     let d = sym c.misfit.ensures ∙ c.if-misfit.false in
-    sym (sheet-cases a.z a.blocks a.sheet.now a.firsts.now c.requires.0.2 ∙ none c.if-sheet-variance.false b d (sym c.zero_contrast.ensures ∙ c.if-zero_contrast.false))
+    sym (sheet-cases a.z a.blocks a.sheet.now a.firsts.now c.requires.small.2 ∙ none c.if-sheet-variance.false b d (sym c.zero_contrast.ensures ∙ c.if-zero_contrast.false))

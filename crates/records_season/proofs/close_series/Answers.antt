@@ -17,8 +17,8 @@ returns-then-number-ne0 c =
     let w = window_of a.values.now a.given.now in
     let seven : length es ≡ 7 = search rules in
     let q = c.judge_arrived-es.ensures in
-    let kept = c.keep_latest.ensures ∙ ap (λ (f : Number). with_latest f w) (f-is a.a a.kept.now w es q.0 _ q.1 _ seven) in
-    (kept, named c.put_run-next.ensures (refused-text a.a a.kept.now w es q.0 _ q.1 c.if-number-ne0.true) (omega arith))
+    let kept = c.keep_latest.ensures ∙ ap (λ (f : Number). with_latest f w) (f-is a.a a.kept.now w es q.value _ q.told_after _ seven) in
+    record { given_after = kept; put = named c.put_run-next.ensures (refused-text a.a a.kept.now w es q.value _ q.told_after c.if-number-ne0.true) (omega arith) }
 
 pub returns : goal.returns
 returns c =
@@ -27,7 +27,7 @@ returns c =
     let w = window_of a.values.now a.given.now in
     let seven : length es ≡ 7 = search rules in
     let q = c.judge_arrived-es.ensures in
-    let kept = c.keep_latest.ensures ∙ ap (λ (f : Number). with_latest f w) (f-is a.a a.kept.now w es q.0 _ q.1 _ seven) in
+    let kept = c.keep_latest.ensures ∙ ap (λ (f : Number). with_latest f w) (f-is a.a a.kept.now w es q.value _ q.told_after _ seven) in
     let worst-is = c.worst_of-w.ensures ∙ ap worst kept in
-    let lines = accepted-text a.a a.kept.now w es q.0 _ q.1 c.if-number-ne0.false _ worst-is in
-    (kept, named (then c.put_run-next.ensures c.put_worst.ensures) lines (omega arith))
+    let lines = accepted-text a.a a.kept.now w es q.value _ q.told_after c.if-number-ne0.false _ worst-is in
+    record { given_after = kept; put = named (then c.put_run-next.ensures c.put_worst.ensures) lines (omega arith) }

@@ -11,9 +11,9 @@ returns-then-a c =
     let q = c.put_refusal.ensures in
     let m = q.moved in
     let l = q.short in
-    (λ s kept current values given k. named q (left-refused s (season_as c.args.a kept current values given) k c.if-a.true) (omega arith), omega arith)
+    record { by_index = λ s kept current values given k. named q (left-refused s (season_as c.args.a kept current values given) k c.if-a.true) (omega arith); upper_bound = omega arith }
 
 pub returns : goal.returns
 returns c =
     let start = c.args in
-    (λ s kept current values given k. named (stay 19 start.out.now start.at) (left-none s (season_as start.a kept current values given) k c.if-a.false) (omega arith), omega arith)
+    record { by_index = λ s kept current values given k. named (stay 19 start.out.now start.at) (left-none s (season_as start.a kept current values given) k c.if-a.false) (omega arith); upper_bound = omega arith }

@@ -8,58 +8,59 @@ use Rattle.records_season.proofs.FedLaws.{fed-none, fed-more, fed-all, fed-arriv
 use Rattle.records_season.proofs.feed.Goals as goal
 
 -- ---- the stages of the code, each from the next that is named here: where a line is put in, one of these moves
-abbrev start : tie.At-loop invariant-loop decreases-loop → tie.Start invariant-loop decreases-loop
+abbrev start : goal.At-loop-i → goal.Start
 start c = c.before.before.before.before.before.before.before
 
-abbrev turn : tie.After-take-byte-arg6 invariant-loop decreases-loop → tie.In-loop invariant-loop decreases-loop
+abbrev turn : goal.After-take_byte-arg-in-loop-i-5-1 → goal.In-loop-i
 turn c = c.before.before.before.before.before.before.before
 
-abbrev fed : tie.After-values invariant-loop decreases-loop → tie.After-take-byte invariant-loop decreases-loop
+abbrev fed : goal.After-values-1 → goal.After-take_byte-next
 fed c = c.before.before.before.before.before
 
-abbrev back : tie.After-slice-known10 invariant-loop decreases-loop → tie.After-values invariant-loop decreases-loop
+abbrev back : goal.After-slice_known-in-loop-i-5-1 → goal.After-values-1
 back c = c.before.before.before.before.before
 
 pub loop-i-init : goal.loop-i-init
 loop-i-init c =
-    let few = c.requires.1.0.came.unclosed.ready.part in
-    (refl, omega arith, refl, refl, refl, refl, refl, c.requires.1.0, omega arith, fed-wider (fed-none _ _ _) (omega arith))
+    let s = c.before.before.before.before.before.before in
+    let few = s.requires.season_arrives.0.came.unclosed.ready.part in
+    (refl, omega arith, refl, refl, refl, refl, refl, s.requires.season_arrives.0, omega arith, fed-wider (fed-none _ _ _) (omega arith))
 
 pub take_byte-next-requires : goal.take_byte-next-requires
 take_byte-next-requires c =
     let h = (turn c).before in
     let s = start h in
-    let l = h.loop in
-    let first = s.pre.1.0 in
-    let wrote = l.inv.9.wrote first.file first.came in
+    let l = h.loop-i in
+    let first = s.requires.season_arrives.0 in
+    let wrote = l.invariant.9.wrote first.file first.came in
     let m = wrote.moved in
     let n = wrote.short in
-    let part = l.inv.8 in
-    let same = l.inv.6 in
-    let room = s.pre.1.1 in
-    ((l.inv.4 ∙ s.pre.0.0, l.inv.5 ∙ s.pre.0.1), (l.inv.7, omega arith))
+    let part = l.invariant.8 in
+    let same = l.invariant.6 in
+    let room = s.requires.season_arrives.1 in
+    ((l.invariant.4 ∙ s.requires.values_len.0, l.invariant.5 ∙ s.requires.values_len.1), (l.invariant.7, omega arith))
 
 pub loop-i-preserved : goal.loop-i-preserved
 loop-i-preserved c =
     let k = fed (back c) in
     let t = turn k.before in
     let s = start t.before in
-    let l = t.before.loop in
-    let more = t.loop-test.taken in
-    let taken = k.take-byte in
+    let l = t.loop-i in
+    let more = t.loop-i-test.true in
+    let taken = k.take_byte-next in
     let piece = s.args.piece.now in
-    let part = l.inv.8 in
-    let next = fed-part taken.ensures l.inv.7 in (
+    let part = l.invariant.8 in
+    let next = fed-part taken.ensures l.invariant.7 in (
       refl,
       omega arith,
-      taken.kept.1.1.0 ∙ l.inv.2,
-      taken.kept.1.1.1.0 ∙ l.inv.3,
-      taken.kept.1.1.1.1.0 ∙ l.inv.4,
-      taken.kept.1.1.1.1.1.0 ∙ l.inv.5,
-      taken.kept.1.1.1.1.1.1.0 ∙ l.inv.6,
-      fed-arrives taken.ensures l.inv.7,
+      taken.auto.1.1.0 ∙ l.invariant.2,
+      taken.auto.1.1.1.0 ∙ l.invariant.3,
+      taken.auto.1.1.1.1.0 ∙ l.invariant.4,
+      taken.auto.1.1.1.1.1.0 ∙ l.invariant.5,
+      taken.auto.1.1.1.1.1.1.0 ∙ l.invariant.6,
+      fed-arrives taken.ensures l.invariant.7,
       omega arith,
-      fed-more piece l.i (omega arith) (omega arith) l.inv.9 taken.ensures,
+      fed-more piece l.i (omega arith) (omega arith) l.invariant.9 taken.ensures,
     )
 
 pub shape_of-kept : goal.shape_of-kept
@@ -79,10 +80,10 @@ shape_of-out c = c.loop-i.invariant.6
 
 pub returns : goal.returns
 returns c =
-    let s = start c in
-    let first = s.pre.1.0 in
+    let s = start c.before in
+    let first = s.requires.season_arrives.0 in
     let all = fed-all s.args.piece.now c.loop-i.i s.args.a.part (omega arith) c.loop-i.invariant.9 in
     let wrote = all.wrote first.file first.came in
     let m = wrote.moved in
     let n = wrote.short in
-    (all, omega (arith, s.pre.1.1))
+    record { fed = all; written_in_bounds = omega (arith, s.requires.season_arrives.1) }

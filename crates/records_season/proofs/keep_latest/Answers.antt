@@ -8,9 +8,9 @@ use Rattle.records_season.proofs.keep_latest.Goals as goal
 pub returns-in-Is : goal.returns-in-Is
 returns-in-Is c =
     let made = c.shift.ensures in
-    window-kept c.args.values.now c.args.given.now _ true _ _ _ (c.requires.0 ∙ sym c.requires.1) made.0 made.1 c.in-Is.is
+    window-kept c.args.values.now c.args.given.now _ true _ _ _ (c.requires.0 ∙ sym c.requires.1) made.values_after made.given_after c.in-Is.is
 
 pub returns-in-None : goal.returns-in-None
 returns-in-None c =
     let made = c.shift-in-None.ensures in
-    window-kept c.args.values.now c.args.given.now _ false _ _ _ (c.requires.0 ∙ sym c.requires.1) made.0 made.1 c.in-None.is
+    window-kept c.args.values.now c.args.given.now _ false _ _ _ (c.requires.0 ∙ sym c.requires.1) made.values_after made.given_after c.in-None.is

@@ -36,7 +36,4 @@ returns c =
     let l = c.loop-i in
     let start = c.args in
     let pre = c.requires in
-    let e : l.i ≡ 19 = omega arith in (
-      ap (λ (v : List Float). set v 19 start.x) (rw e at l.invariant.3) ∙ moved_all start.values.now start.x nan pre.0,
-      ap (λ (v : List Bool). set v 19 start.is_given) (rw e at l.invariant.4) ∙ moved_all start.given.now start.is_given false pre.1,
-    )
+    let e : l.i ≡ 19 = omega arith in record { values_after = ap (λ (v : List Float). set v 19 start.x) (rw e at l.invariant.3) ∙ moved_all start.values.now start.x nan pre.0; given_after = ap (λ (v : List Bool). set v 19 start.is_given) (rw e at l.invariant.4) ∙ moved_all start.given.now start.is_given false pre.1 }

@@ -10,7 +10,7 @@ pub take_last_byte-requires : goal.take_last_byte-requires
 take_last_byte-requires c =
     let s = start c in
     let e = c.if-a-eq15.true in
-    (s.pre.0, (s.pre.1.0, e, omega (arith, s.pre.1.1)))
+    record { values_len = s.pre.0; season_arrives = (s.pre.1.0, e, omega (arith, s.pre.1.1)) }
 
 pub returns-then-a-eq15 : goal.returns-then-a-eq15
 returns-then-a-eq15 c =

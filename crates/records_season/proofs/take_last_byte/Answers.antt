@@ -15,7 +15,7 @@ returns-then-closes c =
     let window = window_of a.values.now a.given.now in
     let whole = sym c.closes.ensures ∙ c.if-closes.true in
     let q = c.close_series-next.ensures in
-    closing-fed a.a a.kept.now a.current.now window a.b small c.requires.1.1 whole _ q.0 _ _ _ _ q.1 _ c.nothing_yet.ensures
+    closing-fed a.a a.kept.now a.current.now window a.b small c.requires.season_arrives.1 whole _ q.given_after _ _ _ _ q.put _ c.nothing_yet.ensures
 
 pub shape_of-current : goal.shape_of-current
 shape_of-current c =
@@ -28,5 +28,5 @@ returns c =
     let small : a.b < 256 = omega (arith, c.fits.b) in
     let window = window_of a.values.now a.given.now in
     let open' = sym c.closes.ensures ∙ c.if-closes.false in
-    let taken = c.take_byte.ensures ∙ set-again a.a a.kept.now a.current.now window a.b small c.requires.1.1 in
+    let taken = c.take_byte.ensures ∙ set-again a.a a.kept.now a.current.now window a.b small c.requires.season_arrives.1 in
     open-fed a.a a.kept.now a.current.now window a.b small closed_room _ taken (λ e. open') _ _

@@ -10,53 +10,53 @@ use borrow.Author.Rules.{rules}
 use Rattle.records_second_file.proofs.refusal.Goals as goal
 
 -- the file is formed, so that its sizes are small and its cells have room
-formed : (c : tie.Else3) → FormedSizes Second 1 c.before.before.before.before.before.before.before.before.before.before.before.before.before.args.t.now c.before.before.before.before.second-sizes.result
-formed c = formed-sizes Second 1 (omega arith) (omega arith) _ _ (sym c.before.before.before.before.before.before.before.before.file-refusal.ensures ∙ c.before.before.before.before.before.if1.false) c.before.before.before.before.second-sizes.ensures
+formed : (c : goal.Else-any_not_finite) → FormedSizes Second 1 c.args.t.now c.second_sizes-z.result
+formed c = formed-sizes Second 1 (omega arith) (omega arith) _ _ (sym c.file_refusal-formed.ensures ∙ c.if-formed-ne0.false) c.second_sizes-z.ensures
 
 pub file_refusal-formed-requires : goal.file_refusal-formed-requires
 file_refusal-formed-requires c =
     let p = c.requires in
-    (omega arith, omega arith, p.0.0, p.0.1)
+    (omega arith, omega arith, p.flags_value.0, p.flags_value.1)
 
 pub returns-then-formed-ne0 : goal.returns-then-formed-ne0
 unfolding refusal reasons
-returns-then-formed-ne0 c = (form-refuses (reader c.args.p) _ _ c.file_refusal-formed.ensures c.if-formed-ne0.true, λ e. absurd (c.if-formed-ne0.true e))
+returns-then-formed-ne0 c = record { value = form-refuses (reader c.args.p) _ _ c.file_refusal-formed.ensures c.if-formed-ne0.true; sheet_after = λ e. absurd (c.if-formed-ne0.true e) }
 
 pub returns-then-z-p : goal.returns-then-z-p
-returns-then-z-p c = (other-coefficients _ _ (sym c.file_refusal-formed.ensures ∙ c.if-formed-ne0.false) (λ e. c.if-z-p.true (sym (same-coefficients _ _ c.second_sizes-z.ensures) ∙ e)), λ e. absurd (omega arith))
+returns-then-z-p c = record { value = other-coefficients _ _ (sym c.file_refusal-formed.ensures ∙ c.if-formed-ne0.false) (λ e. c.if-z-p.true (sym (same-coefficients _ _ c.second_sizes-z.ensures) ∙ e)); sheet_after = λ e. absurd (omega arith) }
 
 pub returns-then-any_not_finite : goal.returns-then-any_not_finite
-returns-then-any_not_finite c = (value-refused _ _ (sym c.file_refusal-formed.ensures ∙ c.if-formed-ne0.false) (same-coefficients _ _ c.second_sizes-z.ensures ∙ c.if-z-p.false) (sym c.any_not_finite.ensures ∙ c.if-any_not_finite.true), λ e. absurd (omega arith))
+returns-then-any_not_finite c = record { value = value-refused _ _ (sym c.file_refusal-formed.ensures ∙ c.if-formed-ne0.false) (same-coefficients _ _ c.second_sizes-z.ensures ∙ c.if-z-p.false) (sym c.any_not_finite.ensures ∙ c.if-any_not_finite.true); sheet_after = λ e. absurd (omega arith) }
 
 pub first_slots-firsts-requires : goal.first_slots-firsts-requires
 first_slots-firsts-requires c = (formed c).small
 
 pub fill_sheet-requires : goal.fill_sheet-requires
 fill_sheet-requires c =
-    let h = formed c in
+    let h = formed c.before.before.before in
     let p = c.requires in
     let f = h.fit in
-    ((h.small, c.first_slots-firsts.ensures, h.within), (p.1.0, omega arith))
+    record { small = (h.small, c.first_slots-firsts.ensures, h.within); sheet_value = (p.sheet_value.0, omega arith) }
 
 pub zero_contrast-requires : goal.zero_contrast-requires
 zero_contrast-requires c =
-    let h = formed c in
+    let h = formed c.before.before.before.before.before.before.before in
     let p = c.requires in
     let f = h.fit in
     (h.small, contrast-fits _ _ _ c.first_slots-firsts.ensures (omega arith))
 
 pub returns-then-zero_contrast : goal.returns-then-zero_contrast
 returns-then-zero_contrast c =
-    let h = formed c in
+    let h = formed c.before.before.before.before.before.before.before.before.before in
     let f = h.fit in
     let p = c.requires in
     let x = zero-read _ _ _ _ _ c.second_sizes-z.ensures c.first_slots-firsts.ensures h.within (omega arith) c.fill_sheet.ensures in
-    (contrast-refused _ _ (sym c.file_refusal-formed.ensures ∙ c.if-formed-ne0.false) (same-coefficients _ _ c.second_sizes-z.ensures ∙ c.if-z-p.false) (sym c.any_not_finite.ensures ∙ c.if-any_not_finite.false) (sym x ∙ sym c.zero_contrast.ensures ∙ c.if-zero_contrast.true), λ e. absurd (omega arith))
+    record { value = contrast-refused _ _ (sym c.file_refusal-formed.ensures ∙ c.if-formed-ne0.false) (same-coefficients _ _ c.second_sizes-z.ensures ∙ c.if-z-p.false) (sym c.any_not_finite.ensures ∙ c.if-any_not_finite.false) (sym x ∙ sym c.zero_contrast.ensures ∙ c.if-zero_contrast.true); sheet_after = λ e. absurd (omega arith) }
 
 pub returns : goal.returns
 returns c =
-    let h = formed c in
+    let h = formed c.before.before.before.before.before.before.before.before.before in
     let f = h.fit in
     let p = c.requires in
     let x = zero-read _ _ _ _ _ c.second_sizes-z.ensures c.first_slots-firsts.ensures h.within (omega arith) c.fill_sheet.ensures in
-    (reader-accepts _ _ (sym c.file_refusal-formed.ensures ∙ c.if-formed-ne0.false) (same-coefficients _ _ c.second_sizes-z.ensures ∙ c.if-z-p.false) (sym c.any_not_finite.ensures ∙ c.if-any_not_finite.false) (sym x ∙ sym c.zero_contrast.ensures ∙ c.if-zero_contrast.false), λ _. sheet-from Second _ _ _ _ c.second_sizes-z.ensures c.fill_sheet.ensures)
+    record { value = reader-accepts _ _ (sym c.file_refusal-formed.ensures ∙ c.if-formed-ne0.false) (same-coefficients _ _ c.second_sizes-z.ensures ∙ c.if-z-p.false) (sym c.any_not_finite.ensures ∙ c.if-any_not_finite.false) (sym x ∙ sym c.zero_contrast.ensures ∙ c.if-zero_contrast.false); sheet_after = λ _. sheet-from Second _ _ _ _ c.second_sizes-z.ensures c.fill_sheet.ensures }

@@ -17,39 +17,41 @@ use Rattle.records_sheet.proofs.KnownSlots.{AtRecord, kind-placed, first_small, 
 use Rattle.records_sheet.proofs.mark_cells.Goals as goal
 
 -- what the loop keeps is what the table says of record i's kind
-known-kind : (c : tie.Joined1 invariant-loop decreases-loop)
-    → let a = c.before.before.before.before.before.before.before.args in Known (kinds_of a.file a.z) (kind_of a.s.now c.before.before.before.loop.i) c.if1.new c.if1.k
+known-kind : (c : goal.Joined-kind-last)
+    → let a = c.args in Known (kinds_of a.file a.z) (kind_of a.s.now c.loop-i.i) c.if-kind-last.new c.if-kind-last.k
 known-kind c =
-    ⊎_elim (λ w. asked _ _ _ _ _ _ c.before.kind-of.ensures w.1.ensures w.2 w.3)
-    (λ w. same_kind _ _ _ _ _ _ _ c.before.kind-of.ensures w.0.left c.before.before.before.loop.invariant.2 w.1 w.2) c.if1.branch
+    ⊎_elim (λ w. asked _ _ _ _ _ _ c.kind_of-kind.ensures w.1.ensures w.2 w.3)
+    (λ w. same_kind _ _ _ _ _ _ _ c.kind_of-kind.ensures w.0.left c.loop-i.invariant.2 w.1 w.2) c.if-kind-last.branch
 
 -- what the loop has when it asks for record i's slot
-at-record : (c : tie.Joined1 invariant-loop decreases-loop)
-    → let a = c.before.before.before.before.before.before.before.args in AtRecord a.file a.z a.firsts.now a.s.now c.before.before.before.loop.i c.before.kind-of.result c.if1.new c.if1.k
+at-record : (c : goal.Joined-kind-last)
+    → let a = c.args in AtRecord a.file a.z a.firsts.now a.s.now c.loop-i.i c.kind_of-kind.result c.if-kind-last.new c.if-kind-last.k
 at-record c =
-    let p = c.before.before.before.before.before.before.before.requires.0 in
-    record { small = p.0; firsts = p.1; sized = any_none _ _ c.before.before.before.loop.i (omega arith) p.2; read = c.before.kind-of.ensures; table = known-kind c }
+    let p = c.requires.small in
+    record { small = p.0; firsts = p.1; sized = any_none _ _ c.loop-i.i (omega arith) p.2; read = c.kind_of-kind.ensures; table = known-kind c }
 
 -- what it is answered is that slot
-at_slot : (c : tie.After-slot-at invariant-loop decreases-loop)
-    → let a = c.before.before.before.before.before.before.before.before.before.args in c.slot_at.result ≡ slot_of (kinds_of a.file a.z) a.s.now c.before.before.before.before.before.loop.i
-at_slot c = c.slot_at.ensures ∙ slot-known (at-record c.before.before)
+at_slot : (c : goal.After-slot_at-at)
+    → let a = c.args in c.slot_at-at.result ≡ slot_of (kinds_of a.file a.z) a.s.now c.loop-i.i
+at_slot c = c.slot_at-at.ensures ∙ slot-known (at-record c.before.before)
 
 -- record i's flag before it is set says whether an earlier record names its cell
-was-named : (c : tie.After-slot-at invariant-loop decreases-loop)
-    → let a = c.before.before.before.before.before.before.before.before.before.args in let x = c.before.before.before.before.before.loop in again (kinds_of a.file a.z) a.s.now x.i ≡ get_or x.flags c.slot_at.result false
+was-named : (c : goal.After-slot_at-at)
+    → let a = c.args in let x = c.loop-i in again (kinds_of a.file a.z) a.s.now x.i ≡ get_or x.flags c.slot_at-at.result false
 was-named c =
     let d = c.before.before.before.before.before.before.before.before.before in
     let a = d.args in
-    sym (flag-again a.file a.z a.s.now d.requires.0.2 (length a.flags.now) d.requires.1.1 c.before.before.before.before.before.loop.i false (omega arith))
-    ∙ sym (ap₂ (λ (fs : List Bool) (j : ℕ). get_or fs j false) c.before.before.before.before.before.loop.invariant.3 (at_slot c))
+    sym (flag-again a.file a.z a.s.now d.requires.small.2 (length a.flags.now) d.requires.flags_value.1 c.loop-i.i false (omega arith))
+    ∙ sym (ap₂ (λ (fs : List Bool) (j : ℕ). get_or fs j false) c.loop-i.invariant.3 (at_slot c))
 
 pub kind_at-k-requires : goal.kind_at-k-requires
 kind_at-k-requires c = tt
 
 pub loop-i-init : goal.loop-i-init
 unfolding any
-loop-i-init c = (refl, omega arith, c.kind_at-k.ensures, flags-start (length c.args.flags.now) (kinds_of c.args.file c.args.z) c.args.s.now _ c.requires.1.0, refl)
+loop-i-init c =
+    let d = c.before.before.before in
+    (refl, omega arith, c.kind_at-k.ensures, flags-start (length d.args.flags.now) (kinds_of d.args.file d.args.z) d.args.s.now _ d.requires.flags_value.0, refl)
 
 pub kind_at-k-requires-then-kind-last : goal.kind_at-k-requires-then-kind-last
 kind_at-k-requires-then-kind-last c = tt
@@ -65,17 +67,18 @@ bounds-firsts-kind c = kind-placed (at-record c)
 
 pub slot_at-at-requires : goal.slot_at-at-requires
 slot_at-at-requires c =
-    let h = at-record c in
+    let h = at-record c.before in
     let w = known-widths h in
     (omega arith, known-holds h, w.number, w.row, w.column, first_small h)
 
 pub bounds-flags-at : goal.bounds-flags-at
 bounds-flags-at c =
-    let e = at_slot c in
-    let l = slot-within (at-record c) in
-    let r = c.requires.1.1 in
+    let d = c.before.before.before.before.before.before.before.before.before.before in
+    let e = at_slot c.before in
+    let l = slot-within (at-record c.before.before.before) in
+    let r = d.requires.flags_value.1 in
     let x = c.loop-i in
-    let q = ap length x.invariant.3 ∙ length-flags (length c.args.flags.now) (kinds_of c.args.file c.args.z) c.args.s.now x.i in
+    let q = ap length x.invariant.3 ∙ length-flags (length d.args.flags.now) (kinds_of d.args.file d.args.z) d.args.s.now x.i in
     omega arith
 
 pub shape_of-flags-then-flags-at : goal.shape_of-flags-then-flags-at
@@ -84,10 +87,10 @@ shape_of-flags-then-flags-at c =
     ap length c.loop-i.invariant.3 ∙ length-flags (length a.flags.now) (kinds_of a.file a.z) a.s.now c.loop-i.i
 
 pub returns-then-flags-at : goal.returns-then-flags-at
-returns-then-flags-at c = (sym (any-hit _ _ c.loop-i.i (omega arith) (was-named c ∙ c.if-flags-at.true)), λ f. absurd (false≢true (sym f)))
+returns-then-flags-at c = record { value = sym (any-hit _ _ c.loop-i.i (omega arith) (was-named c.before.before ∙ c.if-flags-at.true)); flags_after = λ f. absurd (false≢true (sym f)) }
 
 pub bounds-flags-at-in-loop-i : goal.bounds-flags-at-in-loop-i
-bounds-flags-at-in-loop-i c = slice-read-if2 c
+bounds-flags-at-in-loop-i c = bounds-flags-at c.before
 
 pub loop-i-preserved : goal.loop-i-preserved
 loop-i-preserved c =
@@ -95,9 +98,9 @@ loop-i-preserved c =
     let x = c.loop-i in (
       refl,
       omega arith,
-      kept-kind _ _ _ _ (known-kind c),
-      flags-next (length a.flags.now) (kinds_of a.file a.z) a.s.now x.i c.slot_at-at.result _ x.invariant.3 (at_slot c),
-      any-miss _ _ x.invariant.4 (was-named c ∙ c.if-flags-at.false),
+      kept-kind _ _ _ _ (known-kind c.before.before.before.before),
+      flags-next (length a.flags.now) (kinds_of a.file a.z) a.s.now x.i c.slot_at-at.result _ x.invariant.3 (at_slot c.before.before),
+      any-miss _ _ x.invariant.4 (was-named c.before.before ∙ c.if-flags-at.false),
     )
 
 pub shape_of-flags : goal.shape_of-flags
@@ -108,7 +111,4 @@ shape_of-flags c =
 pub returns : goal.returns
 returns c =
     let a = c.args in
-    let e : c.loop-i.i ≡ count a.s.now = omega arith in (
-      sym c.loop-i.invariant.4 ∙ ap (λ (n : ℕ). any n (again (kinds_of a.file a.z) a.s.now)) e,
-      λ _. c.loop-i.invariant.3 ∙ ap (flags_after (length a.flags.now) (kinds_of a.file a.z) a.s.now) e,
-    )
+    let e : c.loop-i.i ≡ count a.s.now = omega arith in record { value = sym c.loop-i.invariant.4 ∙ ap (λ (n : ℕ). any n (again (kinds_of a.file a.z) a.s.now)) e; flags_after = λ _. c.loop-i.invariant.3 ∙ ap (flags_after (length a.flags.now) (kinds_of a.file a.z) a.s.now) e }

@@ -11,19 +11,19 @@ use Rattle.records_sheet.proofs.offset_in.Lts as lts
 use Rattle.records_kinds.proofs.width.Reads as width-reads
 use Rattle.records_sheet.proofs.offset_in.Goals as goal
 
-is-offset : (c : tie.After-width2) → (c.before.before.args.n * c.before.width.result + c.before.before.args.r) * c.width2.result + c.before.before.args.c ≡ offset c.before.before.args.k c.before.before.args.n c.before.before.args.r c.before.before.args.c
+is-offset : (c : goal.After-width-2) → (c.args.n * c.width.result + c.args.r) * c.width-2.result + c.args.c ≡ offset c.args.k c.args.n c.args.r c.args.c
 unfolding offset
 is-offset c =
-    let a = c.before.width.ensures in
-    let b = c.width2.ensures in
+    let a = c.width.ensures in
+    let b = c.width-2.ensures in
     cc
 
-few : (c : tie.After-width2) → offset c.before.before.args.k c.before.before.args.n c.before.before.args.r c.before.before.args.c < 16777216
+few : (c : goal.After-width-2) → offset c.args.k c.args.n c.args.r c.args.c < 16777216
 few c =
-    let p = c.before.before.requires in
-    let k = c.before.before.args.k in
+    let p = c.requires in
+    let k = c.args.k in
     let l = slots-bound k (record { number = p.0; row = p.1; column = p.2 }) in
-    let m = offset-below k c.before.before.args.n c.before.before.args.r c.before.before.args.c (record { number = p.3; row = p.4; column = p.5 }) in
+    let m = offset-below k c.args.n c.args.r c.args.c (record { number = p.3; row = p.4; column = p.5 }) in
     omega arith
 
 pub overflow_mul-result : goal.overflow_mul-result

@@ -10,16 +10,16 @@ use Rattle.records_sheet.proofs.slots_of.Lts as lts
 use Rattle.records_kinds.proofs.width.Reads as width-reads
 use Rattle.records_sheet.proofs.slots_of.Goals as goal
 
-is-slots : (c : tie.After-width3) → c.before.before.width.result * c.before.width2.result * c.width3.result ≡ slots c.before.before.before.args.k
+is-slots : (c : goal.After-width-3) → c.width.result * c.width-2.result * c.width-3.result ≡ slots c.args.k
 unfolding slots
 is-slots c =
-    let a = c.before.before.width.ensures in
-    let b = c.before.width2.ensures in
-    let d = c.width3.ensures in
+    let a = c.width.ensures in
+    let b = c.width-2.ensures in
+    let d = c.width-3.ensures in
     cc
 
-few : (c : tie.After-width3) → slots c.before.before.before.args.k ≤ 16777216
-few c = let p = c.before.before.before.requires in slots-bound c.before.before.before.args.k (record { number = p.0; row = p.1; column = p.2 })
+few : (c : goal.After-width-3) → slots c.args.k ≤ 16777216
+few c = let p = c.requires in slots-bound c.args.k (record { number = p.0; row = p.1; column = p.2 })
 
 pub overflow_mul-result : goal.overflow_mul-result
 overflow_mul-result c =

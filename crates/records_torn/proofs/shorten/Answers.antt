@@ -12,7 +12,7 @@ pub returns-then-not-z : goal.returns-then-not-z
 returns-then-not-z c =
     let z = c.args.z in
     let e = not-true _ c.if-not-z.true in
-    ((sym (kept-in-all z _ e), omega arith), sym (short-unweighted z _ e))
+    record { value = (sym (kept-in-all z _ e), omega arith); sheet_after = sym (short-unweighted z _ e) }
 
 pub pack_rows-requires : goal.pack_rows-requires
 pack_rows-requires c =
@@ -32,8 +32,8 @@ pack_rows-requires-3 c =
 pub returns : goal.returns
 returns c =
     let e = not-false _ c.if-not-z.false in
-    let x = c.pack_rows.ensures.1 in
-    let r = c.pack_rows-2.ensures.1 in
+    let x = c.pack_rows.ensures.sheet_after in
+    let r = c.pack_rows-2.ensures.sheet_after in
     let w = c.pack_rows-3.ensures in
-    let m = three-packings c.args.z e c.args.firsts.now c.requires.1 _ _ _ _ x r w.1 in
-    ((w.0.0 ∙ ap length m.0, w.0.1), m.1)
+    let m = three-packings c.args.z e c.args.firsts.now c.requires.1 _ _ _ _ x r w.sheet_after in
+    record { value = (w.value.0 ∙ ap length m.0, w.value.1); sheet_after = m.1 }

@@ -23,21 +23,17 @@ use Rattle.table_adjustment.proofs.print.rotations.Reads as rotations-reads
 use Rattle.table_adjustment.proofs.print_adjustment.Goals as goal
 
 -- the series is read, and then its torn specimens are left out
-as_read : (c : tie.After-first-slots) → SeriesRead 24 c.before.before.before.before.args.file.now c.before.series-sizes.result c.first-slots.result c.before.before.before.before.args.sheet.now
+as_read : (c : goal.After-first_slots-firsts) → SeriesRead 24 c.args.file.now c.series_sizes-z.result c.first_slots-firsts.result c.args.sheet.now
 as_read c =
-    let a = c.before.before.before.before.args in
-    at-hand 24 a.file.now _ _ a.sheet.now c.before.before.before.before.requires c.before.series-sizes.ensures c.first-slots.ensures
+    let a = c.args in
+    at-hand 24 a.file.now _ _ a.sheet.now c.requires c.series_sizes-z.ensures c.first_slots-firsts.ensures
 
-as_short : (c : tie.After-shorten) → SeriesShort 24 c.before.before.before.before.before.before.before.args.file.now c.before.before.before.before.series-sizes.result c.before.before.before.first-slots.result c.shorten.new.1.1.0
-as_short c = series-short _ _ _ _ _ (as_read c.before.before.before) _ c.shorten.ensures.1
+as_short : (c : goal.After-shorten-kept) → SeriesShort 24 c.args.file.now c.series_sizes-z.result c.first_slots-firsts.result c.shorten-kept.new.1.1.0
+as_short c = series-short _ _ _ _ _ (as_read c.before.before.before) _ c.shorten-kept.ensures.sheet_after
 
 -- as many specimens are left as are run
-left-run : (c : tie.After-shorten) → c.shorten.result ≡ (design c.before.before.before.before.before.before.before.args.file.now).n
-left-run c = kept_run _ _ _ _ _ (as_read c.before.before.before) _ c.shorten.ensures.0.0
-
-slice-aggregate-kenward-roger-modcomp-data-2 :
-    tie.Need-slice-aggregate-kenward-roger-modcomp-data-2
-slice-aggregate-kenward-roger-modcomp-data-2 c = search rules
+left-run : (c : goal.After-shorten-kept) → c.shorten-kept.result ≡ (design c.args.file.now).n
+left-run c = kept_run _ _ _ _ _ (as_read c.before.before.before) _ c.shorten-kept.ensures.value.0
 
 pub first_slots-firsts-requires : goal.first_slots-firsts-requires
 first_slots-firsts-requires c =
@@ -46,10 +42,10 @@ first_slots-firsts-requires c =
     subst Small (sym c.series_sizes-z.ensures) (accepted-small 24 g.some a.file.now g.taken g.most)
 
 pub shorten-kept-requires : goal.shorten-kept-requires
-shorten-kept-requires c = can-shorten _ _ _ _ _ (as_read c)
+shorten-kept-requires c = can-shorten _ _ _ _ _ (as_read c.before.before)
 
 pub kenward_roger_modcomp_data-requires : goal.kenward_roger_modcomp_data-requires
-kenward_roger_modcomp_data-requires c = (as_short c, left-run c, omega arith, omega arith)
+kenward_roger_modcomp_data-requires c = (as_short c.before.before.before.before.before.before.before.before.before.before.before.before.before.before, left-run c.before.before.before.before.before.before.before.before.before.before.before.before.before.before, omega arith, omega arith)
 
 pub shape_of-sheet : goal.shape_of-sheet
-shape_of-sheet c = ap length c.shorten-kept.ensures.1 ∙ length-short _ _
+shape_of-sheet c = ap length c.shorten-kept.ensures.sheet_after ∙ length-short _ _

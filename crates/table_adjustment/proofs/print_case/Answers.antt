@@ -23,4 +23,4 @@ pub print_adjustment-requires : goal.print_adjustment-requires
 print_adjustment-requires c =
     let a = c.args in
     let r = c.refusal.ensures in
-    series-read 24 a.file.now _ _ _ _ (refusal-requires c c.refusal.lifetimes) r.0 c.if-refusal-eq0.true r.1
+    series-read 24 a.file.now _ _ _ _ (refusal-requires c c.refusal.lifetimes) r.value c.if-refusal-eq0.true r.sheet_after

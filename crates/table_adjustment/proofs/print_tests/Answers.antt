@@ -12,4 +12,4 @@ slice_bounds-out-end c =
     omega (arith, c.text-n.ensures.moved, c.text-n.ensures.short)
 
 pub slice_bounds-write_all-end : goal.slice_bounds-write_all-end
-slice_bounds-write_all-end c = sym (length-take-le c.text-n.result c.text-n.new.1.0 (array-share-prefix-out c))
+slice_bounds-write_all-end c = sym (length-take-le c.text-n.result c.text-n.new.1.0 (slice_bounds-out-end c))

@@ -5,8 +5,8 @@ use Rattle.tests_entries.proofs.answer_of.Goals as goal
 
 pub returns-then-refused : goal.returns-then-refused
 unfolding run_refusal run_entries
-returns-then-refused c = (rw (c.if-refused.true, c.no_entry.ensures), rw c.if-refused.true)
+returns-then-refused c = record { value = rw (c.if-refused.true, c.no_entry.ensures); told_after = rw c.if-refused.true }
 
 pub returns : goal.returns
 unfolding run_refusal run_entries
-returns c = (rw c.if-refused.false, rw c.if-refused.false)
+returns c = record { value = rw c.if-refused.false; told_after = rw c.if-refused.false }

@@ -16,10 +16,10 @@ pub loop-i-preserved : goal.loop-i-preserved
 loop-i-preserved c =
     let l = c.loop-i in
     let t = c.coefficient_test-e.ensures in
-    (omega arith, coefficients-next _ _ _ l.i l.any _ l.es _ l.invariant.1 t.0 t.1)
+    (omega arith, coefficients-next _ _ _ l.i l.any _ l.es _ l.invariant.1 t.value t.zero_pivot_after)
 
 pub returns : goal.returns
 returns c =
     let l = c.loop-i in
     let e = coefficients-end _ _ _ l.i c.args.p l.any l.es l.invariant.0 c.loop-i-test.false l.invariant.1 in
-    (ap (λ (r : Run). r.entries) e, ap (λ (r : Run). r.refused) e)
+    record { value = ap (λ (r : Run). r.entries) e; refused_after = ap (λ (r : Run). r.refused) e }

@@ -12,4 +12,4 @@ returns c =
     let a = c.args in
     let e = scaled-is a.p a.n a.phi a.phi_a a.ps a.w a.sigma2 _ _ _ c.scaled_up-unadjusted.ensures c.scaled_up-adjusted.ensures c.scaled_ps-scaled.ensures in
     let r = c.run_scaled.ensures in
-    (r.0 ∙ ap (λ (s : Scaled Marked). (run_of marks a.c s a.beta a.beta_h a.rows a.l).entries) e, r.1 ∙ ap (λ (s : Scaled Marked). (run_of marks a.c s a.beta a.beta_h a.rows a.l).refused) e)
+    record { value = r.value ∙ ap (λ (s : Scaled Marked). (run_of marks a.c s a.beta a.beta_h a.rows a.l).entries) e; refused_after = r.refused_after ∙ ap (λ (s : Scaled Marked). (run_of marks a.c s a.beta a.beta_h a.rows a.l).refused) e }

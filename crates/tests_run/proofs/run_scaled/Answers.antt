@@ -9,12 +9,12 @@ use Rattle.tests_run.proofs.run_scaled.Goals as goal
 pub returns-then-rows-eq0 : goal.returns-then-rows-eq0
 returns-then-rows-eq0 c =
     let a = c.coefficients-es.ensures in
-    let e = without-contrast _ _ _ _ c.args.rows _ _ _ (eq-eqb _ _ c.if-rows-eq0.true) a.0 a.1 in
-    (ap (λ (r : Run). r.entries) e, ap (λ (r : Run). r.refused) e)
+    let e = without-contrast _ _ _ _ c.args.rows _ _ _ (eq-eqb _ _ c.if-rows-eq0.true) a.value a.refused_after in
+    record { value = ap (λ (r : Run). r.entries) e; refused_after = ap (λ (r : Run). r.refused) e }
 
 pub returns : goal.returns
 returns c =
     let a = c.coefficients-es.ensures in
     let t = c.kr_modcomp_test-e.ensures in
-    let e = with-contrast _ _ _ _ c.args.rows _ _ _ _ _ (ne_eqb _ _ c.if-rows-eq0.false) a.0 a.1 t.0 t.1 in
-    (ap (λ (r : Run). r.entries) e, ap (λ (r : Run). r.refused) e)
+    let e = with-contrast _ _ _ _ c.args.rows _ _ _ _ _ (ne_eqb _ _ c.if-rows-eq0.false) a.value a.refused_after t.value t.zero_pivot_after in
+    record { value = ap (λ (r : Run). r.entries) e; refused_after = ap (λ (r : Run). r.refused) e }

@@ -6,4 +6,4 @@ use Rattle.adjustment_adjusted.proofs.information.w_of.Goals as goal
 
 pub returns : goal.returns
 unfolding w_refused
-returns c = (w_rows-is _ _ _ _ c.inverse-v.ensures.0 c.doubled.ensures, c.inverse-v.ensures.1)
+returns c = record { value = w_rows-is _ _ _ _ c.inverse-v.ensures.value c.doubled.ensures; zero_pivot_after = c.inverse-v.ensures.zero_pivot_after }

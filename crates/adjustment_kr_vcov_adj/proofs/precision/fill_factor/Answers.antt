@@ -30,7 +30,4 @@ pub returns : goal.returns
 returns c =
     let g = c.requires in
     let a = c.square_at-a.ensures.0 in
-    let b = c.square_at-b.ensures.0 in (
-      factor-is _ _ _ _ _ _ _ _ c.cholesky-z.result g.0 g.1 a b c.copy.ensures c.cholesky-z.ensures.0 c.zero_above.ensures,
-      definite-is _ _ _ _ _ _ _ c.zero_above.new.0 _ g.0 g.1 a b c.copy.ensures c.cholesky-z.ensures.0 c.cholesky-z.ensures.1,
-    )
+    let b = c.square_at-b.ensures.0 in record { work_after = factor-is _ _ _ _ _ _ _ _ c.cholesky-z.result g.0 g.1 a b c.copy.ensures c.cholesky-z.ensures.work_after c.zero_above.ensures; value = definite-is _ _ _ _ _ _ _ c.zero_above.new.0 _ g.0 g.1 a b c.copy.ensures c.cholesky-z.ensures.work_after c.cholesky-z.ensures.value }

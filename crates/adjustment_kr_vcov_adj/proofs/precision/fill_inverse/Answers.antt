@@ -13,14 +13,11 @@ invert-requires c =
     let g = c.requires in
     let l = c.square_at-l.ensures.0 in
     let b = c.square_at-b.ensures.0 in
-    let a = c.square_at-a.ensures.0 in (
-      (square-held _ _ 3 _ _ g.0 g.1 (omega arith) b, wide-held _ _ _ _ g.0 g.1 a, square-held _ _ 2 _ _ g.0 g.1 (omega arith) l),
-      (wide-apart-at _ _ 3 _ _ g.0 (omega arith) b a, wide-apart-from _ _ 2 _ _ g.0 (omega arith) l a),
-    )
+    let a = c.square_at-a.ensures.0 in record { holds = (square-held _ _ 3 _ _ g.0 g.1 (omega arith) b, wide-held _ _ _ _ g.0 g.1 a, square-held _ _ 2 _ _ g.0 g.1 (omega arith) l); apart = (wide-apart-at _ _ 3 _ _ g.0 (omega arith) b a, wide-apart-from _ _ 2 _ _ g.0 (omega arith) l a) }
 
 pub returns : goal.returns
 returns c =
     let l = c.square_at-l.ensures.0 in
     let b = c.square_at-b.ensures.0 in
     let a = c.square_at-a.ensures.0 in
-    (inverse-is _ _ _ _ _ _ _ l b a c.invert.ensures.0, refused-is _ _ _ _ _ l c.invert.ensures.1)
+    record { work_after = inverse-is _ _ _ _ _ _ _ l b a c.invert.ensures.work_after; value = refused-is _ _ _ _ _ l c.invert.ensures.value }

@@ -31,10 +31,7 @@ pub fill_h-requires : goal.fill_h-requires
 fill_h-requires c =
     let g = c.requires in
     let d = c.square_at-d.ensures.0 in
-    let q = c.square_at-q.ensures.0 in (
-      (square-held _ _ (2 + c.loop-r.r) _ _ g.0 (omega (arith, g.1)) (omega (arith, g.2.sound.thetas)) d, square-held _ _ 1 _ _ g.0 (omega (arith, g.1)) (omega arith) q, squares-apart _ _ (2 + c.loop-r.r) 1 _ _ g.0 (λ e. omega arith) d q),
-      (g.2, omega arith),
-    )
+    let q = c.square_at-q.ensures.0 in record { holds = (square-held _ _ (2 + c.loop-r.r) _ _ g.0 (omega (arith, g.1)) (omega (arith, g.2.sound.thetas)) d, square-held _ _ 1 _ _ g.0 (omega (arith, g.1)) (omega arith) q, squares-apart _ _ (2 + c.loop-r.r) 1 _ _ g.0 (λ e. omega arith) d q); lent = (g.2, omega arith) }
 
 pub loop-r-preserved : goal.loop-r-preserved
 loop-r-preserved c =

@@ -13,7 +13,7 @@ pub loop-k-init : goal.loop-k-init
 loop-k-init c = (omega arith, refl, gain-none _ _ _ _ _ _ _ _ _ _ (omega arith))
 
 pub gain_row-requires : goal.gain_row-requires
-gain_row-requires c = (omega arith, omega arith, row-apart-of c.requires.1.1 _ _ c.loop-k-test.true c.requires.0.2.wide c.start-b.ensures.0)
+gain_row-requires c = (omega arith, omega arith, row-apart-of c.requires.apart.1 _ _ c.loop-k-test.true c.requires.c_in_bounds.2.wide c.start-b.ensures.0)
 
 pub loop-k-preserved : goal.loop-k-preserved
 loop-k-preserved c =
@@ -23,7 +23,7 @@ loop-k-preserved c =
     let d = c.args.d in (
       omega arith,
       c.gain_row.auto.0 ∙ v.1,
-      gain-more (λ j. get_or xs (d + j) nan) _ _ _ _ _ _ _ _ _ _ _ _ xs _ _ g.0.0 g.1.0 g.1.1 c.loop-k-test.true (omega (arith, g.0.1.wide)) g.0.2.wide
+      gain-more (λ j. get_or xs (d + j) nan) _ _ _ _ _ _ _ _ _ _ _ _ xs _ _ g.c_in_bounds.0 g.apart.0 g.apart.1 c.loop-k-test.true (omega (arith, g.c_in_bounds.1.wide)) g.c_in_bounds.2.wide
           c.start-a.ensures.0 c.start-b.ensures.0 refl v.2 c.gain_row.ensures,
     )
 

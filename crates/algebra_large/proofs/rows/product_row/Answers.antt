@@ -7,4 +7,4 @@ use Rattle.algebra_large.proofs.rows.product_row.Goals as goal
 pub returns : goal.returns
 returns c =
     let g = c.requires in
-    gain-cleared _ _ _ _ _ _ _ _ _ _ _ g.0.0 g.1.0 g.1.1 (omega (arith, g.0.1.wide)) g.0.2.wide c.clear_row.ensures c.gain_rows.ensures
+    gain-cleared _ _ _ _ _ _ _ _ _ _ _ g.c_in_bounds.0 g.apart.0 g.apart.1 (omega (arith, g.c_in_bounds.1.wide)) g.c_in_bounds.2.wide c.clear_row.ensures c.gain_rows.ensures

@@ -4,8 +4,4 @@ use borrow.Author.Rules.{rules}
 use Rattle.algebra_large_inverse.proofs.back.invert.Goals as goal
 
 pub returns : goal.returns
-returns c =
-    let g = c.requires in (
-      invert-done _ _ _ _ _ _ _ _ _ _ g.0.1 c.join.ensures c.eliminate.ensures c.back.ensures,
-      singular-done _ _ _ _ _ _ _ _ g.0.1 c.join.ensures c.eliminate.ensures c.is_singular-z.ensures,
-    )
+returns c = let g = c.requires in record { work_after = invert-done _ _ _ _ _ _ _ _ _ _ g.holds.1 c.join.ensures c.eliminate.ensures c.back.ensures; value = singular-done _ _ _ _ _ _ _ _ g.holds.1 c.join.ensures c.eliminate.ensures c.is_singular-z.ensures }

@@ -20,7 +20,7 @@ product_row-requires c =
     let g = c.requires in
     let h = c.loop-i-test.true in
     let a = row-apart-whole _ _ g.2 _ _ _ h g.0.wide c.start-a.ensures.0 in
-    ((omega arith, record { wide = omega (arith, g.1.wide); fits = omega (arith, g.1.fits) }, record { wide = g.1.wide; fits = omega (arith, g.1.fits) }), (a, a))
+    record { c_in_bounds = (omega arith, record { wide = omega (arith, g.1.wide); fits = omega (arith, g.1.fits) }, record { wide = g.1.wide; fits = omega (arith, g.1.fits) }); apart = (a, a) }
 
 pub loop-i-preserved : goal.loop-i-preserved
 loop-i-preserved c =

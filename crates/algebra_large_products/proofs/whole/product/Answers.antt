@@ -19,13 +19,13 @@ loop-i-init c = (omega arith, refl, fold_start _ _ _)
 
 pub product_row-requires : goal.product_row-requires
 product_row-requires c =
-    let g = c.requires in (
-      (omega arith, row-holds (omega arith), record { wide = g.0.2.wide; fits = omega (arith, g.0.2.fits) }),
-      (
-        row-apart-one (rows-apart-at _ _ _ _ g.1.0 _ _ _ _ _ _ c.loop-i-test.true c.loop-i-test.true g.0.0.wide g.0.1.wide c.start-a.ensures.0 c.start-b.ensures.0),
-        row-apart-whole _ _ g.1.1 _ _ _ c.loop-i-test.true g.0.0.wide c.start-a.ensures.0,
-      ),
-    )
+    let g = c.requires in record {
+      c_in_bounds = (omega arith, row-holds (omega arith), record { wide = g.holds.2.wide; fits = omega (arith, g.holds.2.fits) });
+      apart = (
+        row-apart-one (rows-apart-at _ _ _ _ g.apart.0 _ _ _ _ _ _ c.loop-i-test.true c.loop-i-test.true g.holds.0.wide g.holds.1.wide c.start-a.ensures.0 c.start-b.ensures.0),
+        row-apart-whole _ _ g.apart.1 _ _ _ c.loop-i-test.true g.holds.0.wide c.start-a.ensures.0,
+      );
+    }
 
 pub loop-i-preserved : goal.loop-i-preserved
 loop-i-preserved c =
@@ -35,7 +35,7 @@ loop-i-preserved c =
       c.product_row.auto.0 ∙ v.1,
       fill_more _ _ _ _ _ _ (gained_to c.args.n c.loop-i.work c.start-b.result 1 0 c.loop-i.work c.args.q c.args.u plusZero) _ _ _
           c.start-a.ensures.0 v.2 c.product_row.ensures
-          (λ j l. product-row _ _ _ _ _ _ _ _ _ _ _ _ _ _ g.1.0 g.1.1 g.0.0.wide g.0.1.wide g.0.2.wide c.loop-i-test.true c.start-b.ensures.0 v.2 j l),
+          (λ j l. product-row _ _ _ _ _ _ _ _ _ _ _ _ _ _ g.apart.0 g.apart.1 g.holds.0.wide g.holds.1.wide g.holds.2.wide c.loop-i-test.true c.start-b.ensures.0 v.2 j l),
     )
 
 pub shape_of-work : goal.shape_of-work

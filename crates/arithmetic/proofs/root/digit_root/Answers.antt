@@ -37,7 +37,7 @@ loop-i-preserved c =
     let l = c.loop-i in
     let a = c.args.a in
     elim c.if-t-rem.branch [
-      then-t-rem w ↦ same (taken a l.i l.r l.rem l.rest l.invariant (omega arith) w.if-t-rem.true) w.r-is w.rem-is
+      | then-t-rem w ↦ same (taken a l.i l.r l.rem l.rest l.invariant (omega arith) w.if-t-rem.true) w.r-is w.rem-is
       | else-t-rem w ↦ same (passed a l.i l.r l.rem l.rest l.invariant (omega arith) w.if-t-rem.false) w.r-is w.rem-is
     ]
 

@@ -5,4 +5,4 @@ use borrow.Author.Rules.{rules}
 use Rattle.table_algebra.proofs.large_cases.inverted.Goals as goal
 
 pub invert-requires : goal.invert-requires
-invert-requires c = ((record { wide = omega arith; fits = omega arith }, record { wide = omega arith; fits = omega arith }, record { wide = omega arith; fits = omega arith }), (record { apart = inl (omega arith) }, record { apart = inr (omega arith) }))
+invert-requires c = record { holds = (record { wide = omega arith; fits = omega arith }, record { wide = omega arith; fits = omega arith }, record { wide = omega arith; fits = omega arith }); apart = (record { apart = inl (omega arith) }, record { apart = inr (omega arith) }) }

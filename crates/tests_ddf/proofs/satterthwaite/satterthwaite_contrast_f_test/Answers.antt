@@ -10,10 +10,8 @@ returns-then-q-eq1 c =
     let v = c.transformed-v.ensures in
     let ld = c.contrast_of-ld.ensures in
     let l = c.given_cells-l.ensures in
-    let test = eq-eqb _ _ c.if-q-eq1.true in (
-      one-row-is _ _ _ _ _ _ _ _ _ _ _ _ _ _ l ld v js test _ _ _ c.start_seen-start.ensures c.gradient_one-gradient.ensures c.one_row.ensures,
-      one-row-accepted _ _ _ _ _ _ _ _ _ _ _ _ _ _ l ld v js test,
-    )
+    let test = eq-eqb _ _ c.if-q-eq1.true in
+    record { value = one-row-is _ _ _ _ _ _ _ _ _ _ _ _ _ _ l ld v js test _ _ _ c.start_seen-start.ensures c.gradient_one-gradient.ensures c.one_row.ensures; refused_after = one-row-accepted _ _ _ _ _ _ _ _ _ _ _ _ _ _ l ld v js test }
 
 pub returns : goal.returns
 returns c =
@@ -21,7 +19,4 @@ returns c =
     let v = c.transformed-v.ensures in
     let ld = c.contrast_of-ld.ensures in
     let l = c.given_cells-l.ensures in
-    let test = ne_eqb _ _ c.if-q-eq1.false in (
-      several-rows-is _ _ _ _ _ _ _ _ _ _ _ _ _ _ l ld v js test _ c.several_rows.ensures.0,
-      several-rows-refused _ _ _ _ _ _ _ _ _ _ _ _ _ _ l ld v js test _ c.several_rows.ensures.1,
-    )
+    let test = ne_eqb _ _ c.if-q-eq1.false in record { value = several-rows-is _ _ _ _ _ _ _ _ _ _ _ _ _ _ l ld v js test _ c.several_rows.ensures.value; refused_after = several-rows-refused _ _ _ _ _ _ _ _ _ _ _ _ _ _ l ld v js test _ c.several_rows.ensures.refused_after }

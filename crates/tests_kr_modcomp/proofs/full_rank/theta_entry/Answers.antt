@@ -8,4 +8,4 @@ returns c =
     let a = c.sandwich-a.ensures in
     let x = c.solve-x.ensures in
     let u = c.u_split-all.ensures in
-    (theta-entry-is _ _ _ _ _ _ _ _ _ _ _ _ _ _ _ _ _ _ _ _ a x.0 c.theta_phi-tp.ensures c.theta_seen-before.ensures u.0 u.1 c.wald_entry.ensures, rw (← a) x.1)
+    record { value = theta-entry-is _ _ _ _ _ _ _ _ _ _ _ _ _ _ _ _ _ _ _ _ a x.value c.theta_phi-tp.ensures c.theta_seen-before.ensures u.value u.plain_after c.wald_entry.ensures; zero_pivot_after = rw (← a) x.zero_pivot_after }

@@ -29,4 +29,4 @@ pub returns : goal.returns
 unfolding u_values stackSeen
 returns c =
     let v = c.loop-i.invariant in
-    (fold_end _ _ _ _ _ _ v.0 c.loop-i-test.false v.2, fold_end _ _ _ _ _ _ v.0 c.loop-i-test.false v.1)
+    record { value = fold_end _ _ _ _ _ _ v.0 c.loop-i-test.false v.2; plain_after = fold_end _ _ _ _ _ _ v.0 c.loop-i-test.false v.1 }

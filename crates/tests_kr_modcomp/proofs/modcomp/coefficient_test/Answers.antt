@@ -10,4 +10,4 @@ pub returns : goal.returns
 unfolding of_bits
 returns c =
     let e = coefficient-is _ _ _ _ _ c.unit_row-l.ensures in
-    (c.kr_modcomp_test.ensures.0 ∙ ap (λ (t : Tested). t.entry) e, c.kr_modcomp_test.ensures.1 ∙ ap (λ (t : Tested). t.refused) e)
+    record { value = c.kr_modcomp_test.ensures.value ∙ ap (λ (t : Tested). t.entry) e; zero_pivot_after = c.kr_modcomp_test.ensures.zero_pivot_after ∙ ap (λ (t : Tested). t.refused) e }
