@@ -41,8 +41,8 @@ def snake(name, dashes):
 
 
 def sources(root):
-    found = glob.glob(os.path.join(root, "crates", "*", "**", "*.antt*"), recursive=True)
-    return sorted(f for f in found if "/out/" not in f and f.endswith((".antt", ".antt.txt")))
+    found = glob.glob(os.path.join(root, "crates", "*", "**", "*.antt"), recursive=True)
+    return sorted(f for f in found if "/out/" not in f)
 
 
 def names(root):
@@ -57,7 +57,7 @@ def names(root):
             line = line.split("--")[0]
             use = USE.match(line)
             if use:
-                if not use.group(1).startswith("Rattle."):
+                if not use.group(1).startswith("Rattle"):
                     library |= {n.strip().split(" as ")[0] for n in use.group(2).split(",")}
                 continue
             found = DECLARES.match(line)
@@ -79,7 +79,7 @@ def stop_where_together(turned, declared, library, root):
     for old, new in turned.items():
         back[new].append(old)
     for path in sources(root):
-        if path.endswith("/Proof.antt"):
+        if os.path.basename(path) in ("Proof.antt", "Answers.antt", "Invariants.antt"):
             continue
         lines = (line.split("--")[0] for line in read(path).split("\n"))
         here = set(re.findall(W, "\n".join(re.sub(r"\b(use|mod) [^{]*", "", line) for line in lines)))

@@ -3,7 +3,7 @@ use Prim.Native.Nat.{ℕ}
 use mathlib.Core.Path.{◌≡◌}
 use mathlib.Core.Bool.{Bool, cond}
 use lib.Ieee.{Float, binary64, mul, lt}
-use Rattle.arithmetic.specs.Numbers.{plusZero}
+use Rattle.arithmetic.specs.Numbers.{plus_zero}
 use Rattle.algebra.specs.Table.{table}
 use Rattle.algebra.specs.Kind.{floats}
 use Rattle.algebra.specs.Product.{at}
@@ -20,6 +20,6 @@ unfolding inverted
 inverted-is c N ie eigen out least t e d g = rw (← e, d) g
 
 -- W from the inverse v
-pub w_rows-is : (N : ℕ) (m v out : Rows) → v ≡ inverse floats 6 12 6 N m → out ≡ table plusZero 6 6 N N (λ i j. mul binary64 two (at floats v i j)) → out ≡ w_rows N m
+pub w_rows-is : (N : ℕ) (m v out : Rows) → v ≡ inverse floats 6 12 6 N m → out ≡ table plus_zero 6 6 N N (λ i j. mul binary64 two (at floats v i j)) → out ≡ w_rows N m
 unfolding w_rows
 w_rows-is N m v out e d = rw (← e) d

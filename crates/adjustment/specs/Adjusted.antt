@@ -3,13 +3,13 @@ use Rattle.std.specs.Prelude.{ℕ, ◌+◌, Bool, false, not, ◌||◌, List, []
 use Rattle.std.specs.Float.{binary64}
 use Rattle.std.specs.Float.Ieee.{add, sub, mul}
 use Rattle.arithmetic.specs.declared.Marked.{Marked}
-use Rattle.arithmetic.specs.Numbers.{plusZero, is_finite}
+use Rattle.arithmetic.specs.Numbers.{plus_zero, is_finite}
 use Rattle.algebra.specs.Fold.{fold, span}
 use Rattle.algebra.specs.Table.{table, blank}
 use Rattle.algebra.specs.Kind.{Arith, floats, marks}
-use Rattle.algebra.specs.Product.{at, product, transpose, plus_cells, minusCells, times_number, over_number}
+use Rattle.algebra.specs.Product.{at, product, transpose, plus_cells, minus_cells, times_number, over_number}
 use Rattle.algebra.specs.Jacobi.{State, two, jacobi}
-use Rattle.algebra.specs.Small.{Rows, givenCells}
+use Rattle.algebra.specs.Small.{Rows, given_cells}
 use Rattle.algebra.specs.Reasons.{first}
 use Rattle.arithmetic_cutoffs.specs.declared.Cutoffs.{Cutoffs}
 use Rattle.adjustment.specs.Covariance.{Design, parameters, matrices, g_rows, sigma_rows, cholesky, not_definite, inverse_factor, inverse_factor_refused, precision}
@@ -24,15 +24,15 @@ matrix_at st r = get_or st r []
 
 -- K stored matrices, of which the first k are f 0, .., f (k - 1), and the others zero
 unfoldable pub stack : ℕ → ℕ → (ℕ → Rows) → Stack
-stack K k f = span 0 k f (replicate K (blank plusZero 6 6))
+stack K k f = span 0 k f (replicate K (blank plus_zero 6 6))
 
 -- the packed Qs of N matrices: for each r, for each s from r on, in the order of packing
 unfoldable pub q_stack : ℕ → (ℕ → ℕ → Rows) → Stack
-q_stack N f = fold 0 N (λ r st. fold r N (λ s st. set st (packed N r s) (f r s)) st) (replicate 10 (blank plusZero 6 6))
+q_stack N f = fold 0 N (λ r st. fold r N (λ s st. set st (packed N r s) (f r s)) st) (replicate 10 (blank plus_zero 6 6))
 
 -- (Q_rs − (P_rΦ)P_s) × W_rs
 unfoldable pub u_term : ℕ → Rows → Rows → Rows → Rows → Float → Rows
-u_term p phi q pr ps w = times_number floats 6 6 p p (minusCells floats 6 6 p p q (product floats 6 6 p p p (product floats 6 6 p p p pr phi) ps)) w
+u_term p phi q pr ps w = times_number floats 6 6 p p (minus_cells floats 6 6 p p q (product floats 6 6 p p p (product floats 6 6 p p p pr phi) ps)) w
 
 module _ (p N : ℕ) (phi : Rows) (ps qs : Stack) (w : Rows) where
   -- the term of r and s, r ≤ s: W_rs with r ≤ s alone is used
@@ -41,7 +41,7 @@ module _ (p N : ℕ) (phi : Rows) (ps qs : Stack) (w : Rows) where
 
   -- the terms with r < s, r up to k
   unfoldable pub u_above : ℕ → Rows
-  u_above k = fold 0 k (λ r u. fold (r + 1) N (λ s u. plus_cells floats 6 6 p p u (u_term_at r s)) u) (blank plusZero 6 6)
+  u_above k = fold 0 k (λ r u. fold (r + 1) N (λ s u. plus_cells floats 6 6 p p u (u_term_at r s)) u) (blank plus_zero 6 6)
 
   -- U: these, their transpose, then the terms with r = s
   unfoldable pub u_rows : Rows
@@ -110,10 +110,10 @@ adjustment c d phi = from_precision c d phi (precision_of d)
 
 -- ---- the scaling by sigma2, on any kind of number; the document's steps are marked: Φ and Φ_A times it, each P divided by it
 unfoldable pub scaled_up : {A : Type 0} → Arith A → ℕ → Rows → Float → List (List A)
-scaled_up N p m sigma2 = times_number N 6 6 p p (givenCells N 6 6 p p m) (N.of sigma2)
+scaled_up N p m sigma2 = times_number N 6 6 p p (given_cells N 6 6 p p m) (N.of sigma2)
 
 unfoldable pub scaled_down : {A : Type 0} → Arith A → ℕ → Rows → Float → List (List A)
-scaled_down N p m sigma2 = over_number N 6 6 p p (givenCells N 6 6 p p m) (N.of sigma2)
+scaled_down N p m sigma2 = over_number N 6 6 p p (given_cells N 6 6 p p m) (N.of sigma2)
 
 -- ---- the late refusal 4: some number of the output, scaled or not, is not finite
 unfoldable pub not_all_finite : ℕ → ℕ → Rows → Bool

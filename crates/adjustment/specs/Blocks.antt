@@ -3,7 +3,7 @@
 use Rattle.std.specs.Prelude.{ℕ, ◌+◌, ◌-◌, ◌*◌, ◌/◌, Bool, cond, ◌&&◌, ◌||◌, List, eqb, leb, get_or, Float}
 use Rattle.std.specs.Float.{nan, binary64}
 use Rattle.std.specs.Float.Ieee.{mul}
-use Rattle.arithmetic.specs.Numbers.{plusZero, one}
+use Rattle.arithmetic.specs.Numbers.{plus_zero, one}
 use Rattle.algebra.specs.Fold.{fold}
 use Rattle.algebra.specs.Kind.{floats}
 use Rattle.algebra.specs.Product.{sum}
@@ -56,7 +56,7 @@ place_of blocks count r =
 
 -- T_ic: the block's theta of that place; +0 above the diagonal
 unfoldable pub theta_cell : List Float → Place → ℕ → ℕ → Float
-theta_cell theta t i c = cond (leb c i) (get_or theta (t.first + packed t.effects c i) nan) plusZero
+theta_cell theta t i c = cond (leb c i) (get_or theta (t.first + packed t.effects c i) nan) plus_zero
 
 -- the place's entry of TTᵀ
 unfoldable pub factor_of : List Float → Place → Float
@@ -64,4 +64,4 @@ factor_of theta t = sum floats t.effects (λ c. mul binary64 (theta_cell theta t
 
 -- E: 1 at the place and at its mirror
 unfoldable pub direction : Place → ℕ → ℕ → Float
-direction t a b = cond ((eqb a t.row && eqb b t.column) || (eqb a t.column && eqb b t.row)) one plusZero
+direction t a b = cond ((eqb a t.row && eqb b t.column) || (eqb a t.column && eqb b t.row)) one plus_zero

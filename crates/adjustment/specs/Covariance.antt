@@ -2,7 +2,7 @@
 use Rattle.std.specs.Prelude.{ℕ, ◌+◌, ◌*◌, Bool, cond, List, eqb, get_or, Float}
 use Rattle.std.specs.Float.{nan, binary64}
 use Rattle.std.specs.Float.Ieee.{mul, div}
-use Rattle.arithmetic.specs.Numbers.{plusZero, one}
+use Rattle.arithmetic.specs.Numbers.{plus_zero, one}
 use Rattle.algebra.specs.Table.{table}
 use Rattle.algebra.specs.Kind.{floats}
 use Rattle.algebra.specs.Product.{at, sum, product, transpose}
@@ -48,7 +48,7 @@ block_cell z t i j = sum floats t.groups (λ g. group_cell z t g i j)
 
 -- the last G: diagonal 1/weight, or 1
 unfoldable pub residual_cell : Bool → List Float → ℕ → ℕ → Float
-residual_cell weighted weights i j = cond (eqb i j) (cond weighted (div binary64 one (get_or weights i nan)) one) plusZero
+residual_cell weighted weights i j = cond (eqb i j) (cond weighted (div binary64 one (get_or weights i nan)) one) plus_zero
 
 -- cell (i, j) of G_r, and its factor
 unfoldable pub g_cell : Design → ℕ → ℕ → ℕ → Float
@@ -58,14 +58,14 @@ unfoldable pub factor : Design → ℕ → Float
 factor d r = cond (eqb r (parameters d)) one (factor_of d.theta (place_of d.blocks d.count r))
 
 unfoldable pub g_rows : Design → ℕ → Rows
-g_rows d r = table plusZero d.n d.n d.n d.n (g_cell d r)
+g_rows d r = table plus_zero d.n d.n d.n d.n (g_cell d r)
 
 -- Σ
 unfoldable pub sigma_cell : Design → ℕ → ℕ → Float
 sigma_cell d i j = sum floats (matrices d) (λ r. mul binary64 (factor d r) (g_cell d r i j))
 
 unfoldable pub sigma_rows : Design → Rows
-sigma_rows d = table plusZero d.n d.n d.n d.n (sigma_cell d)
+sigma_rows d = table plus_zero d.n d.n d.n d.n (sigma_cell d)
 
 -- L, lower; refusal 9 where a diagonal is not > 0
 unfoldable pub cholesky : ℕ → Rows → Rows

@@ -4,11 +4,11 @@
 use Rattle.std.specs.Prelude.{ℕ, ◌+◌, ◌-◌, ◌*◌, ◌/◌, Bool, true, false, cond, List, [], eqb, leb, ltb, get_or, pos, Float}
 use Rattle.std.specs.Float.{fin, inf, binary64}
 use Rattle.std.specs.Float.Ieee.{add, sub, mul, lt}
-use Rattle.arithmetic.specs.Numbers.{plusZero, minus_one, magnitude}
+use Rattle.arithmetic.specs.Numbers.{plus_zero, minus_one, magnitude}
 use Rattle.algebra.specs.Fold.{fold}
 use Rattle.algebra.specs.Table.{table}
 use Rattle.algebra.specs.Kind.{floats}
-use Rattle.algebra.specs.Product.{at, product, transpose, sumCells, like_cells}
+use Rattle.algebra.specs.Product.{at, product, transpose, sum_cells, like_cells}
 use Rattle.algebra.specs.Elimination.{inverse, inverse_refused}
 use Rattle.algebra.specs.Jacobi.{two, jacobi}
 use Rattle.arithmetic_cutoffs.specs.declared.Cutoffs.{Cutoffs}
@@ -23,7 +23,7 @@ o_rows n p h x = product floats n p n n p h x
 
 -- P_r, from O_r and S X
 unfoldable pub p_rows : ℕ → ℕ → Rows → Rows → Rows
-p_rows n p o sx = let m : Rows = product floats 6 6 p n p (transpose floats p n n p o) sx in table plusZero 6 6 p p (λ a b. mul binary64 minus_one (at floats m a b))
+p_rows n p o sx = let m : Rows = product floats 6 6 p n p (transpose floats p n n p o) sx in table plus_zero 6 6 p p (λ a b. mul binary64 minus_one (at floats m a b))
 
 -- Q_rs, from O_r, S and O_s
 unfoldable pub q_rows : ℕ → ℕ → Rows → Rows → Rows → Rows
@@ -35,7 +35,7 @@ packed N r s = let a : ℕ = cond (leb r s) r s in let b : ℕ = cond (leb r s) 
 
 -- K_rs
 unfoldable pub k_cell : ℕ → Rows → Rows → Float
-k_cell n hr hs = sumCells floats n n (λ i j. mul binary64 (at floats hr j i) (at floats hs i j))
+k_cell n hr hs = sum_cells floats n n (λ i j. mul binary64 (at floats hr j i) (at floats hs i j))
 
 -- IE_rs, from K_rs, Φ, Q_rs, P_r and P_s
 unfoldable pub ie_cell : ℕ → Float → Rows → Rows → Rows → Rows → Float
@@ -45,7 +45,7 @@ ie_cell p k phi q pr ps =
 
 -- IE, from its cells with r ≤ s
 unfoldable pub mirror : ℕ → (ℕ → ℕ → Float) → Rows
-mirror N f = table plusZero 6 6 N N (λ r s. cond (leb r s) (f r s) (f s r))
+mirror N f = table plus_zero 6 6 N N (λ r s. cond (leb r s) (f r s) (f s r))
 
 -- the smallest magnitude on the diagonal: from infinity, replaced by a smaller one, so that a NaN is passed over
 unfoldable pub smallest : ℕ → Rows → Float
@@ -53,7 +53,7 @@ smallest N m = fold 0 N (λ i s. let v : Float = magnitude (at floats m i i) in 
 
 -- IE with the ridge on its diagonal
 unfoldable pub ridged : Float → ℕ → Rows → Rows
-ridged x N ie = table plusZero 6 6 N N (λ i j. cond (eqb i j) (add binary64 (at floats ie i j) x) (at floats ie i j))
+ridged x N ie = table plus_zero 6 6 N N (λ i j. cond (eqb i j) (add binary64 (at floats ie i j) x) (at floats ie i j))
 
 -- the matrix that is inverted, given IE's eigenvalues
 unfoldable pub inverted : Cutoffs → ℕ → Rows → Rows → Rows
@@ -61,7 +61,7 @@ inverted c N ie eigen = cond (lt c.eigenvalue (smallest N eigen)) ie (ridged c.r
 
 -- W = 2 times its inverse; refusal 10 where a pivot is zero
 unfoldable pub w_rows : ℕ → Rows → Rows
-w_rows N m = let v : Rows = inverse floats 6 12 6 N m in table plusZero 6 6 N N (λ i j. mul binary64 two (at floats v i j))
+w_rows N m = let v : Rows = inverse floats 6 12 6 N m in table plus_zero 6 6 N N (λ i j. mul binary64 two (at floats v i j))
 
 unfoldable pub w_refused : ℕ → Rows → Bool
 w_refused N m = inverse_refused floats 6 12 6 N m

@@ -2,7 +2,7 @@
 ghost use Rattle.std.specs.Prelude.{◌≡◌, ◌≤◌};
 ghost use Rattle.std.specs.Float.{binary64};
 ghost use Rattle.std.specs.Float.Ieee.{mul};
-ghost use Rattle.arithmetic.specs.Numbers.{plusZero};
+ghost use Rattle.arithmetic.specs.Numbers.{plus_zero};
 ghost use Rattle.algebra.specs.Table.{table};
 ghost use Rattle.algebra.specs.Kind.{floats};
 ghost use Rattle.algebra.specs.Product.{at};
@@ -34,7 +34,7 @@ pub fn ie_cell(
 // 2 times each cell.
 fn doubled(n: usize, v: [[f64; 6]; 6]) -> [[f64; 6]; 6]
     requires { n ≤ 6 }
-    ensures { result ≡ table plusZero 6 6 n n (λ i j. mul binary64 two (at floats v i j)) }
+    ensures { result ≡ table plus_zero 6 6 n n (λ i j. mul binary64 two (at floats v i j)) }
 {
     let mut out = zeros();
     for i in 0..n {

@@ -6,7 +6,7 @@ use mathlib.Core.Bool.{Bool, true}
 use mathlib.Core.List.{List, []}
 use lib.Ieee.{Float, nan, binary64, mul}
 use borrow.Author.Tests.{eq-eqb, ne_eqb}
-use Rattle.arithmetic.specs.Numbers.{plusZero}
+use Rattle.arithmetic.specs.Numbers.{plus_zero}
 use Rattle.algebra.specs.Kind.{floats}
 use Rattle.algebra.specs.Product.{at, transpose}
 use Rattle.algebra.proofs.TableLaws.{table_at}
@@ -19,16 +19,16 @@ use Rattle.adjustment_covariance.specs.joints.Lent.{design}
 
 pub g-at : (d : Design) (r i j : ℕ) → i < d.n → j < d.n → at floats (g_rows d r) i j ≡ g_cell d r i j
 unfolding g_rows
-g-at d r i j hi hj = table_at plusZero d.n d.n d.n d.n (g_cell d r) i j nan hi hj (omega arith) (omega arith)
+g-at d r i j hi hj = table_at plus_zero d.n d.n d.n d.n (g_cell d r) i j nan hi hj (omega arith) (omega arith)
 
 pub sigma-at : (d : Design) (i j : ℕ) → i < d.n → j < d.n → at floats (sigma_rows d) i j ≡ sigma_cell d i j
 unfolding sigma_rows
-sigma-at d i j hi hj = table_at plusZero d.n d.n d.n d.n (sigma_cell d) i j nan hi hj (omega arith) (omega arith)
+sigma-at d i j hi hj = table_at plus_zero d.n d.n d.n d.n (sigma_cell d) i j nan hi hj (omega arith) (omega arith)
 
 -- a cell of a transpose
 pub turned-at : (p n k a : ℕ) (m : Rows) → k < n → a < p → at floats (transpose floats p n n p m) a k ≡ at floats m k a
 unfolding transpose
-turned-at p n k a m hk ha = table_at plusZero p n p n (λ i j. at floats m j i) a k nan ha hk (omega arith) (omega arith)
+turned-at p n k a m hk ha = table_at plus_zero p n p n (λ i j. at floats m j i) a k nan ha hk (omega arith) (omega arith)
 
 module _ (n : ℕ) (z : Rows) (weighted : Bool) (weights : List Float) (blocks : List Block) (count : ℕ) (theta : List Float) where
   -- one term of Σ, from a factor that does not look at Z and a cell that does not look at the thetas

@@ -6,7 +6,7 @@ use mathlib.Core.Path.{◌≡◌, refl, sym, ap, ◌∙◌}
 use mathlib.Core.List.{List}
 use lib.ListN.{get_or, length}
 use lib.Ieee.{Float, nan}
-use Rattle.arithmetic.specs.Numbers.{plusZero}
+use Rattle.arithmetic.specs.Numbers.{plus_zero}
 use Rattle.algebra.specs.Fold.{fold}
 use Rattle.algebra.specs.Kind.{floats}
 use Rattle.algebra.specs.Product.{at, sum, cell, product, transpose}
@@ -48,26 +48,26 @@ with-ext F G n q t j x bs es ef eg =
 
 -- the gains of a row that was cleared first
 pub with-cleared : (F G : ℕ → Float) (d c q t n : ℕ) (bs es xs ys zs : List Float) → d + c ≤ length xs → ((k : ℕ) → k < n → G k ≡ F k)
-    → ((k j : ℕ) → k < n → j < c → get_or es (q + k * t + j) nan ≡ get_or bs (q + k * t + j) nan) → ys ≡ put_row d c (λ j. plusZero) xs
-    → zs ≡ put_row d c (λ j. gained_with n G es q t (get_or ys (d + j) nan) j) ys → zs ≡ put_row d c (gained_with n F bs q t plusZero) xs
+    → ((k j : ℕ) → k < n → j < c → get_or es (q + k * t + j) nan ≡ get_or bs (q + k * t + j) nan) → ys ≡ put_row d c (λ j. plus_zero) xs
+    → zs ≡ put_row d c (λ j. gained_with n G es q t (get_or ys (d + j) nan) j) ys → zs ≡ put_row d c (gained_with n F bs q t plus_zero) xs
 with-cleared F G d c q t n bs es xs ys zs hl ef eg ey ez =
-    row-over d c (λ j. plusZero) (λ j. gained_with n G es q t (get_or ys (d + j) nan) j) (gained_with n F bs q t plusZero) xs ys zs hl ey ez
+    row-over d c (λ j. plus_zero) (λ j. gained_with n G es q t (get_or ys (d + j) nan) j) (gained_with n F bs q t plus_zero) xs ys zs hl ey ez
     (λ j l.
-    ap (λ (x : Float). gained_with n G es q t x j) (ap (λ (l : List Float). get_or l (d + j) nan) ey ∙ put_row-at d c (λ j. plusZero) xs j l hl)
-    ∙ with-ext F G n q t j plusZero bs es ef (λ k hk. eg k j hk l))
+    ap (λ (x : Float). gained_with n G es q t x j) (ap (λ (l : List Float). get_or l (d + j) nan) ey ∙ put_row-at d c (λ j. plus_zero) xs j l hl)
+    ∙ with-ext F G n q t j plus_zero bs es ef (λ k hk. eg k j hk l))
 
 -- a cell of a product
 pub with-product : (F : ℕ → Float) (r n c q t i j : ℕ) (bs : List Float) (a b : Rows) → i < r → j < c → ((k : ℕ) → k < n → F k ≡ at floats a i k)
-    → ((k : ℕ) → k < n → get_or bs (q + k * t + j) nan ≡ at floats b k j) → gained_with n F bs q t plusZero j ≡ at floats (product floats r c r n c a b) i j
+    → ((k : ℕ) → k < n → get_or bs (q + k * t + j) nan ≡ at floats b k j) → gained_with n F bs q t plus_zero j ≡ at floats (product floats r c r n c a b) i j
 unfolding gained_with sum
 with-product F r n c q t i j bs a b hi hj ea eb =
-    fold-ext 0 n (λ k y. floats.plus y (floats.times (F k) (get_or bs (q + k * t + j) nan))) (λ k y. floats.plus y (floats.times (at floats a i k) (at floats b k j))) plusZero
+    fold-ext 0 n (λ k y. floats.plus y (floats.times (F k) (get_or bs (q + k * t + j) nan))) (λ k y. floats.plus y (floats.times (at floats a i k) (at floats b k j))) plus_zero
     (λ k lo hk y. rw (ea k hk, eb k hk))
     ∙ sym (product_at r n c a b i j hi hj)
 
 -- row a of OᵀS at e, where the rows before it stand
 pub turned-cells : (m : Rows) (e o n p q s a : ℕ) (ws xs ys : List Float) → Apart e (p * n) o (n * 6) → p ≤ 6 → a < p → ys ≡ put_rows n e a n m xs → (j : ℕ) → j < n
-    → gained_with n (λ k. get_or ys (o + k * 6 + a) nan) ws q s plusZero j
+    → gained_with n (λ k. get_or ys (o + k * 6 + a) nan) ws q s plus_zero j
     ≡ at floats (product floats p n p n n (transpose floats p n n p (rows_at 6 o n p xs)) (rows_at s q n n ws)) a j
 turned-cells m e o n p q s a ws xs ys h hp ha ey j hj =
     with-product (λ k. get_or ys (o + k * 6 + a) nan) p n n q s a j ws (transpose floats p n n p (rows_at 6 o n p xs)) (rows_at s q n n ws) ha hj
@@ -78,7 +78,7 @@ turned-cells m e o n p q s a ws xs ys h hp ha ey j hj =
 
 -- row i of G_r S at d, where the rows before it stand
 pub h-cells : (m : Rows) (g : Design) (r d q s i : ℕ) (xs ys : List Float) → Apart d (g.n * s) q (g.n * s) → g.n ≤ s → i < g.n → ys ≡ put_rows s d i g.n m xs
-    → (j : ℕ) → j < g.n → gained_with g.n (g_cell g r i) ys q s plusZero j ≡ at floats (h_rows g.n (g_rows g r) (rows_at s q g.n g.n xs)) i j
+    → (j : ℕ) → j < g.n → gained_with g.n (g_cell g r i) ys q s plus_zero j ≡ at floats (h_rows g.n (g_rows g r) (rows_at s q g.n g.n xs)) i j
 unfolding h_rows
 h-cells m g r d q s i xs ys h hs hi ey j hj =
     with-product (g_cell g r i) g.n g.n g.n q s i j ys (g_rows g r) (rows_at s q g.n g.n xs) hi hj
@@ -88,11 +88,11 @@ h-cells m g r d q s i xs ys h hs hi ey j hj =
 -- a cell of a product that is stored in 6 rows of 6
 pub small-product-at : (p n : ℕ) (a b : Rows) (i j : ℕ) → p ≤ 6 → i < p → j < p → at floats (product floats 6 6 p n p a b) i j ≡ cell floats n a b i j
 unfolding product
-small-product-at p n a b i j hp hi hj = table_at plusZero 6 6 p p (cell floats n a b) i j nan hi hj hp hp
+small-product-at p n a b i j hp hi hj = table_at plus_zero 6 6 p p (cell floats n a b) i j nan hi hj hp hp
 
 product-shape : (r n c : ℕ) (a b : Rows) → Shape r c (product floats r c r n c a b)
 unfolding product
-product-shape r n c a b = shape-table plusZero r c (cell floats n a b)
+product-shape r n c a b = shape-table plus_zero r c (cell floats n a b)
 
 -- Q, read where OᵀS was put
 pub q-is : (e n p t : ℕ) (or s os : Rows) (m : Rows) (xs ys : List Float) → Holds n e p n (length xs) → Apart e (p * n) t (n * 6) → p ≤ 6

@@ -1,7 +1,7 @@
 // What the Hs give: O and S X, narrow matrices of n rows with stride 6 in a slice of their own, the small P and K, and what the Qs are made of.
 ghost use Rattle.std.specs.Prelude.{◌≡◌, ◌+◌, ◌*◌, ◌≤◌, ◌<◌, length, get_or};
 ghost use Rattle.std.specs.Float.{nan};
-ghost use Rattle.arithmetic.specs.Numbers.{plusZero};
+ghost use Rattle.arithmetic.specs.Numbers.{plus_zero};
 ghost use Rattle.algebra.specs.Kind.{floats};
 ghost use Rattle.algebra.specs.Product.{cell, product, transpose};
 ghost use Rattle.algebra_large.specs.joints.Slab.{rows_at, put_row, put_rows, Holds, Apart};
@@ -100,7 +100,7 @@ pub fn turned_row(
     p: usize,
 )
     requires { (d + n ≤ length narrow.old) × Holds 6 o n p (length narrow.old) × Apart d n o (n * 6) × (a < p) × Holds s q n n (length work.now) }
-    ensures { narrow.new ≡ put_row d n (gained_with n (λ k. get_or narrow.old (o + k * 6 + a) nan) work.now q s plusZero) narrow.old }
+    ensures { narrow.new ≡ put_row d n (gained_with n (λ k. get_or narrow.old (o + k * 6 + a) nan) work.now q s plus_zero) narrow.old }
 {
     algebra_large::rows::clear_row(narrow, d, n);
     gain_turned(narrow, d, o, a, work, q, s, n, p);

@@ -2,7 +2,7 @@
 // order of its sum, and what depends on the row alone is made once for it.
 ghost use Rattle.std.specs.Prelude.{◌≡◌, true, [], ◌+◌, ◌*◌, ◌≤◌, ◌<◌, length, get_or};
 ghost use Rattle.std.specs.Float.{nan};
-ghost use Rattle.arithmetic.specs.Numbers.{plusZero};
+ghost use Rattle.arithmetic.specs.Numbers.{plus_zero};
 ghost use Rattle.algebra.specs.Fold.{fold};
 ghost use Rattle.algebra.specs.Kind.{floats};
 ghost use Rattle.algebra.specs.Product.{at};
@@ -29,7 +29,7 @@ pub fn gain_one(
     u: f64,
 )
     requires { (d + m ≤ length out.old) × Holds zs 0 n columns (length z.now) × (lo + m ≤ n) × (k < columns) }
-    ensures { out.new ≡ put_row d m (λ j. floats.plus (get_or out.old (d + j) nan) (floats.plus plusZero (floats.times u (at floats (rows_at zs 0 n columns z.now) (lo + j) k)))) out.old }
+    ensures { out.new ≡ put_row d m (λ j. floats.plus (get_or out.old (d + j) nan) (floats.plus plus_zero (floats.times u (at floats (rows_at zs 0 n columns z.now) (lo + j) k)))) out.old }
 {
     for j in 0..m {
         let x = cell_of(z, zs, n, columns, lo + j, k);
@@ -53,7 +53,7 @@ pub fn gain_two(
     v: f64,
 )
     requires { (d + m ≤ length out.old) × Holds zs 0 n columns (length z.now) × (lo + m ≤ n) × (k < columns) × (l < columns) }
-    ensures { out.new ≡ put_row d m (λ j. floats.plus (get_or out.old (d + j) nan) (floats.plus (floats.plus plusZero (floats.times u (at floats (rows_at zs 0 n columns z.now) (lo + j) k))) (floats.times v (at floats (rows_at zs 0 n columns z.now) (lo + j) l)))) out.old }
+    ensures { out.new ≡ put_row d m (λ j. floats.plus (get_or out.old (d + j) nan) (floats.plus (floats.plus plus_zero (floats.times u (at floats (rows_at zs 0 n columns z.now) (lo + j) k))) (floats.times v (at floats (rows_at zs 0 n columns z.now) (lo + j) l)))) out.old }
 {
     for j in 0..m {
         let x = cell_of(z, zs, n, columns, lo + j, k);

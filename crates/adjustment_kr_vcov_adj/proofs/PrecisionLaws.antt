@@ -7,7 +7,7 @@ use mathlib.Core.List.{List, []}
 use lib.Dec.{ltb}
 use lib.ListN.{get_or, length, replicate, length-replicate, get_or-replicate}
 use lib.Ieee.{Float, nan}
-use Rattle.arithmetic.specs.Numbers.{plusZero}
+use Rattle.arithmetic.specs.Numbers.{plus_zero}
 use Rattle.algebra.specs.Table.{blank}
 use Rattle.algebra.specs.Kind.{floats}
 use Rattle.algebra.specs.Product.{at, identity, cell, product, transpose}
@@ -67,18 +67,18 @@ precision-is s n a b ws ys ea eb ey =
 
 -- Shapes.
 
-shape-blank : (n c : ℕ) → Shape n c (blank plusZero n c)
+shape-blank : (n c : ℕ) → Shape n c (blank plus_zero n c)
 unfolding blank
 shape-blank n c =
-    record { rows = length-replicate n (replicate c plusZero); columns = λ i h. ap length (get_or-replicate n i (replicate c plusZero) [] h) ∙ length-replicate c plusZero }
+    record { rows = length-replicate n (replicate c plus_zero); columns = λ i h. ap length (get_or-replicate n i (replicate c plus_zero) [] h) ∙ length-replicate c plus_zero }
 
 pub shape-sigma : (d : Design) → Shape d.n d.n (sigma_rows d)
 unfolding sigma_rows
-shape-sigma d = shape-table plusZero d.n d.n (sigma_cell d)
+shape-sigma d = shape-table plus_zero d.n d.n (sigma_cell d)
 
 pub shape-factor : (n : ℕ) (m : Rows) → Shape n n (cholesky n m)
 unfolding cholesky lower
-shape-factor n m = shape-table plusZero n n (λ i j. cond (ltb i j) plusZero (at floats (cholesky_to floats n n m) i j))
+shape-factor n m = shape-table plus_zero n n (λ i j. cond (ltb i j) plus_zero (at floats (cholesky_to floats n n m) i j))
 
 pub shape-inverse : (n : ℕ) (l : Rows) → Shape n n (inverse_factor n l)
 unfolding inverse_factor solution back_to back_over
@@ -86,7 +86,7 @@ shape-inverse n l = shape-back n (eliminate_to floats n n (n + n) (joined floats
 
 pub shape-precision : (n : ℕ) (m : Rows) → Shape n n (precision n m)
 unfolding precision product
-shape-precision n m = shape-table plusZero n n (cell floats n (transpose floats n n n n m) m)
+shape-precision n m = shape-table plus_zero n n (cell floats n (transpose floats n n n n m) m)
 
 -- Squares 2 to 5 are cleared, and squares 0 and 1 stand.
 
@@ -97,12 +97,12 @@ behind t b r c d len x h l o i j hi hj e = let f : b + i * t + c ≤ len = row_f
 -- a matrix before d is put into base, whatever stood from d on: there base has zeros
 pub rest-is : (s a n d : ℕ) (m : Rows) (base xs ys zs : List Float) → Holds s a n n (length base) → a + n * s ≤ d → length xs ≡ length base
     → ((x : ℕ) → ((k : ℕ) → k < length base - d → x ≡ d + k → ⊥) → get_or xs x nan ≡ get_or base x nan)
-    → ((x : ℕ) → d ≤ x → x < length base → get_or base x nan ≡ plusZero) → d ≤ length base → ys ≡ put_rows s a n n m xs
-    → zs ≡ put_row d (length ys - d) (λ j. plusZero) ys → zs ≡ put_rows s a n n m base
+    → ((x : ℕ) → d ≤ x → x < length base → get_or base x nan ≡ plus_zero) → d ≤ length base → ys ≡ put_rows s a n n m xs
+    → zs ≡ put_row d (length ys - d) (λ j. plus_zero) ys → zs ≡ put_rows s a n n m base
 rest-is s a n d m base xs ys zs h hd lx ex eb hl ey ez =
-    put_rows-is m base zs h (ap length ez ∙ length-put_row d (length ys - d) (λ j. plusZero) ys ∙ ly)
+    put_rows-is m base zs h (ap length ez ∙ length-put_row d (length ys - d) (λ j. plus_zero) ys ∙ ly)
     (λ i j hi hj.
-    ap (λ (l : List Float). get_or l (a + i * s + j) nan) ez ∙ put_row-other d (length ys - d) (λ j. plusZero) ys (a + i * s + j) (λ k hk e. omega (arith, row_in s n n i hi h.wide))
+    ap (λ (l : List Float). get_or l (a + i * s + j) nan) ez ∙ put_row-other d (length ys - d) (λ j. plus_zero) ys (a + i * s + j) (λ k hk e. omega (arith, row_in s n n i hi h.wide))
     ∙ ap (λ (l : List Float). get_or l (a + i * s + j) nan) ey ∙ put_rows-at s a n n m xs (rw lx h) i j hi hj)
     (λ x o. outside x o (in_row d (length base - d) x))
   where
@@ -111,10 +111,10 @@ rest-is s a n d m base xs ys zs h hd lx ex eb hl ey ez =
 
     outside : (x : ℕ) → ((i j : ℕ) → i < n → j < n → x ≡ a + i * s + j → ⊥) → InRow d (length base - d) x → get_or zs x nan ≡ get_or base x nan
     outside x o (within j hj e) =
-        ap (λ (l : List Float). get_or l x nan) ez ∙ ap (λ (k : ℕ). get_or (put_row d (length ys - d) (λ j. plusZero) ys) k nan) e
-        ∙ put_row-at d (length ys - d) (λ j. plusZero) ys j (omega (arith, ly)) (omega (arith, ly)) ∙ sym (eb x (omega arith) (omega arith))
+        ap (λ (l : List Float). get_or l x nan) ez ∙ ap (λ (k : ℕ). get_or (put_row d (length ys - d) (λ j. plus_zero) ys) k nan) e
+        ∙ put_row-at d (length ys - d) (λ j. plus_zero) ys j (omega (arith, ly)) (omega (arith, ly)) ∙ sym (eb x (omega arith) (omega arith))
     outside x o (beyond f) =
-        ap (λ (l : List Float). get_or l x nan) ez ∙ put_row-other d (length ys - d) (λ j. plusZero) ys x (λ k hk e. f k (omega (arith, ly)) e)
+        ap (λ (l : List Float). get_or l x nan) ez ∙ put_row-other d (length ys - d) (λ j. plus_zero) ys x (λ k hk e. f k (omega (arith, ly)) e)
         ∙ ap (λ (l : List Float). get_or l x nan) ey ∙ put_rows-other s a n n m xs x o ∙ ex x f
 
 -- The work slice, step by step: cleared, with Σ, with L, with L⁻¹, with S, and with squares 2 to 5 cleared.
@@ -159,7 +159,7 @@ module _ (s : ℕ) (d : Design) (len a : ℕ) (w₀ w₁ w₂ : List Float) (hn 
   module _ (w₃ w₄ w₅ : List Float) (e : Rows)
       (e₃ : w₃ ≡ put_rows s (square s 3) d.n d.n (inverse_factor d.n (rows_at s (square s 2) d.n d.n w₂)) (put_rows (s + s) (square s 4) d.n (d.n + d.n) e w₂))
       (e₄ : w₄ ≡ put_rows s (square s 1) d.n d.n (precision d.n (rows_at s (square s 3) d.n d.n w₃)) w₃)
-      (e₅ : w₅ ≡ put_row (square s 2) (length w₄ - square s 2) (λ j. plusZero) w₄) where
+      (e₅ : w₅ ≡ put_row (square s 2) (length w₄ - square s 2) (λ j. plus_zero) w₄) where
     abbrev mid : List Float
     mid = put_rows (s + s) (square s 4) d.n (d.n + d.n) e w₂
 
@@ -196,7 +196,7 @@ module _ (s : ℕ) (d : Design) (len a : ℕ) (w₀ w₁ w₂ : List Float) (hn 
         ∙ put_rows-other s (square s 2) d.n d.n (cholesky d.n (sigma_rows d)) base x
         (behind s (square s 2) d.n d.n (square s 2) (length base) x (held 2 (omega arith) base long) (omega arith) o)
 
-    blank-behind : (x : ℕ) → square s 2 ≤ x → x < length base → get_or base x nan ≡ plusZero
+    blank-behind : (x : ℕ) → square s 2 ≤ x → x < length base → get_or base x nan ≡ plus_zero
     blank-behind x l m =
         put_rows-other s (square s 0) d.n d.n (sigma_rows d) (zeros len) x
         (λ i j hi hj q. omega (arith, row_in s d.n d.n i hi hn, rows_in d.n s s hn)) ∙ zeros-at len x (omega (arith, long))

@@ -7,7 +7,7 @@ use mathlib.Core.List.{List, []}
 use lib.Dec.{leb}
 use lib.ListN.{get_or, length, set, replicate, length-replicate}
 use lib.Ieee.{Float}
-use Rattle.arithmetic.specs.Numbers.{plusZero}
+use Rattle.arithmetic.specs.Numbers.{plus_zero}
 use Rattle.algebra.specs.Fold.{fold}
 use Rattle.algebra.specs.Table.{blank}
 use Rattle.algebra.specs.Kind.{floats}
@@ -29,19 +29,19 @@ use Rattle.adjustment_work.proofs.StackLaws.{stack-frame, stack-read}
 
 shape-product : (r n c : ℕ) (a b : Rows) → Shape r c (product floats r c r n c a b)
 unfolding product
-shape-product r n c a b = shape-table plusZero r c (cell floats n a b)
+shape-product r n c a b = shape-table plus_zero r c (cell floats n a b)
 
 -- stacks whose matrices agree
 pub q-stack-ext : (N : ℕ) (f g : ℕ → ℕ → Rows) → ((r t : ℕ) → r < N → t < N → f r t ≡ g r t) → q_stack N f ≡ q_stack N g
 unfolding q_stack
 q-stack-ext N f g h =
-    fold-ext 0 N (λ r st. fold r N (λ s st. set st (packed N r s) (f r s)) st) (λ r st. fold r N (λ s st. set st (packed N r s) (g r s)) st) (replicate 10 (blank plusZero 6 6))
+    fold-ext 0 N (λ r st. fold r N (λ s st. set st (packed N r s) (f r s)) st) (λ r st. fold r N (λ s st. set st (packed N r s) (g r s)) st) (replicate 10 (blank plus_zero 6 6))
     (λ r lo hr st. fold-ext r N (λ s st. set st (packed N r s) (f r s)) (λ s st. set st (packed N r s) (g r s)) st (λ t l ht st. ap (λ (m : Rows). set st (packed N r t) m) (h r t hr ht)))
 
 pub mirror-ext : (N : ℕ) (f g : ℕ → ℕ → Float) → ((r t : ℕ) → r < N → t < N → f r t ≡ g r t) → mirror N f ≡ mirror N g
 unfolding mirror
 mirror-ext N f g h =
-    table-ext plusZero 6 6 N N (λ r s. cond (leb r s) (f r s) (f s r)) (λ r s. cond (leb r s) (g r s) (g s r)) (λ r t hr ht. rw (h r t hr ht, h t r ht hr))
+    table-ext plus_zero 6 6 N N (λ r s. cond (leb r s) (f r s) (f s r)) (λ r s. cond (leb r s) (g r s) (g s r)) (λ r t hr ht. rw (h r t hr ht, h t r ht hr))
 
 -- the matrices of a stack
 pub h-stack-at : (d : Design) (sm : Rows) (r : ℕ) → matrices d ≤ 4 → r < matrices d → matrix_at (h_stack d sm) r ≡ h_rows d.n (g_rows d r) sm

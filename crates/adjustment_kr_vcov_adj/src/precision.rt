@@ -1,6 +1,6 @@
 // Σ, L, L⁻¹ and S, in the work slice. L stands in square 2, L⁻¹ in square 3, and the elimination takes squares 4 and 5; all are cleared before the Hs are made.
 ghost use Rattle.std.specs.Prelude.{◌≡◌, ◌+◌, ◌-◌, ◌*◌, ◌<◌, ◌≤◌, length};
-ghost use Rattle.arithmetic.specs.Numbers.{plusZero};
+ghost use Rattle.arithmetic.specs.Numbers.{plus_zero};
 ghost use Rattle.algebra.specs.Kind.{floats};
 ghost use Rattle.algebra.specs.Product.{identity};
 ghost use Rattle.algebra.specs.Elimination.{eliminate_to, joined};

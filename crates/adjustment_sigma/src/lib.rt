@@ -3,7 +3,7 @@
 
 ghost use Rattle.std.specs.Prelude.{◌≡◌, true, [], ◌+◌, ◌*◌, ◌≤◌, ◌<◌, length, get_or};
 ghost use Rattle.std.specs.Float.{nan};
-ghost use Rattle.arithmetic.specs.Numbers.{plusZero};
+ghost use Rattle.arithmetic.specs.Numbers.{plus_zero};
 ghost use Rattle.algebra.specs.Fold.{fold};
 ghost use Rattle.algebra.specs.Kind.{floats};
 ghost use Rattle.algebra_large.specs.joints.Slab.{rows_at, put_row, put_rows, Holds, Apart};
@@ -260,7 +260,7 @@ pub fn h_row(
 )
     requires n_in_bounds { (a + n ≤ length work.old) × Holds s q n n (length work.old) × Apart a n q (n * s) }
     requires lent { Lent n zs columns z.now weighted weights.now blocks count × (r ≤ places_before blocks count) × (i < n) }
-    ensures { work.new ≡ put_row a n (gained_with n (g_cell (design n (rows_at zs 0 n columns z.now) weighted weights.now blocks count []) r i) work.old q s plusZero) work.old }
+    ensures { work.new ≡ put_row a n (gained_with n (g_cell (design n (rows_at zs 0 n columns z.now) weighted weights.now blocks count []) r i) work.old q s plus_zero) work.old }
 {
     algebra_large::rows::clear_row(work, a, n);
     gain_g(

@@ -9,7 +9,7 @@ use lib.Dec.{leb, ltb}
 use lib.ListN.{get_or, length, set, replicate}
 use lib.Ieee.{Float, nan}
 use borrow.Author.Tests.{le-leb, lt-leb, le-ltb, lt-ltb}
-use Rattle.arithmetic.specs.Numbers.{plusZero}
+use Rattle.arithmetic.specs.Numbers.{plus_zero}
 use Rattle.algebra.specs.Fold.{fold}
 use Rattle.algebra.specs.Table.{table, blank}
 use Rattle.algebra.specs.Kind.{floats}
@@ -36,7 +36,7 @@ module _ (s n p : ℕ) (xs : List Float) where
       → set st r m ≡ stack 4 (r + 1) p_at
   unfolding stack
   p-more r o t m st e eo et em =
-      fold_next 0 r (λ k ys. set ys k (p_at k)) (replicate 4 (blank plusZero 6 6)) st (set st r m) (omega arith) e
+      fold_next 0 r (λ k ys. set ys k (p_at k)) (replicate 4 (blank plus_zero 6 6)) st (set st r m) (omega arith) e
       (ap (λ (x : Rows). set st r x)
       (em ∙ ap (λ (a : ℕ). p_rows n p (rows_at 6 a n p xs) (rows_at 6 t n p xs)) eo ∙ ap (λ (a : ℕ). p_rows n p (o_at s n p xs r) (rows_at 6 a n p xs)) et))
 
@@ -65,10 +65,10 @@ pub mirror-is : (N : ℕ) (f : ℕ → ℕ → Float) (half m : Rows) → N ≤ 
 unfolding mirror mirrored upper upper_cell
 mirror-is N f half m h eh em =
     em
-    ∙ table-ext plusZero 6 6 N N (λ i j. cond (ltb j i) (at floats half j i) (at floats half i j)) (λ r s. cond (leb r s) (f r s) (f s r)) (λ i j hi hj. go i j hi hj (dec_le i j))
+    ∙ table-ext plus_zero 6 6 N N (λ i j. cond (ltb j i) (at floats half j i) (at floats half i j)) (λ r s. cond (leb r s) (f r s) (f s r)) (λ i j hi hj. go i j hi hj (dec_le i j))
   where
-    cell : (i j : ℕ) → i < N → j < N → at floats half i j ≡ cond (leb i j) (f i j) plusZero
-    cell i j hi hj = rw eh (table_at plusZero 6 6 N N (λ r t. cond (leb r t) (f r t) plusZero) i j nan hi hj h h)
+    cell : (i j : ℕ) → i < N → j < N → at floats half i j ≡ cond (leb i j) (f i j) plus_zero
+    cell i j hi hj = rw eh (table_at plus_zero 6 6 N N (λ r t. cond (leb r t) (f r t) plus_zero) i j nan hi hj h h)
 
     go : (i j : ℕ) → i < N → j < N → Dec (i ≤ j) → cond (ltb j i) (at floats half j i) (at floats half i j) ≡ cond (leb i j) (f i j) (f j i)
     go i j hi hj (yes l) = rw (le-ltb j i l, le-leb i j l) (cell i j hi hj ∙ rw (le-leb i j l))
@@ -110,15 +110,15 @@ turned-frame s n p k i o sm xs hn hp hi =
 
 -- the Qs of each r < k
 unfoldable pub qs_to : ℕ → ℕ → (ℕ → ℕ → Rows) → Stack
-qs_to N k f = fold 0 k (λ r st. q_row_to N r N (f r) st) (replicate 10 (blank plusZero 6 6))
+qs_to N k f = fold 0 k (λ r st. q_row_to N r N (f r) st) (replicate 10 (blank plus_zero 6 6))
 
-pub qs-none : (N : ℕ) (f : ℕ → ℕ → Rows) (m : Rows) → m ≡ blank plusZero 6 6 → replicate 10 m ≡ qs_to N 0 f
+pub qs-none : (N : ℕ) (f : ℕ → ℕ → Rows) (m : Rows) → m ≡ blank plus_zero 6 6 → replicate 10 m ≡ qs_to N 0 f
 unfolding qs_to
-qs-none N f m e = rw e (fold_start 0 (λ r st. q_row_to N r N (f r) st) (replicate 10 (blank plusZero 6 6)))
+qs-none N f m e = rw e (fold_start 0 (λ r st. q_row_to N r N (f r) st) (replicate 10 (blank plus_zero 6 6)))
 
 pub qs-end : (N k : ℕ) (f : ℕ → ℕ → Rows) (st : Stack) → k ≤ N → N ≤ k → st ≡ qs_to N k f → st ≡ q_stack N f
 unfolding qs_to q_row_to q_stack
-qs-end N k f st h l e = fold_end 0 k N (λ r st. fold r N (λ s st. set st (packed N r s) (f r s)) st) (replicate 10 (blank plusZero 6 6)) st h l e
+qs-end N k f st h l e = fold_end 0 k N (λ r st. fold r N (λ s st. set st (packed N r s) (f r s)) st) (replicate 10 (blank plus_zero 6 6)) st h l e
 
 -- one more r
 module _ (s n p N k : ℕ) (ws xs ys : List Float) (hn : n ≤ s) (hp : p ≤ 6) (hN : N ≤ 4) (hk : k < N) (ey : ys ≡ o_transposed_s_to s n p k (o_at s n p xs) (s_at s n ws) xs) where
@@ -136,7 +136,7 @@ module _ (s n p N k : ℕ) (ws xs ys : List Float) (hn : n ≤ s) (hp : p ≤ 6)
       → next ≡ qs_to N (k + 1) (λ r t. q_rows n p (o_at s n p xs r) (s_at s n ws) (o_at s n p xs t))
   unfolding qs_to
   qs-more st next es en =
-      fold_next 0 k (λ r st. q_row_to N r N (λ t. q_rows n p (o_at s n p xs r) (s_at s n ws) (o_at s n p xs t)) st) (replicate 10 (blank plusZero 6 6)) st next (omega arith) es
+      fold_next 0 k (λ r st. q_row_to N r N (λ t. q_rows n p (o_at s n p xs r) (s_at s n ws) (o_at s n p xs t)) st) (replicate 10 (blank plus_zero 6 6)) st next (omega arith) es
       (en
       ∙ q-row-ext N k N (λ t. q_rows n p (o_at s n p ys k) (s_at s n ws) (o_at s n p ys t)) (λ t. q_rows n p (o_at s n p xs k) (s_at s n ws) (o_at s n p xs t)) st
       (λ t l u. rw (os-stand k (omega arith), os-stand t (omega arith))))

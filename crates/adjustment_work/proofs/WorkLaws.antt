@@ -9,7 +9,7 @@ use mathlib.Core.Logic.{◌⊎◌, inl, inr}
 use lib.ListN.{get_or, length, replicate, length-replicate, get_or-replicate}
 use lib.Seq.{ext_get_or}
 use lib.Ieee.{Float, nan}
-use Rattle.arithmetic.specs.Numbers.{plusZero}
+use Rattle.arithmetic.specs.Numbers.{plus_zero}
 use Rattle.algebra_large.specs.joints.Slab.{rows_at, put_row, put_rows, Holds, Apart}
 use Rattle.algebra_large.proofs.SlabLaws.{put_row-at, put_row-other, length-put_row, put_rows-other, length-put_rows, InRow, within, beyond, in_row}
 use Rattle.adjustment_work.specs.joints.Work.{square, part, zeros}
@@ -65,25 +65,25 @@ wide-apart-from s n k a b hn l ea eb = rw (ea, eb) (record { apart = inr (omega 
 
 pub length-zeros : (len : ℕ) → length (zeros len) ≡ len
 unfolding zeros
-length-zeros len = length-replicate len plusZero
+length-zeros len = length-replicate len plus_zero
 
-pub zeros-at : (len x : ℕ) → x < len → get_or (zeros len) x nan ≡ plusZero
+pub zeros-at : (len x : ℕ) → x < len → get_or (zeros len) x nan ≡ plus_zero
 unfolding zeros
-zeros-at len x h = get_or-replicate len x plusZero nan h
+zeros-at len x h = get_or-replicate len x plus_zero nan h
 
 -- a list of which every element was cleared
-pub all-cleared : (xs ys : List Float) → ys ≡ put_row 0 (length xs) (λ j. plusZero) xs → ys ≡ zeros (length xs)
+pub all-cleared : (xs ys : List Float) → ys ≡ put_row 0 (length xs) (λ j. plus_zero) xs → ys ≡ zeros (length xs)
 all-cleared xs ys e =
-    let l : length ys ≡ length xs = ap length e ∙ length-put_row 0 (length xs) (λ j. plusZero) xs in
+    let l : length ys ≡ length xs = ap length e ∙ length-put_row 0 (length xs) (λ j. plus_zero) xs in
     ext_get_or nan ys (zeros (length xs)) (l ∙ sym (length-zeros (length xs)))
     (λ x h.
     let z : 0 + x ≡ x = omega arith in
-    ap (λ (zs : List Float). get_or zs x nan) e ∙ (rw z at (put_row-at 0 (length xs) (λ j. plusZero) xs x (omega arith) (omega arith)))
+    ap (λ (zs : List Float). get_or zs x nan) e ∙ (rw z at (put_row-at 0 (length xs) (λ j. plus_zero) xs x (omega arith) (omega arith)))
     ∙ sym (zeros-at (length xs) x (omega arith)))
 
-pub rest-cleared : (s a : ℕ) (xs ys : List Float) → a ≡ square s 2 → ys ≡ put_row a (length xs - a) (λ j. plusZero) xs
-    → ys ≡ put_row (square s 2) (length xs - square s 2) (λ j. plusZero) xs
-rest-cleared s a xs ys e ey = ey ∙ ap (λ (b : ℕ). put_row b (length xs - b) (λ j. plusZero) xs) e
+pub rest-cleared : (s a : ℕ) (xs ys : List Float) → a ≡ square s 2 → ys ≡ put_row a (length xs - a) (λ j. plus_zero) xs
+    → ys ≡ put_row (square s 2) (length xs - square s 2) (λ j. plus_zero) xs
+rest-cleared s a xs ys e ey = ey ∙ ap (λ (b : ℕ). put_row b (length xs - b) (λ j. plus_zero) xs) e
 
 -- the stride is no more than a square
 pub side-in : (s : ℕ) → s ≤ s * s

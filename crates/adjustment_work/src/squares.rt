@@ -1,6 +1,6 @@
 // Where the matrices stand in the lent slices, and what clears them.
 ghost use Rattle.std.specs.Prelude.{◌≡◌, ◌+◌, ◌-◌, ◌*◌, ◌<◌, ◌≤◌, length};
-ghost use Rattle.arithmetic.specs.Numbers.{plusZero};
+ghost use Rattle.arithmetic.specs.Numbers.{plus_zero};
 ghost use Rattle.algebra_large.specs.joints.Slab.{put_row};
 ghost use Rattle.adjustment_work.specs.joints.Work.{square, part, zeros};
 
@@ -30,7 +30,7 @@ pub fn clear_all(work: &mut [f64])
 // Zeros from square 2 on.
 pub fn clear_rest(work: &mut [f64], s: usize)
     requires { 6 * (s * s) ≤ length work.old }
-    ensures { work.new ≡ put_row (square s 2) (length work.old - square s 2) (λ j. plusZero) work.old }
+    ensures { work.new ≡ put_row (square s 2) (length work.old - square s 2) (λ j. plus_zero) work.old }
 {
     let a = square_at(s, 2, work.len());
     algebra_large::rows::clear_row(work, a, work.len() - a);

@@ -13,7 +13,7 @@ use lib.Ieee.{Float, binary64, fits, lt}
 use borrow.Author.Tests.{le-leb, lt-leb}
 use Rattle.arithmetic.specs.declared.Marked.{Marked}
 use Rattle.arithmetic.specs.Numbers.{is_zero, is_larger}
-use Rattle.arithmetic.specs.Marks.{given, markedMul, markedDiv}
+use Rattle.arithmetic.specs.Marks.{given, marked_mul, marked_div}
 use Rattle.arithmetic.proofs.Tied.{Tied}
 use Rattle.arithmetic.proofs.ScaleLaws.{scale-zero, lt-scale}
 use Rattle.arithmetic.proofs.PlainLaws.{zero-scale, larger-scale}
@@ -77,13 +77,13 @@ module _ {t : ℕ} where
   constant-moves x f h = record { fine = f; moved = sym (scale-zero x) }
 
   -- a factor that does not move, and the quotient of two numbers that move alike
-  pub still-times : (u : ℤ) → nat_abs u ≤ t → (a b a' b' : Marked) → Moves t (pos 0) a a' → Moves t u b b' → Moves t u (markedMul a b) (markedMul a' b')
+  pub still-times : (u : ℤ) → nat_abs u ≤ t → (a b a' b' : Marked) → Moves t (pos 0) a a' → Moves t u b b' → Moves t u (marked_mul a b) (marked_mul a' b')
   still-times u n a b a' b' p q =
-      moves-by (markedMul a b) (markedMul a' b') (+ℤ_idl u) (mul-moves (pos 0) u (rw +ℤ_idl n) a b a' b' p q)
+      moves-by (marked_mul a b) (marked_mul a' b') (+ℤ_idl u) (mul-moves (pos 0) u (rw +ℤ_idl n) a b a' b' p q)
 
-  pub alike-over : (u : ℤ) (a b a' b' : Marked) → Moves t u a a' → Moves t u b b' → Moves t (pos 0) (markedDiv a b) (markedDiv a' b')
+  pub alike-over : (u : ℤ) (a b a' b' : Marked) → Moves t u a a' → Moves t u b b' → Moves t (pos 0) (marked_div a b) (marked_div a' b')
   alike-over u a b a' b' p q =
-      moves-by (markedDiv a b) (markedDiv a' b') (+ℤ_invr u) (div-moves u u (rw +ℤ_invr (omega arith)) a b a' b' p q)
+      moves-by (marked_div a b) (marked_div a' b') (+ℤ_invr u) (div-moves u u (rw +ℤ_invr (omega arith)) a b a' b' p q)
 
   -- of two pairs, the same is taken
   pub cond-moves : {u : ℤ} (b : Bool) (x y x' y' : Marked) → Moves t u x x' → Moves t u y y' → Moves t u (cond b x y) (cond b x' y')

@@ -12,7 +12,7 @@ use lib.ListN.{get_or}
 use borrow.Author.Tests.{lt-ltb, le-ltb}
 use Rattle.arithmetic.specs.declared.Marked.{Marked}
 use Rattle.arithmetic.specs.Numbers.{is_larger}
-use Rattle.arithmetic.specs.Marks.{markedSub, markedMul, markedDiv}
+use Rattle.arithmetic.specs.Marks.{marked_sub, marked_mul, marked_div}
 use Rattle.arithmetic.proofs.Tied.{Tied}
 use Rattle.arithmetic.proofs.MarkLaws.{Bears, Moves, sub-bears, mul-bears, div-bears, sub-moves, mul-moves, div-moves}
 use Rattle.algebra.specs.Fold.{fold}
@@ -86,9 +86,9 @@ module _ (n w c : ℕ) (h : c < n) (l : n < w) where
         kept i j k o q = rw (cleared-above marks n w c m z i k) at (b.done i j (omega arith) o q)
 
         parts : (i j : ℕ) → c < i → i < n → c < j → j < w
-            → Bears t (at marks m i j) × Bears t (markedMul (markedDiv (at marks m i c) (at marks m c c)) (at marks m c j))
+            → Bears t (at marks m i j) × Bears t (marked_mul (marked_div (at marks m i c) (at marks m c c)) (at marks m c j))
         parts i j k o d q =
-            sub-bears (at marks m i j) (markedMul (markedDiv (at marks m i c) (at marks m c c)) (at marks m c j))
+            sub-bears (at marks m i j) (marked_mul (marked_div (at marks m i c) (at marks m c c)) (at marks m c j))
             (rw (cleared_at marks n w c m z i j k o d q) at (b.rest i j (omega arith) o (omega arith) q))
 
         go : (i j : ℕ) → c ≤ i → i < n → c ≤ j → j < w → Dec (i ≡ c) → Dec (j ≡ c) → Bears t (at marks m i j)
@@ -96,7 +96,7 @@ module _ (n w c : ℕ) (h : c < n) (l : n < w) where
         go i j k o d q (no e) (no f) = (parts i j (omega arith) o (omega arith) q).0
         go i j k o d q (no e) (yes f) =
             rw f (div-bears (at marks m i c) (at marks m c c)
-            (mul-bears (markedDiv (at marks m i c) (at marks m c c)) (at marks m c (c + 1)) (parts i (c + 1) (omega arith) o (omega arith) (omega arith)).1).0).0
+            (mul-bears (marked_div (at marks m i c) (at marks m c c)) (at marks m c (c + 1)) (parts i (c + 1) (omega arith) o (omega arith) (omega arith)).1).0).0
 
     clear-moves : (t : ℕ) (shift : ℕ → ℤ) → ((j : ℕ) → j < w → nat_abs (shift j) ≤ t) → (m' : Matrix) → Sized n w m' → MovesFrom t shift n w c m m'
         → MovesFrom t shift n w (c + 1) (cleared marks n w c m) (cleared marks n w c m')
@@ -113,15 +113,15 @@ module _ (n w c : ℕ) (h : c < n) (l : n < w) where
         kept i j k o q (no e) = f.rest i j (omega arith) (omega arith) (omega arith) q
 
         less : (i j : ℕ) → c < i → i < n → c < j → j < w
-            → Moves t (shift j) (markedSub (at marks m i j) (markedMul (markedDiv (at marks m i c) (at marks m c c)) (at marks m c j)))
-            (markedSub (at marks m' i j) (markedMul (markedDiv (at marks m' i c) (at marks m' c c)) (at marks m' c j)))
+            → Moves t (shift j) (marked_sub (at marks m i j) (marked_mul (marked_div (at marks m i c) (at marks m c c)) (at marks m c j)))
+            (marked_sub (at marks m' i j) (marked_mul (marked_div (at marks m' i c) (at marks m' c c)) (at marks m' c j)))
         less i j k o d q =
-            let x : Marked = markedDiv (at marks m i c) (at marks m c c) in
-            let x' : Marked = markedDiv (at marks m' i c) (at marks m' c c) in
+            let x : Marked = marked_div (at marks m i c) (at marks m c c) in
+            let x' : Marked = marked_div (at marks m' i c) (at marks m' c c) in
             let g : Moves t (pos 0) x x' =
             alike-over (shift c) (at marks m i c) (at marks m c c) (at marks m' i c) (at marks m' c c) (f.rest i c (omega arith) o (omega arith) (omega arith))
             (f.rest c c (omega arith) h (omega arith) (omega arith)) in
-            sub-moves (shift j) (small j q) (at marks m i j) (markedMul x (at marks m c j)) (at marks m' i j) (markedMul x' (at marks m' c j))
+            sub-moves (shift j) (small j q) (at marks m i j) (marked_mul x (at marks m c j)) (at marks m' i j) (marked_mul x' (at marks m' c j))
             (f.rest i j (omega arith) o (omega arith) q)
             (still-times (shift j) (small j q) x (at marks m c j) x' (at marks m' c j) g (f.rest c j (omega arith) h (omega arith) q))
 
@@ -209,13 +209,13 @@ back-bears t R C n cols m hr hc some b = record { done = λ i j k o q. go i j k 
     x = back_to marks n R C n cols m
 
     step : ℕ → ℕ → ℕ → Marked → Marked
-    step i k j s = markedSub s (markedMul (at marks m i j) (at marks x j k))
+    step i k j s = marked_sub s (marked_mul (at marks m i j) (at marks x j k))
 
     parts : (i k : ℕ) → i < n → k < cols → Bears t (fold (i + 1) n (step i k) (at marks m i (n + k))) × Bears t (at marks m i i)
     parts i k h o = div-bears (back_sum marks n n m x i k) (at marks m i i) (rw (back_at marks R C n cols m hr hc i k h o) at (b.cell i k h o))
 
     back : (i k j : ℕ) (s : Marked) → Bears t (step i k j s) → Bears t s
-    back i k j s d = (sub-bears s (markedMul (at marks m i j) (at marks x j k)) d).0
+    back i k j s d = (sub-bears s (marked_mul (at marks m i j) (at marks x j k)) d).0
 
     -- the diagonal, the cells right of it, and B
     go : (i j : ℕ) → i < n → i ≤ j → j < n + cols → Dec (j < n) → Dec (i ≡ j) → Bears t (at marks m i j)
@@ -226,7 +226,7 @@ back-bears t R C n cols m hr hc some b = record { done = λ i j k o q. go i j k 
     go i j k o q (yes e) (no d) =
         let s : Marked = fold (i + 1) j (step i 0) (at marks m i (n + 0)) in
         (mul-bears (at marks m i j) (at marks x j 0)
-        (sub-bears s (markedMul (at marks m i j) (at marks x j 0))
+        (sub-bears s (marked_mul (at marks m i j) (at marks x j 0))
         (step-bears (i + 1) n (step i 0) (at marks m i (n + 0)) (back i 0) (parts i 0 k some).0 j (omega arith) e)).1).0
 
 -- what is taken off and put back
@@ -249,12 +249,12 @@ module _ (t : ℕ) (shift : ℕ → ℤ) (R C n cols : ℕ) (hr : n ≤ R) (hc :
       let sv : nat_abs v ≤ t = small (n + k) (omega arith) in
       rw (back_at marks R C n cols m hr hc i k h o, back_at marks R C n cols m' hr hc i k h o)
       (div-moves v (shift i) (less i k h o) (back_sum marks n n m x i k) (at marks m i i) (back_sum marks n n m' x' i k) (at marks m' i i)
-      (fold-both (λ y z. Moves t v y z) (i + 1) n (λ j s. markedSub s (markedMul (at marks m i j) (at marks x j k)))
-      (λ j s. markedSub s (markedMul (at marks m' i j) (at marks x' j k))) (at marks m i (n + k)) (at marks m' i (n + k))
+      (fold-both (λ y z. Moves t v y z) (i + 1) n (λ j s. marked_sub s (marked_mul (at marks m i j) (at marks x j k)))
+      (λ j s. marked_sub s (marked_mul (at marks m' i j) (at marks x' j k))) (at marks m i (n + k)) (at marks m' i (n + k))
       (f.done i (n + k) h (omega arith) (omega arith))
       (λ j d e y z g.
-      let a : Marked = markedMul (at marks m i j) (at marks x j k) in
-      let a' : Marked = markedMul (at marks m' i j) (at marks x' j k) in
+      let a : Marked = marked_mul (at marks m i j) (at marks x j k) in
+      let a' : Marked = marked_mul (at marks m' i j) (at marks x' j k) in
       let eq : shift j +ℤ (v -ℤ shift j) ≡ v = back-shift (shift j) v in
       sub-moves v sv y a z a' g
       (moves-by a a' eq (mul-moves (shift j) (v -ℤ shift j) (rw eq sv) (at marks m i j) (at marks x j k) (at marks m' i j) (at marks x' j k)

@@ -10,14 +10,14 @@ use lib.IntN.{ℤ, pos, nat_abs, ◌+ℤ◌}
 use lib.Ieee.{Float, binary64, fits, lt}
 use borrow.Author.Tests.{ltb-true, ltb-false, le-ltb}
 use Rattle.arithmetic.specs.declared.Marked.{Marked}
-use Rattle.arithmetic.specs.Numbers.{plusZero, one, minus_one, is_zero, sign}
-use Rattle.arithmetic.specs.Marks.{given, markedAdd, markedSub, markedMul, markedRoot, markedMagnitude, also}
+use Rattle.arithmetic.specs.Numbers.{plus_zero, one, minus_one, is_zero, sign}
+use Rattle.arithmetic.specs.Marks.{given, marked_add, marked_sub, marked_mul, marked_root, marked_magnitude, also}
 use Rattle.arithmetic.proofs.ScaleLaws.{scale-zero}
 use Rattle.arithmetic.proofs.PlainLaws.{sign-scale}
 use Rattle.arithmetic.proofs.MarkLaws.{Bears, Moves, given-moves, add-bears, sub-bears, mul-bears, div-bears, magnitude-bears, also-bears, add-moves, sub-moves, mul-moves, root-moves, magnitude-moves, also-moves}
 use Rattle.algebra.specs.Kind.{marks}
 use Rattle.algebra.specs.Product.{at}
-use Rattle.algebra.specs.Jacobi.{State, two, ratio, tangent, cosine, sine, turnedFirst, turnedSecond, turnColumns, rotatedCell, rotated, squared, bound, rotateTested, rotate, rowTo, sweepTo, sweepsTo, mirrored, jacobi}
+use Rattle.algebra.specs.Jacobi.{State, two, ratio, tangent, cosine, sine, turned_first, turned_second, turn_columns, rotated_cell, rotated, squared, bound, rotate_tested, rotate, row_to, sweep_to, sweeps_to, mirrored, jacobi}
 use Rattle.algebra.proofs.FoldLaws.{fold-both, fold-keeps}
 use Rattle.algebra.proofs.MovingCells.{Place, first, second, other, place, BearsCells, MovesCells, Sized, table-moves, nil-moves, constant-moves, still-times, alike-over, cond-moves, cond_both, cond-two, half-small, less-agrees, zero-agrees}
 use Rattle.algebra.proofs.MovingProducts.{identity-moves}
@@ -29,47 +29,47 @@ Matrix = List (List Marked)
 -- ---- the numbers of a rotation do not move
 sign_fits : (x : Float) → T (fits binary64 (sign x))
 unfolding sign fits
-sign_fits x = cond_both (λ y. T (fits binary64 y)) (lt x plusZero) minus_one one tt tt
+sign_fits x = cond_both (λ y. T (fits binary64 y)) (lt x plus_zero) minus_one one tt tt
 
 module _ {t : ℕ} where
   pub ratio-moves : (w : ℤ) → nat_abs w ≤ t → (aa bb ab aa' bb' ab' : Marked) → Moves t w aa aa' → Moves t w bb bb' → Moves t w ab ab'
       → Moves t (pos 0) (ratio marks aa bb ab) (ratio marks aa' bb' ab')
   unfolding ratio fits
   ratio-moves w m aa bb ab aa' bb' ab' p q r =
-      alike-over w (markedSub bb aa) (markedMul (given two) ab) (markedSub bb' aa') (markedMul (given two) ab')
+      alike-over w (marked_sub bb aa) (marked_mul (given two) ab) (marked_sub bb' aa') (marked_mul (given two) ab')
       (sub-moves w m bb aa bb' aa' q p) (still-times w m (given two) ab (given two) ab' (constant-moves two tt) r)
 
   -- sqrt (x² + 1)
   root-one : (x x' : Marked) → Moves t (pos 0) x x'
-      → Moves t (pos 0) (markedRoot (markedAdd (markedMul x x) (given one))) (markedRoot (markedAdd (markedMul x' x') (given one)))
+      → Moves t (pos 0) (marked_root (marked_add (marked_mul x x) (given one))) (marked_root (marked_add (marked_mul x' x') (given one)))
   unfolding fits
   root-one x x' p =
-      root-moves (pos 0) (markedAdd (markedMul x x) (given one)) (markedAdd (markedMul x' x') (given one))
-      (add-moves (pos 0) (omega arith) (markedMul x x) (given one) (markedMul x' x') (given one)
+      root-moves (pos 0) (marked_add (marked_mul x x) (given one)) (marked_add (marked_mul x' x') (given one))
+      (add-moves (pos 0) (omega arith) (marked_mul x x) (given one) (marked_mul x' x') (given one)
       (still-times (pos 0) (omega arith) x x x' x' p p) (constant-moves one tt))
 
   pub tangent-bears : (z : Marked) → Bears t (tangent marks z) → Bears t z
   unfolding tangent
   tangent-bears z h =
-      let r : Marked = markedRoot (markedAdd (markedMul z z) (given one)) in
-      magnitude-bears z (add-bears (markedMagnitude z) r (div-bears (given (sign z.value)) (markedAdd (markedMagnitude z) r) h).1).0
+      let r : Marked = marked_root (marked_add (marked_mul z z) (given one)) in
+      magnitude-bears z (add-bears (marked_magnitude z) r (div-bears (given (sign z.value)) (marked_add (marked_magnitude z) r) h).1).0
 
   pub tangent-moves : (z z' : Marked) → Moves t (pos 0) z z' → Moves t (pos 0) (tangent marks z) (tangent marks z')
   unfolding tangent
   tangent-moves z z' p h =
-      let r : Marked = markedRoot (markedAdd (markedMul z z) (given one)) in
-      let r' : Marked = markedRoot (markedAdd (markedMul z' z') (given one)) in
+      let r : Marked = marked_root (marked_add (marked_mul z z) (given one)) in
+      let r' : Marked = marked_root (marked_add (marked_mul z' z') (given one)) in
       let s : Float = sign z.value in
       let s' : Float = sign z'.value in
       let e : s' ≡ s = ap sign (p (tangent-bears z h)).moved ∙ sign-scale (pos 0) z.value in
-      alike-over (pos 0) (given s) (markedAdd (markedMagnitude z) r) (given s') (markedAdd (markedMagnitude z') r')
+      alike-over (pos 0) (given s) (marked_add (marked_magnitude z) r) (given s') (marked_add (marked_magnitude z') r')
       (given-moves (pos 0) s s' (record { fine = sign_fits z.value; moved = e ∙ sym (scale-zero s) }))
-      (add-moves (pos 0) (omega arith) (markedMagnitude z) r (markedMagnitude z') r' (magnitude-moves (pos 0) z z' p) (root-one z z' p)) h
+      (add-moves (pos 0) (omega arith) (marked_magnitude z) r (marked_magnitude z') r' (magnitude-moves (pos 0) z z' p) (root-one z z' p)) h
 
   pub cosine-moves : (x x' : Marked) → Moves t (pos 0) x x' → Moves t (pos 0) (cosine marks x) (cosine marks x')
   unfolding cosine fits
   cosine-moves x x' p =
-      alike-over (pos 0) (given one) (markedRoot (markedAdd (markedMul x x) (given one))) (given one) (markedRoot (markedAdd (markedMul x' x') (given one)))
+      alike-over (pos 0) (given one) (marked_root (marked_add (marked_mul x x) (given one))) (given one) (marked_root (marked_add (marked_mul x' x') (given one)))
       (constant-moves one tt) (root-one x x' p)
 
   pub sine-moves : (x c x' c' : Marked) → Moves t (pos 0) x x' → Moves t (pos 0) c c' → Moves t (pos 0) (sine marks x c) (sine marks x' c')
@@ -78,24 +78,24 @@ module _ {t : ℕ} where
 
   -- ---- the turned numbers move as the two that are turned
   module _ (c s x y : Marked) where
-    pub turned_first-bears : Bears t (turnedFirst marks c s x y) → Bears t x × Bears t y
-    unfolding turnedFirst
-    turned_first-bears h = let b = sub-bears (markedMul c x) (markedMul s y) h in ((mul-bears c x b.0).1, (mul-bears s y b.1).1)
+    pub turned_first-bears : Bears t (turned_first marks c s x y) → Bears t x × Bears t y
+    unfolding turned_first
+    turned_first-bears h = let b = sub-bears (marked_mul c x) (marked_mul s y) h in ((mul-bears c x b.0).1, (mul-bears s y b.1).1)
 
     module _ (u : ℤ) (m : nat_abs u ≤ t) (c' s' x' y' : Marked) (pc : Moves t (pos 0) c c') (ps : Moves t (pos 0) s s') (px : Moves t u x x') (py : Moves t u y y') where
-      pub turned_first-moves : Moves t u (turnedFirst marks c s x y) (turnedFirst marks c' s' x' y')
-      unfolding turnedFirst
+      pub turned_first-moves : Moves t u (turned_first marks c s x y) (turned_first marks c' s' x' y')
+      unfolding turned_first
       turned_first-moves =
-          sub-moves u m (markedMul c x) (markedMul s y) (markedMul c' x') (markedMul s' y') (still-times u m c x c' x' pc px) (still-times u m s y s' y' ps py)
+          sub-moves u m (marked_mul c x) (marked_mul s y) (marked_mul c' x') (marked_mul s' y') (still-times u m c x c' x' pc px) (still-times u m s y s' y' ps py)
 
-      pub turned_second-moves : Moves t u (turnedSecond marks c s x y) (turnedSecond marks c' s' x' y')
-      unfolding turnedSecond
+      pub turned_second-moves : Moves t u (turned_second marks c s x y) (turned_second marks c' s' x' y')
+      unfolding turned_second
       turned_second-moves =
-          add-moves u m (markedMul s x) (markedMul c y) (markedMul s' x') (markedMul c' y') (still-times u m s x s' x' ps px) (still-times u m c y c' y' pc py)
+          add-moves u m (marked_mul s x) (marked_mul c y) (marked_mul s' x') (marked_mul c' y') (still-times u m s x s' x' ps px) (still-times u m c y c' y' pc py)
 
   -- ---- the matrices
   module _ (n p q : ℕ) (h : p < q) (l : q < n) where
-    pub turn-bears : (c s : Marked) (m : Matrix) → Sized n n m → BearsCells t n n (turnColumns marks n p q c s m) → BearsCells t n n m
+    pub turn-bears : (c s : Marked) (m : Matrix) → Sized n n m → BearsCells t n n (turn_columns marks n p q c s m) → BearsCells t n n m
     turn-bears c s m z b = record { cell = λ i j k o. go i j k o (place p q j) }
       where
         both : (i : ℕ) → i < n → Bears t (at marks m i p) × Bears t (at marks m i q)
@@ -109,10 +109,10 @@ module _ {t : ℕ} where
 
     pub turn-moves : (u : ℤ) → nat_abs u ≤ t → (c s c' s' : Marked) → Moves t (pos 0) c c' → Moves t (pos 0) s s'
         → (m m' : Matrix) → Sized n n m → Sized n n m' → MovesCells t u n n m m'
-        → MovesCells t u n n (turnColumns marks n p q c s m) (turnColumns marks n p q c' s' m')
+        → MovesCells t u n n (turn_columns marks n p q c s m) (turn_columns marks n p q c' s' m')
     turn-moves u small c s c' s' pc ps m m' z z' f = record { cell = λ i j k o. go i j k o (place p q j) }
       where
-        go : (i j : ℕ) → i < n → j < n → Place p q j → Moves t u (at marks (turnColumns marks n p q c s m) i j) (at marks (turnColumns marks n p q c' s' m') i j)
+        go : (i j : ℕ) → i < n → j < n → Place p q j → Moves t u (at marks (turn_columns marks n p q c s m) i j) (at marks (turn_columns marks n p q c' s' m') i j)
         go i j k o (first e) =
             rw (e, turn-first marks n p q c s m z h l i k, turn-first marks n p q c' s' m' z' h l i k)
             (turned_first-moves c s (at marks m i p) (at marks m i q) u small c' s' (at marks m' i p) (at marks m' i q) pc ps (f.cell i p k (omega arith)) (f.cell i q k l))
@@ -129,7 +129,7 @@ module _ {t : ℕ} where
       unfolding value
       rotated-bears x c s m z f b = record { cell = λ i j k o. go i j k o (place p q i) (place p q j) }
         where
-          cells : (i j : ℕ) → i < n → j < n → (a : Place p q i) (d : Place p q j) → Bears t (value marks p q x m (turnColumns marks n p q c s m) a d)
+          cells : (i j : ℕ) → i < n → j < n → (a : Place p q i) (d : Place p q j) → Bears t (value marks p q x m (turn_columns marks n p q c s m) a d)
           cells i j k o a d = rw (rotated-at marks R C n hr hc p q h l x c s m i j k o a d) at (b.cell i j k o)
 
           -- row i, elsewhere than at p and q, in the columns p and q
@@ -138,14 +138,14 @@ module _ {t : ℕ} where
               turned_first-bears c s (at marks m i p) (at marks m i q)
               (rw (turn-first marks n p q c s m z h l i k) at (cells i p k (omega arith) (other d e) (first refl)))
 
-          pp : Bears t (at marks m p p) × Bears t (markedMul x (at marks m p q))
-          pp = sub-bears (at marks m p p) (markedMul x (at marks m p q)) (cells p p (omega arith) (omega arith) (first refl) (first refl))
+          pp : Bears t (at marks m p p) × Bears t (marked_mul x (at marks m p q))
+          pp = sub-bears (at marks m p p) (marked_mul x (at marks m p q)) (cells p p (omega arith) (omega arith) (first refl) (first refl))
 
           pq : Bears t (at marks m p q)
           pq = (mul-bears x (at marks m p q) pp.1).1
 
           qq : Bears t (at marks m q q)
-          qq = (add-bears (at marks m q q) (markedMul x (at marks m p q)) (cells q q l l (second refl) (second refl))).0
+          qq = (add-bears (at marks m q q) (marked_mul x (at marks m p q)) (cells q q l l (second refl) (second refl))).0
 
           go : (i j : ℕ) → i < n → j < n → Place p q i → Place p q j → Bears t (at marks m i j)
           go i j k o (first a) (first b) = rw (a, b) pp.0
@@ -161,15 +161,15 @@ module _ {t : ℕ} where
       pub rotated-moves : (w : ℤ) → nat_abs w ≤ t → (x c s x' c' s' : Marked) → Moves t (pos 0) x x' → Moves t (pos 0) c c' → Moves t (pos 0) s s'
           → (m m' : Matrix) → Sized n n m → Sized n n m' → MovesCells t w n n m m'
           → MovesCells t w n n (rotated marks R C n p q x c s m) (rotated marks R C n p q x' c' s' m')
-      unfolding rotated rotatedCell
+      unfolding rotated rotated_cell
       rotated-moves w small x c s x' c' s' px pc ps m m' z z' f =
-          let y : Matrix = turnColumns marks n p q c s m in
-          let y' : Matrix = turnColumns marks n p q c' s' m' in
+          let y : Matrix = turn_columns marks n p q c s m in
+          let y' : Matrix = turn_columns marks n p q c' s' m' in
           let g : MovesCells t w n n y y' = turn-moves w small c s c' s' pc ps m m' z z' f in
-          let e : Marked = markedMul x (at marks m p q) in
-          let e' : Marked = markedMul x' (at marks m' p q) in
+          let e : Marked = marked_mul x (at marks m p q) in
+          let e' : Marked = marked_mul x' (at marks m' p q) in
           let d : Moves t w e e' = still-times w small x (at marks m p q) x' (at marks m' p q) px (f.cell p q (omega arith) l) in
-          table-moves w R C n n (rotatedCell marks p q x m y) (rotatedCell marks p q x' m' y') hr hc
+          table-moves w R C n n (rotated_cell marks p q x m y) (rotated_cell marks p q x' m' y') hr hc
           (λ i j k o.
           cond-moves (eqb i p) _ _ _ _
           (cond-moves (eqb j p) _ _ _ _
@@ -209,8 +209,8 @@ record From (t n : ℕ) (x y : State Marked) : Type 0 where
 module _ {t : ℕ} (limit : Float) (R C n : ℕ) (hr : n ≤ R) (hc : n ≤ C) where
   module _ (p q : ℕ) (h : p < q) (l : q < n) where
     -- ---- backward: a state takes in all of the state before it, and the two sides of the test
-    tested-bears : (x : State Marked) → Fit marks n x → StateBears t n (rotateTested marks limit R C n p q x) → StateBears t n x
-    unfolding rotateTested
+    tested-bears : (x : State Marked) → Fit marks n x → StateBears t n (rotate_tested marks limit R C n p q x) → StateBears t n x
+    unfolding rotate_tested
     tested-bears x f =
         let m : Matrix = x.a in
         let z : Marked = tangent_at marks p q m in
@@ -228,12 +228,12 @@ module _ {t : ℕ} (limit : Float) (R C n : ℕ) (hr : n ≤ R) (hc : n ≤ C) w
     pub rotate-bears : (x : State Marked) → Fit marks n x → StateBears t n (rotate marks limit R C n p q x) → StateBears t n x
     unfolding rotate
     rotate-bears x f =
-        cond_both (λ y. StateBears t n y → StateBears t n x) (is_zero (at marks x.a p q).value) x (rotateTested marks limit R C n p q x) (λ b. b)
+        cond_both (λ y. StateBears t n y → StateBears t n x) (is_zero (at marks x.a p q).value) x (rotate_tested marks limit R C n p q x) (λ b. b)
         (tested-bears x f)
 
-    sides-bear : (x : State Marked) → StateBears t n (rotateTested marks limit R C n p q x)
+    sides-bear : (x : State Marked) → StateBears t n (rotate_tested marks limit R C n p q x)
         → Bears t (squared marks p q x.a) × Bears t (bound marks limit p q x.a)
-    unfolding rotateTested
+    unfolding rotate_tested
     sides-bear x =
         let m : Matrix = x.a in
         let a : Marked = squared marks p q m in
@@ -252,12 +252,12 @@ module _ {t : ℕ} (limit : Float) (R C n : ℕ) (hr : n ≤ R) (hc : n ≤ C) w
       bound-moves : (m m' : Matrix) → MovesCells t w n n m m' → Moves t (w +ℤ w) (bound marks limit p q m) (bound marks limit p q m')
       unfolding bound
       bound-moves m m' f =
-          still-times (w +ℤ w) small (given limit) (markedMul (at marks m p p) (at marks m q q)) (given limit) (markedMul (at marks m' p p) (at marks m' q q))
+          still-times (w +ℤ w) small (given limit) (marked_mul (at marks m p p) (at marks m q q)) (given limit) (marked_mul (at marks m' p p) (at marks m' q q))
           (constant-moves limit fine)
           (mul-moves w w small (at marks m p p) (at marks m q q) (at marks m' p p) (at marks m' q q) (f.cell p p (omega arith) (omega arith)) (f.cell q q l l))
 
       -- the test says the same
-      turns-agree : (x x' : State Marked) → MovesCells t w n n x.a x'.a → StateBears t n (rotateTested marks limit R C n p q x)
+      turns-agree : (x x' : State Marked) → MovesCells t w n n x.a x'.a → StateBears t n (rotate_tested marks limit R C n p q x)
           → turns marks limit p q x'.a ≡ turns marks limit p q x.a
       turns-agree x x' f b =
           let e = sides-bear x b in
@@ -290,9 +290,9 @@ module _ {t : ℕ} (limit : Float) (R C n : ℕ) (hr : n ≤ R) (hc : n ≤ C) w
                 also-moves w x.seen (also (squared marks p q m) (bound marks limit p q m)) x'.seen (also (squared marks p q m') (bound marks limit p q m')) r.seen;
           }
 
-      tested-moves : (x x' : State Marked) → Fit marks n x → Fit marks n x' → StateMoves t w n x x' → StateBears t n (rotateTested marks limit R C n p q x)
-          → StateMoves t w n (rotateTested marks limit R C n p q x) (rotateTested marks limit R C n p q x')
-      unfolding rotateTested
+      tested-moves : (x x' : State Marked) → Fit marks n x → Fit marks n x' → StateMoves t w n x x' → StateBears t n (rotate_tested marks limit R C n p q x)
+          → StateMoves t w n (rotate_tested marks limit R C n p q x) (rotate_tested marks limit R C n p q x')
+      unfolding rotate_tested
       tested-moves x x' f f' r b =
           rw (turns-agree x x' r.matrix b)
           (cond-two (StateMoves t w n) (turns marks limit p q x.a) (turned_state marks limit R C n p q x) (kept_state marks limit p q x)
@@ -316,13 +316,13 @@ module _ {t : ℕ} (limit : Float) (R C n : ℕ) (hr : n ≤ R) (hc : n ≤ C) w
             let r : StateMoves t w n x x' = g.moves a in
             let e : is_zero (at marks x'.a p q).value ≡ is_zero (at marks x.a p q).value =
             zero-agrees w (at marks x.a p q).value (at marks x'.a p q).value (r.matrix.cell p q (omega arith) l (a.matrix.cell p q (omega arith) l)) in
-            rw e (cond-two (λ y y'. StateBears t n y → StateMoves t w n y y') (is_zero (at marks x.a p q).value) x (rotateTested marks limit R C n p q x) x'
-            (rotateTested marks limit R C n p q x') (λ d. r) (tested-moves x x' g.fit g.fit' r) b);
+            rw e (cond-two (λ y y'. StateBears t n y → StateMoves t w n y y') (is_zero (at marks x.a p q).value) x (rotate_tested marks limit R C n p q x) x'
+            (rotate_tested marks limit R C n p q x') (λ d. r) (tested-moves x x' g.fit g.fit' r) b);
       }
 
   -- ---- the loops: rows, sweeps
-  row_from : (k p : ℕ) → k ≤ n → (x y : State Marked) → From t n x y → From t n x (rowTo marks k limit R C n p y)
-  unfolding rowTo
+  row_from : (k p : ℕ) → k ≤ n → (x y : State Marked) → From t n x y → From t n x (row_to marks k limit R C n p y)
+  unfolding row_to
   row_from k p o x y f =
       fold-keeps (From t n x) (p + 1) k (λ q y. rotate marks limit R C n p q y) y f
       (λ q i j b g. record {
@@ -330,40 +330,40 @@ module _ {t : ℕ} (limit : Float) (R C n : ℕ) (hr : n ≤ R) (hc : n ≤ C) w
         bears = λ d. g.bears (rotate-bears p q (omega arith) (omega arith) b g.fit d);
       })
 
-  sweep-from : (k : ℕ) → k ≤ n → (x y : State Marked) → From t n x y → From t n x (sweepTo marks k limit R C n y)
-  unfolding sweepTo
-  sweep-from k o x y f = fold-keeps (From t n x) 0 k (λ p y. rowTo marks n limit R C n p y) y f (λ p i j b g. row_from n p (omega arith) x b g)
+  sweep-from : (k : ℕ) → k ≤ n → (x y : State Marked) → From t n x y → From t n x (sweep_to marks k limit R C n y)
+  unfolding sweep_to
+  sweep-from k o x y f = fold-keeps (From t n x) 0 k (λ p y. row_to marks n limit R C n p y) y f (λ p i j b g. row_from n p (omega arith) x b g)
 
-  sweeps-from : (k : ℕ) (x y : State Marked) → From t n x y → From t n x (sweepsTo marks k limit R C n y)
-  unfolding sweepsTo
-  sweeps-from k x y f = fold-keeps (From t n x) 0 k (λ i y. sweepTo marks n limit R C n y) y f (λ p i j b g. sweep-from n (omega arith) x b g)
+  sweeps-from : (k : ℕ) (x y : State Marked) → From t n x y → From t n x (sweeps_to marks k limit R C n y)
+  unfolding sweeps_to
+  sweeps-from k x y f = fold-keeps (From t n x) 0 k (λ i y. sweep_to marks n limit R C n y) y f (λ p i j b g. sweep-from n (omega arith) x b g)
 
   -- backward: the state before bears what the state after does
   module _ (x : State Marked) (f : Fit marks n x) where
-    pub sweeps_to-bears : (k : ℕ) → StateBears t n (sweepsTo marks k limit R C n x) → StateBears t n x
+    pub sweeps_to-bears : (k : ℕ) → StateBears t n (sweeps_to marks k limit R C n x) → StateBears t n x
     sweeps_to-bears k = (sweeps-from k x x (record { fit = f; bears = λ b. b })).bears
 
   -- forward: the two runs stay together
   module _ (fine : T (fits binary64 limit)) (w : ℤ) (small : nat_abs (w +ℤ w) ≤ t) where
     pub row_to-moves : (k p : ℕ) → k ≤ n → (x x' : State Marked) → Together t w n x x'
-        → Together t w n (rowTo marks k limit R C n p x) (rowTo marks k limit R C n p x')
-    unfolding rowTo
+        → Together t w n (row_to marks k limit R C n p x) (row_to marks k limit R C n p x')
+    unfolding row_to
     row_to-moves k p o x x' g =
         fold-both (Together t w n) (p + 1) k (λ q y. rotate marks limit R C n p q y) (λ q y. rotate marks limit R C n p q y) x x' g
         (λ q i j y y' f. rotate-moves p q (omega arith) (omega arith) fine w small y y' f)
 
     pub sweep_to-moves : (k : ℕ) → k ≤ n → (x x' : State Marked) → Together t w n x x'
-        → Together t w n (sweepTo marks k limit R C n x) (sweepTo marks k limit R C n x')
-    unfolding sweepTo
+        → Together t w n (sweep_to marks k limit R C n x) (sweep_to marks k limit R C n x')
+    unfolding sweep_to
     sweep_to-moves k o x x' g =
-        fold-both (Together t w n) 0 k (λ p y. rowTo marks n limit R C n p y) (λ p y. rowTo marks n limit R C n p y) x x' g
+        fold-both (Together t w n) 0 k (λ p y. row_to marks n limit R C n p y) (λ p y. row_to marks n limit R C n p y) x x' g
         (λ p i j y y' f. row_to-moves n p (omega arith) y y' f)
 
     pub sweeps_to-moves : (k : ℕ) (x x' : State Marked) → Together t w n x x'
-        → Together t w n (sweepsTo marks k limit R C n x) (sweepsTo marks k limit R C n x')
-    unfolding sweepsTo
+        → Together t w n (sweeps_to marks k limit R C n x) (sweeps_to marks k limit R C n x')
+    unfolding sweeps_to
     sweeps_to-moves k x x' g =
-        fold-both (Together t w n) 0 k (λ i y. sweepTo marks n limit R C n y) (λ i y. sweepTo marks n limit R C n y) x x' g
+        fold-both (Together t w n) 0 k (λ i y. sweep_to marks n limit R C n y) (λ i y. sweep_to marks n limit R C n y) x x' g
         (λ p i j y y' f. sweep_to-moves n (omega arith) y y' f)
 
   -- ---- the whole run

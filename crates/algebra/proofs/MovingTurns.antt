@@ -12,51 +12,51 @@ use borrow.Author.Tests.{eq-eqb, ne_eqb, ltb-true, ltb-false}
 use Rattle.arithmetic.specs.Numbers.{one, is_zero}
 use Rattle.algebra.specs.Kind.{Arith, zero_of}
 use Rattle.algebra.specs.Product.{at, identity}
-use Rattle.algebra.specs.Jacobi.{State, ratio, tangent, cosine, sine, turnedFirst, turnedSecond, turnRow, turnColumns, rotatedCell, rotated, squared, bound, rotateTested, rotate, mirrored}
+use Rattle.algebra.specs.Jacobi.{State, ratio, tangent, cosine, sine, turned_first, turned_second, turn_row, turn_columns, rotated_cell, rotated, squared, bound, rotate_tested, rotate, mirrored}
 use Rattle.algebra.proofs.FoldLaws.{span-at, length-span}
 use Rattle.algebra.proofs.TableLaws.{table_at}
 use Rattle.algebra.proofs.MovingCells.{Place, first, second, other, place, Sized, table-sized, cond_both}
 
 -- ---- the cells of a turned matrix, for every kind of number
 module _ {A : Type 0} (N : Arith A) where
-  turn_row-length : (p q : ℕ) (c s : A) (r : List A) → length (turnRow N p q c s r) ≡ length r
-  unfolding turnRow
+  turn_row-length : (p q : ℕ) (c s : A) (r : List A) → length (turn_row N p q c s r) ≡ length r
+  unfolding turn_row
   turn_row-length p q c s r = simp length-set
 
   module _ (n p q : ℕ) (c s : A) (m : List (List A)) (z : Sized n n m) (h : p < q) (l : q < n) where
-    turn-row : (i : ℕ) → i < n → get_or (turnColumns N n p q c s m) i [] ≡ turnRow N p q c s (get_or m i [])
-    unfolding turnColumns
-    turn-row i k = span-at 0 n (λ i. turnRow N p q c s (get_or m i [])) m i [] (omega arith) k z.rows
+    turn-row : (i : ℕ) → i < n → get_or (turn_columns N n p q c s m) i [] ≡ turn_row N p q c s (get_or m i [])
+    unfolding turn_columns
+    turn-row i k = span-at 0 n (λ i. turn_row N p q c s (get_or m i [])) m i [] (omega arith) k z.rows
 
-    pub turn-sized : Sized n n (turnColumns N n p q c s m)
-    unfolding turnColumns
+    pub turn-sized : Sized n n (turn_columns N n p q c s m)
+    unfolding turn_columns
     turn-sized = record {
-      rows = omega (arith, length-span 0 n (λ i. turnRow N p q c s (get_or m i [])) m, z.rows);
+      rows = omega (arith, length-span 0 n (λ i. turn_row N p q c s (get_or m i [])) m, z.rows);
       cells = λ i k. rw (turn-row i k) (omega (arith, turn_row-length p q c s (get_or m i []), z.cells i k));
     }
 
-    pub turn-first : (i : ℕ) → i < n → at N (turnColumns N n p q c s m) i p ≡ turnedFirst N c s (at N m i p) (at N m i q)
-    unfolding turnRow
+    pub turn-first : (i : ℕ) → i < n → at N (turn_columns N n p q c s m) i p ≡ turned_first N c s (at N m i p) (at N m i q)
+    unfolding turn_row
     turn-first i k =
         let r : List A = get_or m i [] in
         ap (λ (x : List A). get_or x p N.void) (turn-row i k)
-        ∙ get_or-set_other (set r p (turnedFirst N c s (at N m i p) (at N m i q))) q p _ N.void (λ e. omega arith)
+        ∙ get_or-set_other (set r p (turned_first N c s (at N m i p) (at N m i q))) q p _ N.void (λ e. omega arith)
         ∙ get_or-set_same r p _ N.void (omega (arith, z.cells i k))
 
-    pub turn-second : (i : ℕ) → i < n → at N (turnColumns N n p q c s m) i q ≡ turnedSecond N c s (at N m i p) (at N m i q)
-    unfolding turnRow
+    pub turn-second : (i : ℕ) → i < n → at N (turn_columns N n p q c s m) i q ≡ turned_second N c s (at N m i p) (at N m i q)
+    unfolding turn_row
     turn-second i k =
         let r : List A = get_or m i [] in
-        let x : A = turnedFirst N c s (at N m i p) (at N m i q) in
+        let x : A = turned_first N c s (at N m i p) (at N m i q) in
         ap (λ (x : List A). get_or x q N.void) (turn-row i k)
         ∙ get_or-set_same (set r p x) q _ N.void (omega (arith, z.cells i k, length-set r p x))
 
-    pub turn-other : (i j : ℕ) → i < n → (j ≡ p → ⊥) → (j ≡ q → ⊥) → at N (turnColumns N n p q c s m) i j ≡ at N m i j
-    unfolding turnRow
+    pub turn-other : (i j : ℕ) → i < n → (j ≡ p → ⊥) → (j ≡ q → ⊥) → at N (turn_columns N n p q c s m) i j ≡ at N m i j
+    unfolding turn_row
     turn-other i j k a b =
         let r : List A = get_or m i [] in
         ap (λ (x : List A). get_or x j N.void) (turn-row i k)
-        ∙ get_or-set_other (set r p (turnedFirst N c s (at N m i p) (at N m i q))) q j _ N.void b
+        ∙ get_or-set_other (set r p (turned_first N c s (at N m i p) (at N m i q))) q j _ N.void b
         ∙ get_or-set_other r p j _ N.void a
 
   -- ---- the rotated matrix
@@ -73,8 +73,8 @@ module _ {A : Type 0} (N : Arith A) where
     value {i} {j} (other _ _) (second _) = at N w i q
     value {i} {j} (other _ _) (other _ _) = at N w i j
 
-    rotated-value : p < q → {i j : ℕ} (x : Place p q i) (y : Place p q j) → rotatedCell N p q t m w i j ≡ value x y
-    unfolding rotatedCell value
+    rotated-value : p < q → {i j : ℕ} (x : Place p q i) (y : Place p q j) → rotated_cell N p q t m w i j ≡ value x y
+    unfolding rotated_cell value
     rotated-value h {i} {j} (first a) (first b) = rw (eq-eqb i p a, eq-eqb j p b)
     rotated-value h {i} {j} (first a) (second b) = rw (eq-eqb i p a, ne_eqb j p (λ e. omega arith), eq-eqb j q b)
     rotated-value h {i} {j} (first a) (other b c) = rw (eq-eqb i p a, ne_eqb j p b, ne_eqb j q c)
@@ -87,11 +87,11 @@ module _ {A : Type 0} (N : Arith A) where
 
   module _ (R C n : ℕ) (hr : n ≤ R) (hc : n ≤ C) (p q : ℕ) (h : p < q) (l : q < n) where
     pub rotated-at : (t c s : A) (m : List (List A)) (i j : ℕ) → i < n → j < n → (x : Place p q i) (y : Place p q j)
-        → at N (rotated N R C n p q t c s m) i j ≡ value p q t m (turnColumns N n p q c s m) x y
+        → at N (rotated N R C n p q t c s m) i j ≡ value p q t m (turn_columns N n p q c s m) x y
     unfolding rotated
     rotated-at t c s m i j k o x y =
-        let w : List (List A) = turnColumns N n p q c s m in
-        table_at (zero_of N) R C n n (rotatedCell N p q t m w) i j N.void k o hr hc ∙ rotated-value p q t m w h x y
+        let w : List (List A) = turn_columns N n p q c s m in
+        table_at (zero_of N) R C n n (rotated_cell N p q t m w) i j N.void k o hr hc ∙ rotated-value p q t m w h x y
 
   -- ---- the states of a run
   -- sizes, and the symmetry of the matrix
@@ -119,7 +119,7 @@ module _ {A : Type 0} (N : Arith A) where
   abbrev pub turned_state : Float → ℕ → ℕ → ℕ → ℕ → ℕ → State A → State A
   turned_state limit R C n p q x = record {
     a = rotated N R C n p q (tangent_at p q x.a) (cosine_at p q x.a) (sine_at p q x.a) x.a;
-    v = turnColumns N n p q (cosine_at p q x.a) (sine_at p q x.a) x.v;
+    v = turn_columns N n p q (cosine_at p q x.a) (sine_at p q x.a) x.v;
     count = x.count + 1;
     seen = seen_at limit p q x;
   }
@@ -135,9 +135,9 @@ module _ {A : Type 0} (N : Arith A) where
         let t : A = tangent_at p q m in
         let c : A = cosine_at p q m in
         let s : A = sine_at p q m in
-        let w : List (List A) = turnColumns N n p q c s m in
+        let w : List (List A) = turn_columns N n p q c s m in
         record {
-          matrix = table-sized (zero_of N) R C n n (rotatedCell N p q t m w) hr hc;
+          matrix = table-sized (zero_of N) R C n n (rotated_cell N p q t m w) hr hc;
           vectors = turn-sized n p q c s x.v f.vectors h l;
           mirror = λ i j k o.
               rotated-at R C n hr hc p q h l t c s m i j k o (place p q i) (place p q j)
@@ -147,7 +147,7 @@ module _ {A : Type 0} (N : Arith A) where
       where
         swapped : (t c s : A) (m : List (List A)) → Sized n n m → ((i j : ℕ) → i < n → j < n → at N m i j ≡ at N m j i) → {i j : ℕ} → i < n → j < n
             → (x : Place p q i) (y : Place p q j)
-            → value p q t m (turnColumns N n p q c s m) x y ≡ value p q t m (turnColumns N n p q c s m) y x
+            → value p q t m (turn_columns N n p q c s m) x y ≡ value p q t m (turn_columns N n p q c s m) y x
         swapped t c s m z e k o (first _) (first _) = refl
         swapped t c s m z e k o (first _) (second _) = refl
         swapped t c s m z e k o (first _) (other _ _) = refl
@@ -160,9 +160,9 @@ module _ {A : Type 0} (N : Arith A) where
             turn-other n p q c s m z h l i j k a' b' ∙ e i j k o ∙ sym (turn-other n p q c s m z h l j i o a b)
 
     pub rotate-fit : (x : State A) → Fit n x → Fit n (rotate N limit R C n p q x)
-    unfolding rotate rotateTested
+    unfolding rotate rotate_tested
     rotate-fit x f =
-        cond_both (Fit n) (is_zero (N.value (at N x.a p q))) x (rotateTested N limit R C n p q x) f
+        cond_both (Fit n) (is_zero (N.value (at N x.a p q))) x (rotate_tested N limit R C n p q x) f
         (cond_both (Fit n) (turns limit p q x.a) (turned_state limit R C n p q x) (kept_state limit p q x) (turned-fit x f)
         (record { matrix = f.matrix; vectors = f.vectors; mirror = f.mirror }))
 

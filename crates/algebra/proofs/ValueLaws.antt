@@ -10,15 +10,15 @@ use lib.Dec.{eqb, ltb}
 use lib.ListN.{get_or, set, length, length-set, replicate, get_or-replicate, length-replicate, get_or-eq_default}
 use lib.Seq.{get_or-set_same, get_or-set_other, set_out}
 use lib.Ieee.{Float, lt}
-use Rattle.arithmetic.specs.Numbers.{plusZero, one, is_zero, sign}
+use Rattle.arithmetic.specs.Numbers.{plus_zero, one, is_zero, sign}
 use Rattle.arithmetic.proofs.MarkLaws.{add-value, sub-value, mul-value, div_value, root-value, magnitude-value, also-value}
 use Rattle.algebra.specs.Fold.{span}
 use Rattle.algebra.specs.Table.{row, blank, table}
 use Rattle.algebra.specs.Kind.{Arith, floats, marks, zero_of}
-use Rattle.algebra.specs.Product.{at, sum, cell, product, transpose, sumCells, minusCells, times_number, over_number, identity}
+use Rattle.algebra.specs.Product.{at, sum, cell, product, transpose, sum_cells, minus_cells, times_number, over_number, identity}
 use Rattle.algebra.specs.Elimination.{Stopping, larger, pivot_row, swap_rows, factor, less_by, less_row, cleared, eliminate_column, eliminate_to, zero_pivot, column_or_stop, stopping, back_sum, back_cell, back_to, joined, refused, solution}
-use Rattle.algebra.specs.Jacobi.{State, two, ratio, tangent, cosine, sine, turnedFirst, turnedSecond, turnRow, turnColumns, rotatedCell, rotated, squared, bound, rotateTested, rotate, rowTo, sweepTo, sweepsTo, mirrored, jacobi}
-use Rattle.algebra.specs.Small.{sandwich, givenCells, values, allMarks}
+use Rattle.algebra.specs.Jacobi.{State, two, ratio, tangent, cosine, sine, turned_first, turned_second, turn_row, turn_columns, rotated_cell, rotated, squared, bound, rotate_tested, rotate, row_to, sweep_to, sweeps_to, mirrored, jacobi}
+use Rattle.algebra.specs.Small.{sandwich, given_cells, values, all_marks}
 use Rattle.algebra.proofs.FoldLaws.{fold-both, fold-ext}
 use Rattle.algebra.proofs.TableLaws.{table-ext}
 
@@ -131,11 +131,11 @@ module _ {A B : Type 0} {R : A → B → Type 0} {N : Arith A} {M : Arith B} (k 
 
   table-alike : (K C r c : ℕ) (f : ℕ → ℕ → A) (g : ℕ → ℕ → B) → ((i j : ℕ) → i < r → j < c → R (f i j) (g i j))
       → Like (table (zero_of N) K C r c f) (table (zero_of M) K C r c g)
-  table-alike K C r c f g s = table-both K C r c (zero_of N) (zero_of M) f g k.void (k.of plusZero) s
+  table-alike K C r c f g s = table-both K C r c (zero_of N) (zero_of M) f g k.void (k.of plus_zero) s
 
   pub sum_alike : (n : ℕ) (f : ℕ → A) (g : ℕ → B) → ((i : ℕ) → i < n → R (f i) (g i)) → R (sum N n f) (sum M n g)
   unfolding sum
-  sum_alike n f g s = fold-both R 0 n _ _ (zero_of N) (zero_of M) (k.of plusZero) (λ i h l x y q. k.plus q (s i l))
+  sum_alike n f g s = fold-both R 0 n _ _ (zero_of N) (zero_of M) (k.of plus_zero) (λ i h l x y q. k.plus q (s i l))
 
   pub cell-alike : (n : ℕ) {a b : List (List A)} {a' b' : List (List B)} (i j : ℕ) → Like a a' → Like b b' → R (cell N n a b i j) (cell M n a' b' i j)
   unfolding cell
@@ -150,14 +150,14 @@ module _ {A B : Type 0} {R : A → B → Type 0} {N : Arith A} {M : Arith B} (k 
   unfolding transpose
   transpose-alike K C r c p = table-alike K C c r _ _ (λ i j h l. (p.each j).each i)
 
-  pub sum_cells-alike : (r c : ℕ) (f : ℕ → ℕ → A) (g : ℕ → ℕ → B) → ((i j : ℕ) → i < r → j < c → R (f i j) (g i j)) → R (sumCells N r c f) (sumCells M r c g)
-  unfolding sumCells
+  pub sum_cells-alike : (r c : ℕ) (f : ℕ → ℕ → A) (g : ℕ → ℕ → B) → ((i j : ℕ) → i < r → j < c → R (f i j) (g i j)) → R (sum_cells N r c f) (sum_cells M r c g)
+  unfolding sum_cells
   sum_cells-alike r c f g s =
-      fold-both R 0 r _ _ (zero_of N) (zero_of M) (k.of plusZero) (λ i h l x y q. fold-both R 0 c _ _ x y q (λ j v u x' y' q'. k.plus q' (s i j l u)))
+      fold-both R 0 r _ _ (zero_of N) (zero_of M) (k.of plus_zero) (λ i h l x y q. fold-both R 0 c _ _ x y q (λ j v u x' y' q'. k.plus q' (s i j l u)))
 
   pub minus_cells-alike : (K C r c : ℕ) {a b : List (List A)} {a' b' : List (List B)} → Like a a' → Like b b'
-      → Like (minusCells N K C r c a b) (minusCells M K C r c a' b')
-  unfolding minusCells
+      → Like (minus_cells N K C r c a b) (minus_cells M K C r c a' b')
+  unfolding minus_cells
   minus_cells-alike K C r c p q = table-alike K C r c _ _ (λ i j h l. k.minus ((p.each i).each j) ((q.each i).each j))
 
   pub times_number-alike : (K C r c : ℕ) {a : List (List A)} {a' : List (List B)} {x : A} {y : B} → Like a a' → R x y
@@ -172,7 +172,7 @@ module _ {A B : Type 0} {R : A → B → Type 0} {N : Arith A} {M : Arith B} (k 
 
   pub identity-alike : (K C n : ℕ) → Like (identity N K C n) (identity M K C n)
   unfolding identity
-  identity-alike K C n = table-alike K C n n _ _ (λ i j h l. cond_both R (eqb i j) (eqb i j) _ _ _ _ refl (k.of one) (k.of plusZero))
+  identity-alike K C n = table-alike K C n n _ _ (λ i j h l. cond_both R (eqb i j) (eqb i j) _ _ _ _ refl (k.of one) (k.of plus_zero))
 
   -- ---- elimination
   abbrev pub LikeRow : List A → List B → Type 0
@@ -240,9 +240,9 @@ module _ {A B : Type 0} {R : A → B → Type 0} {N : Arith A} {M : Arith B} (k 
   pub back_to-alike : {m : List (List A)} {m' : List (List B)} (d K C n cols : ℕ) → Like m m' → Like (back_to N d K C n cols m) (back_to M d K C n cols m')
   unfolding back_to
   back_to-alike {m} {m'} d K C n cols p =
-      fold-both Like 0 d _ _ _ _ (blank-both K C (zero_of N) (zero_of M) k.void (k.of plusZero))
+      fold-both Like 0 d _ _ _ _ (blank-both K C (zero_of N) (zero_of M) k.void (k.of plus_zero))
       (λ h v u x y q. each_set (n - 1 - h) q
-      (row-both C cols (zero_of N) (zero_of M) (back_cell N n m x (n - 1 - h)) (back_cell M n m' y (n - 1 - h)) k.void (k.of plusZero)
+      (row-both C cols (zero_of N) (zero_of M) (back_cell N n m x (n - 1 - h)) (back_cell M n m' y (n - 1 - h)) k.void (k.of plus_zero)
       (λ j l. back_cell-alike n (n - 1 - h) j p q)))
 
   pub joined-alike : {a b : List (List A)} {a' b' : List (List B)} (K W n cols : ℕ) → Like a a' → Like b b' → Like (joined N K W n cols a b) (joined M K W n cols a' b')
@@ -279,26 +279,26 @@ module _ {A B : Type 0} {R : A → B → Type 0} {N : Arith A} {M : Arith B} (k 
   sine-alike p q = k.times p q
 
   pub turn_row-alike : {x : List A} {y : List B} {c s : A} {c' s' : B} (p q : ℕ) → R c c' → R s s' → LikeRow x y
-      → LikeRow (turnRow N p q c s x) (turnRow M p q c' s' y)
-  unfolding turnRow turnedFirst turnedSecond
+      → LikeRow (turn_row N p q c s x) (turn_row M p q c' s' y)
+  unfolding turn_row turned_first turned_second
   turn_row-alike p q e f r =
       each_set q (each_set p r (k.minus (k.times e (r.each p)) (k.times f (r.each q)))) (k.plus (k.times f (r.each p)) (k.times e (r.each q)))
 
   pub turn_columns-alike : {m : List (List A)} {m' : List (List B)} {c s : A} {c' s' : B} (n p q : ℕ) → R c c' → R s s' → Like m m'
-      → Like (turnColumns N n p q c s m) (turnColumns M n p q c' s' m')
-  unfolding turnColumns
+      → Like (turn_columns N n p q c s m) (turn_columns M n p q c' s' m')
+  unfolding turn_columns
   turn_columns-alike {m} {m'} n p q e f r = fold-both Like 0 n _ _ m m' r (λ i h l x y g. each_set i g (turn_row-alike p q e f (r.each i)))
 
   pub rotated_cell-alike : {t : A} {t' : B} {m w : List (List A)} {m' w' : List (List B)} (p q i j : ℕ) → R t t' → Like m m' → Like w w'
-      → R (rotatedCell N p q t m w i j) (rotatedCell M p q t' m' w' i j)
-  unfolding rotatedCell
+      → R (rotated_cell N p q t m w i j) (rotated_cell M p q t' m' w' i j)
+  unfolding rotated_cell
   rotated_cell-alike p q i j e f g =
       cond_both R (eqb i p) (eqb i p) _ _ _ _ refl
       (cond_both R (eqb j p) (eqb j p) _ _ _ _ refl (k.minus ((f.each p).each p) (k.times e ((f.each p).each q)))
-      (cond_both R (eqb j q) (eqb j q) _ _ _ _ refl (k.of plusZero) ((g.each j).each p)))
+      (cond_both R (eqb j q) (eqb j q) _ _ _ _ refl (k.of plus_zero) ((g.each j).each p)))
       (cond_both R (eqb i q) (eqb i q) _ _ _ _ refl
       (cond_both R (eqb j q) (eqb j q) _ _ _ _ refl (k.plus ((f.each q).each q) (k.times e ((f.each p).each q)))
-      (cond_both R (eqb j p) (eqb j p) _ _ _ _ refl (k.of plusZero) ((g.each j).each q)))
+      (cond_both R (eqb j p) (eqb j p) _ _ _ _ refl (k.of plus_zero) ((g.each j).each q)))
       ((g.each i).each j))
 
   pub rotated-alike : {t c s : A} {t' c' s' : B} {m : List (List A)} {m' : List (List B)} (K C n p q : ℕ) → R t t' → R c c' → R s s' → Like m m'
@@ -321,8 +321,8 @@ module _ {A B : Type 0} {R : A → B → Type 0} {N : Arith A} {M : Arith B} (k 
     pub count : s.count ≡ t.count
     pub seen : R s.seen t.seen
 
-  pub rotate_tested-alike : {s : State A} {t : State B} (x : Float) (K C n p q : ℕ) → States s t → States (rotateTested N x K C n p q s) (rotateTested M x K C n p q t)
-  unfolding rotateTested
+  pub rotate_tested-alike : {s : State A} {t : State B} (x : Float) (K C n p q : ℕ) → States s t → States (rotate_tested N x K C n p q s) (rotate_tested M x K C n p q t)
+  unfolding rotate_tested
   rotate_tested-alike {s} {t} x K C n p q r =
       let e : R (squared N p q s.a) (squared M p q t.a) = squared-alike p q r.a in
       let f : R (bound N x p q s.a) (bound M x p q t.a) = bound-alike x p q r.a in
@@ -340,16 +340,16 @@ module _ {A B : Type 0} {R : A → B → Type 0} {N : Arith A} {M : Arith B} (k 
   unfolding rotate
   rotate-alike x K C n p q r = cond_both States _ _ _ _ _ _ (ap is_zero (k.value ((r.a.each p).each q))) r (rotate_tested-alike x K C n p q r)
 
-  pub row_to-alike : {s : State A} {t : State B} (d : ℕ) (x : Float) (K C n p : ℕ) → States s t → States (rowTo N d x K C n p s) (rowTo M d x K C n p t)
-  unfolding rowTo
+  pub row_to-alike : {s : State A} {t : State B} (d : ℕ) (x : Float) (K C n p : ℕ) → States s t → States (row_to N d x K C n p s) (row_to M d x K C n p t)
+  unfolding row_to
   row_to-alike d x K C n p r = fold-both States (p + 1) d _ _ _ _ r (λ q h l y z e. rotate-alike x K C n p q e)
 
-  pub sweep_to-alike : {s : State A} {t : State B} (d : ℕ) (x : Float) (K C n : ℕ) → States s t → States (sweepTo N d x K C n s) (sweepTo M d x K C n t)
-  unfolding sweepTo
+  pub sweep_to-alike : {s : State A} {t : State B} (d : ℕ) (x : Float) (K C n : ℕ) → States s t → States (sweep_to N d x K C n s) (sweep_to M d x K C n t)
+  unfolding sweep_to
   sweep_to-alike d x K C n r = fold-both States 0 d _ _ _ _ r (λ p h l y z e. row_to-alike n x K C n p e)
 
-  pub sweeps_to-alike : {s : State A} {t : State B} (d : ℕ) (x : Float) (K C n : ℕ) → States s t → States (sweepsTo N d x K C n s) (sweepsTo M d x K C n t)
-  unfolding sweepsTo
+  pub sweeps_to-alike : {s : State A} {t : State B} (d : ℕ) (x : Float) (K C n : ℕ) → States s t → States (sweeps_to N d x K C n s) (sweeps_to M d x K C n t)
+  unfolding sweeps_to
   sweeps_to-alike d x K C n r = fold-both States 0 d _ _ _ _ r (λ i h l y z e. sweep_to-alike n x K C n e)
 
   pub mirrored-alike : {m : List (List A)} {m' : List (List B)} (K C n : ℕ) → Like m m' → Like (mirrored N K C n m) (mirrored M K C n m')
@@ -359,7 +359,7 @@ module _ {A B : Type 0} {R : A → B → Type 0} {N : Arith A} {M : Arith B} (k 
   pub jacobi-alike : {m : List (List A)} {m' : List (List B)} (x : Float) (K C n : ℕ) → Like m m' → States (jacobi N x K C n m) (jacobi M x K C n m')
   unfolding jacobi
   jacobi-alike x K C n r =
-      sweeps_to-alike 30 x K C n (record { a = mirrored-alike K C n r; v = identity-alike K C n; count = refl; seen = k.of plusZero })
+      sweeps_to-alike 30 x K C n (record { a = mirrored-alike K C n r; v = identity-alike K C n; count = refl; seen = k.of plus_zero })
 
   -- ---- small matrices
   pub sandwich-alike : {l m : List (List A)} {l' m' : List (List B)} (K C q p : ℕ) → Like l l' → Like m m' → Like (sandwich N K C q p l m) (sandwich M K C q p l' m')
@@ -367,14 +367,14 @@ module _ {A B : Type 0} {R : A → B → Type 0} {N : Arith A} {M : Arith B} (k 
   sandwich-alike K C q p e f = product-alike K C q p q (product-alike K C q p p e f) (transpose-alike K C q p e)
 
   -- the same plain numbers, given to both
-  pub given_cells-alike : (K C r c : ℕ) (a : List (List Float)) → Like (givenCells N K C r c a) (givenCells M K C r c a)
-  unfolding givenCells
+  pub given_cells-alike : (K C r c : ℕ) (a : List (List Float)) → Like (given_cells N K C r c a) (given_cells M K C r c a)
+  unfolding given_cells
   given_cells-alike K C r c a = table-alike K C r c _ _ (λ i j h l. k.of (at floats a i j))
 
   pub values-alike : {a : List (List A)} {a' : List (List B)} (K C r c : ℕ) → Like a a' → values N K C r c a ≡ values M K C r c a'
   unfolding values
-  values-alike K C r c p = table-ext plusZero K C r c _ _ (λ i j h l. k.value ((p.each i).each j))
+  values-alike K C r c p = table-ext plus_zero K C r c _ _ (λ i j h l. k.value ((p.each i).each j))
 
-  pub all_marks-alike : {a : List (List A)} {a' : List (List B)} {x : A} {y : B} (r c : ℕ) → Like a a' → R x y → R (allMarks N r c a x) (allMarks M r c a' y)
-  unfolding allMarks
+  pub all_marks-alike : {a : List (List A)} {a' : List (List B)} {x : A} {y : B} (r c : ℕ) → Like a a' → R x y → R (all_marks N r c a x) (all_marks M r c a' y)
+  unfolding all_marks
   all_marks-alike r c p e = fold-both R 0 r _ _ _ _ e (λ i h l x y q. fold-both R 0 c _ _ x y q (λ j v u s t f. k.also f ((p.each i).each j)))

@@ -1,7 +1,7 @@
 -- Document 01: "Cholesky, lower, column by column: from the entry subtract products by rising index; the diagonal must be > 0."
 use Rattle.std.specs.Prelude.{ℕ, ◌+◌, Bool, true, false, not, cond, ◌||◌, List, [], ltb, get_or, set}
 use Rattle.std.specs.Float.Ieee.{lt}
-use Rattle.arithmetic.specs.Numbers.{plusZero}
+use Rattle.arithmetic.specs.Numbers.{plus_zero}
 use Rattle.algebra.specs.Fold.{fold}
 use Rattle.algebra.specs.Table.{table}
 use Rattle.algebra.specs.Kind.{Arith, zero_of}
@@ -28,12 +28,12 @@ module _ {A : Type 0} (N : Arith A) where
   cholesky_to k n m = fold 0 k (λ j m. cholesky_column n j m) m
 
   -- the diagonal entry of column j, before its root is taken, is not > 0 (a NaN is not)
-  unfoldable pub notPositive : ℕ → List (List A) → Bool
-  notPositive j m = not (lt plusZero (N.value (less_dot j m j j)))
+  unfoldable pub not_positive : ℕ → List (List A) → Bool
+  not_positive j m = not (lt plus_zero (N.value (less_dot j m j j)))
 
   -- refused: in some column the diagonal is not > 0
   unfoldable pub cholesky_refused : ℕ → ℕ → List (List A) → Bool
-  cholesky_refused k n m = fold 0 k (λ j z. z || notPositive j (cholesky_to j n m)) false
+  cholesky_refused k n m = fold 0 k (λ j z. z || not_positive j (cholesky_to j n m)) false
 
   -- the lower half, with zeros above the diagonal
   unfoldable pub lower : ℕ → ℕ → ℕ → List (List A) → List (List A)

@@ -36,30 +36,30 @@ module _ {A : Type 0} (N : Arith A) where
   sine t c = N.times t c
 
   -- c x − s y, and s x + c y
-  unfoldable pub turnedFirst : A → A → A → A → A
-  turnedFirst c s x y = N.minus (N.times c x) (N.times s y)
+  unfoldable pub turned_first : A → A → A → A → A
+  turned_first c s x y = N.minus (N.times c x) (N.times s y)
 
-  unfoldable pub turnedSecond : A → A → A → A → A
-  turnedSecond c s x y = N.plus (N.times s x) (N.times c y)
+  unfoldable pub turned_second : A → A → A → A → A
+  turned_second c s x y = N.plus (N.times s x) (N.times c y)
 
   -- a row whose cells p and q are turned
-  unfoldable pub turnRow : ℕ → ℕ → A → A → List A → List A
-  turnRow p q c s r =
-      set (set r p (turnedFirst c s (get_or r p N.void) (get_or r q N.void))) q (turnedSecond c s (get_or r p N.void) (get_or r q N.void))
+  unfoldable pub turn_row : ℕ → ℕ → A → A → List A → List A
+  turn_row p q c s r =
+      set (set r p (turned_first c s (get_or r p N.void) (get_or r q N.void))) q (turned_second c s (get_or r p N.void) (get_or r q N.void))
 
   -- columns p and q of the first n rows turned
-  unfoldable pub turnColumns : ℕ → ℕ → ℕ → A → A → List (List A) → List (List A)
-  turnColumns n p q c s m = fold 0 n (λ i y. set y i (turnRow p q c s (get_or m i []))) m
+  unfoldable pub turn_columns : ℕ → ℕ → ℕ → A → A → List (List A) → List (List A)
+  turn_columns n p q c s m = fold 0 n (λ i y. set y i (turn_row p q c s (get_or m i []))) m
 
   -- cell (i, j) of the rotated matrix, from m and from w, which is m with its columns p and q turned; rows p and q mirror the columns
-  unfoldable pub rotatedCell : ℕ → ℕ → A → List (List A) → List (List A) → ℕ → ℕ → A
-  rotatedCell p q t m w i j =
+  unfoldable pub rotated_cell : ℕ → ℕ → A → List (List A) → List (List A) → ℕ → ℕ → A
+  rotated_cell p q t m w i j =
       cond (eqb i p) (cond (eqb j p) (N.minus (at N m p p) (N.times t (at N m p q))) (cond (eqb j q) (zero_of N) (at N w j p)))
       (cond (eqb i q) (cond (eqb j q) (N.plus (at N m q q) (N.times t (at N m p q))) (cond (eqb j p) (zero_of N) (at N w j q)))
       (at N w i j))
 
   unfoldable pub rotated : ℕ → ℕ → ℕ → ℕ → ℕ → A → A → A → List (List A) → List (List A)
-  rotated R C n p q t c s m = table (zero_of N) R C n n (rotatedCell p q t m (turnColumns n p q c s m))
+  rotated R C n p q t c s m = table (zero_of N) R C n n (rotated_cell p q t m (turn_columns n p q c s m))
 
   -- the two sides of the rotation test
   unfoldable pub squared : ℕ → ℕ → List (List A) → A
@@ -69,8 +69,8 @@ module _ {A : Type 0} (N : Arith A) where
   bound limit p q m = N.times (N.of limit) (N.times (at N m p p) (at N m q q))
 
   -- the pair (p, q) with A_pq ≠ 0: tested, and rotated if the test says so
-  unfoldable pub rotateTested : Float → ℕ → ℕ → ℕ → ℕ → ℕ → State A → State A
-  rotateTested limit R C n p q x =
+  unfoldable pub rotate_tested : Float → ℕ → ℕ → ℕ → ℕ → ℕ → State A → State A
+  rotate_tested limit R C n p q x =
       let l : A = squared p q x.a in
       let r : A = bound limit p q x.a in
       let seen : A = N.also x.seen (N.also l r) in
@@ -78,21 +78,21 @@ module _ {A : Type 0} (N : Arith A) where
       let c : A = cosine t in
       let s : A = sine t c in
       cond (lt (N.value r) (N.value l))
-      (record { a = rotated R C n p q t c s x.a; v = turnColumns n p q c s x.v; count = x.count + 1; seen = seen })
+      (record { a = rotated R C n p q t c s x.a; v = turn_columns n p q c s x.v; count = x.count + 1; seen = seen })
       (record { a = x.a; v = x.v; count = x.count; seen = seen })
 
   unfoldable pub rotate : Float → ℕ → ℕ → ℕ → ℕ → ℕ → State A → State A
-  rotate limit R C n p q x = cond (is_zero (N.value (at N x.a p q))) x (rotateTested limit R C n p q x)
+  rotate limit R C n p q x = cond (is_zero (N.value (at N x.a p q))) x (rotate_tested limit R C n p q x)
 
   -- the pairs of row p up to column k; the rows up to k of a sweep; k sweeps
-  unfoldable pub rowTo : ℕ → Float → ℕ → ℕ → ℕ → ℕ → State A → State A
-  rowTo k limit R C n p x = fold (p + 1) k (λ q y. rotate limit R C n p q y) x
+  unfoldable pub row_to : ℕ → Float → ℕ → ℕ → ℕ → ℕ → State A → State A
+  row_to k limit R C n p x = fold (p + 1) k (λ q y. rotate limit R C n p q y) x
 
-  unfoldable pub sweepTo : ℕ → Float → ℕ → ℕ → ℕ → State A → State A
-  sweepTo k limit R C n x = fold 0 k (λ p y. rowTo n limit R C n p y) x
+  unfoldable pub sweep_to : ℕ → Float → ℕ → ℕ → ℕ → State A → State A
+  sweep_to k limit R C n x = fold 0 k (λ p y. row_to n limit R C n p y) x
 
-  unfoldable pub sweepsTo : ℕ → Float → ℕ → ℕ → ℕ → State A → State A
-  sweepsTo k limit R C n x = fold 0 k (λ i y. sweepTo n limit R C n y) x
+  unfoldable pub sweeps_to : ℕ → Float → ℕ → ℕ → ℕ → State A → State A
+  sweeps_to k limit R C n x = fold 0 k (λ i y. sweep_to n limit R C n y) x
 
   -- the matrix with its lower half taken from the upper
   unfoldable pub mirrored : ℕ → ℕ → ℕ → List (List A) → List (List A)
@@ -100,4 +100,4 @@ module _ {A : Type 0} (N : Arith A) where
 
   -- 30 sweeps, with the vectors from the identity
   unfoldable pub jacobi : Float → ℕ → ℕ → ℕ → List (List A) → State A
-  jacobi limit R C n m = sweepsTo 30 limit R C n (record { a = mirrored R C n m; v = identity N R C n; count = 0; seen = zero_of N })
+  jacobi limit R C n m = sweeps_to 30 limit R C n (record { a = mirrored R C n m; v = identity N R C n; count = 0; seen = zero_of N })

@@ -3,9 +3,9 @@ use Rattle.std.specs.Prelude.{Bool, true, false, Float}
 use Rattle.std.specs.Float.{nan, binary64}
 use Rattle.std.specs.Float.Ieee.{add, sub, mul, div}
 use Rattle.arithmetic.specs.declared.Marked.{Marked}
-use Rattle.arithmetic.specs.Numbers.{plusZero, magnitude}
-use Rattle.arithmetic.specs.SquareRoot.{squareRoot}
-use Rattle.arithmetic.specs.Marks.{marked, given, markedAdd, markedSub, markedMul, markedDiv, markedRoot, markedMagnitude, also, is_inside}
+use Rattle.arithmetic.specs.Numbers.{plus_zero, magnitude}
+use Rattle.arithmetic.specs.SquareRoot.{square_root}
+use Rattle.arithmetic.specs.Marks.{marked, given, marked_add, marked_sub, marked_mul, marked_div, marked_root, marked_magnitude, also, is_inside}
 
 -- `value` is the f64 that comparisons look at; `of` makes a constant; `void` stands past the end of a list; `also a b` is a, with b's mark counted;
 -- `inside` is the mark that an entry shows: a plain number has none, and shows true
@@ -31,7 +31,7 @@ floats = record {
   minus = sub binary64;
   times = mul binary64;
   over = div binary64;
-  root = squareRoot;
+  root = square_root;
   unsigned = magnitude;
   also = λ x y. x;
   inside = λ x. true;
@@ -42,16 +42,16 @@ marks = record {
   value = λ x. x.value;
   of = given;
   void = marked nan false;
-  plus = markedAdd;
-  minus = markedSub;
-  times = markedMul;
-  over = markedDiv;
-  root = markedRoot;
-  unsigned = markedMagnitude;
+  plus = marked_add;
+  minus = marked_sub;
+  times = marked_mul;
+  over = marked_div;
+  root = marked_root;
+  unsigned = marked_magnitude;
   also = also;
   inside = is_inside;
 }
 
 -- +0
 abbrev pub zero_of : {A : Type 0} → Arith A → A
-zero_of N = N.of plusZero
+zero_of N = N.of plus_zero

@@ -28,12 +28,12 @@ module _ {A : Type 0} (N : Arith A) where
   transpose R C r c a = table (zero_of N) R C c r (λ i j. at a j i)
 
   -- the sum of f i j over r rows and c columns, row after row, with one running sum
-  unfoldable pub sumCells : ℕ → ℕ → (ℕ → ℕ → A) → A
-  sumCells r c f = fold 0 r (λ i s. fold 0 c (λ j s. N.plus s (f i j)) s) (zero_of N)
+  unfoldable pub sum_cells : ℕ → ℕ → (ℕ → ℕ → A) → A
+  sum_cells r c f = fold 0 r (λ i s. fold 0 c (λ j s. N.plus s (f i j)) s) (zero_of N)
 
   -- document 01: "cells(A, B) sums the products of like cells"
   unfoldable pub like_cells : ℕ → ℕ → List (List A) → List (List A) → A
-  like_cells r c a b = sumCells r c (λ i j. N.times (at a i j) (at b i j))
+  like_cells r c a b = sum_cells r c (λ i j. N.times (at a i j) (at b i j))
 
   -- tr a
   unfoldable pub trace : ℕ → List (List A) → A
@@ -43,8 +43,8 @@ module _ {A : Type 0} (N : Arith A) where
   unfoldable pub plus_cells : ℕ → ℕ → ℕ → ℕ → List (List A) → List (List A) → List (List A)
   plus_cells R C r c a b = table (zero_of N) R C r c (λ i j. N.plus (at a i j) (at b i j))
 
-  unfoldable pub minusCells : ℕ → ℕ → ℕ → ℕ → List (List A) → List (List A) → List (List A)
-  minusCells R C r c a b = table (zero_of N) R C r c (λ i j. N.minus (at a i j) (at b i j))
+  unfoldable pub minus_cells : ℕ → ℕ → ℕ → ℕ → List (List A) → List (List A) → List (List A)
+  minus_cells R C r c a b = table (zero_of N) R C r c (λ i j. N.minus (at a i j) (at b i j))
 
   unfoldable pub times_number : ℕ → ℕ → ℕ → ℕ → List (List A) → A → List (List A)
   times_number R C r c a x = table (zero_of N) R C r c (λ i j. N.times (at a i j) x)

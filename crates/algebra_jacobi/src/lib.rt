@@ -5,7 +5,7 @@ ghost use Rattle.std.specs.Prelude.{◌≡◌, ◌+◌, ◌<◌, ◌≤◌};
 ghost use Rattle.algebra.specs.Kind.{floats};
 ghost use Rattle.algebra_jacobi.specs.joints.Starts.{mirrored_cell};
 ghost use Rattle.algebra_jacobi.specs.joints.States.{plain_state};
-ghost use Rattle.algebra.specs.Jacobi.{State, sweepsTo, mirrored, jacobi};
+ghost use Rattle.algebra.specs.Jacobi.{State, sweeps_to, mirrored, jacobi};
 
 use crate::tested_rotation::{rotated_pair, rotates};
 
@@ -20,7 +20,7 @@ pub fn sweeps(
     count: &mut usize,
 ) -> [[[f64; 6]; 6]; 2]
     requires { n ≤ 6 }
-    ensures { plain_state result count.new ≡ sweepsTo floats 30 limit 6 6 n (plain_state both 0) }
+    ensures { plain_state result count.new ≡ sweeps_to floats 30 limit 6 6 n (plain_state both 0) }
 {
     *count = 0;
     let mut out = both;

@@ -9,7 +9,7 @@ ghost use Rattle.algebra_jacobi.specs.joints.Rotated.{chosen_cell, mirroring_cel
 ghost use Rattle.algebra_jacobi.specs.joints.States.{marked_state};
 ghost use Rattle.algebra_jacobi.specs.joints.Tested.{rotates, seen_after, rotated_pair};
 ghost use Rattle.algebra_jacobi.specs.joints.Starts.{mirrored_cell};
-ghost use Rattle.algebra.specs.Jacobi.{State, ratio, tangent, cosine, sine, turnedFirst, turnedSecond, turnRow, turnColumns, rotated, sweepsTo, mirrored, jacobi};
+ghost use Rattle.algebra.specs.Jacobi.{State, ratio, tangent, cosine, sine, turned_first, turned_second, turn_row, turn_columns, rotated, sweeps_to, mirrored, jacobi};
 
 use algebra_products_marked::cells::identity;
 use arithmetic::Marked;
@@ -49,14 +49,14 @@ pub fn sine(t: Marked, c: Marked) -> Marked
 
 // The pair (x, y) turned: its first number.
 pub fn turned_first(c: Marked, s: Marked, x: Marked, y: Marked) -> Marked
-    ensures { result ≡ turnedFirst marks c s x y }
+    ensures { result ≡ turned_first marks c s x y }
 {
     sub(mul(c, x), mul(s, y))
 }
 
 // The pair (x, y) turned: its second number.
 pub fn turned_second(c: Marked, s: Marked, x: Marked, y: Marked) -> Marked
-    ensures { result ≡ turnedSecond marks c s x y }
+    ensures { result ≡ turned_second marks c s x y }
 {
     add(mul(s, x), mul(c, y))
 }
@@ -64,7 +64,7 @@ pub fn turned_second(c: Marked, s: Marked, x: Marked, y: Marked) -> Marked
 // Both new cells come from the old ones.
 pub fn turn_row(row: [Marked; 6], p: usize, q: usize, c: Marked, s: Marked) -> [Marked; 6]
     requires { (p < 6) × (q < 6) }
-    ensures { result ≡ turnRow marks p q c s row }
+    ensures { result ≡ turn_row marks p q c s row }
 {
     let mut out = row;
     out[p] = turned_first(c, s, row[p], row[q]);
@@ -81,7 +81,7 @@ pub fn turn_columns(
     s: Marked,
 ) -> [[Marked; 6]; 6]
     requires { (n ≤ 6) × (p < 6) × (q < 6) }
-    ensures { result ≡ turnColumns marks n p q c s m }
+    ensures { result ≡ turn_columns marks n p q c s m }
 {
     let mut out = m;
     for i in 0..n {
@@ -214,7 +214,7 @@ pub fn sweeps(
     inside: &mut bool,
 ) -> [[[Marked; 6]; 6]; 2]
     requires { n ≤ 6 }
-    ensures { marked_state result count.new inside.new ≡ sweepsTo marks 30 limit 6 6 n (marked_state both 0 true) }
+    ensures { marked_state result count.new inside.new ≡ sweeps_to marks 30 limit 6 6 n (marked_state both 0 true) }
 {
     *count = 0;
     let mut seen = zero_of();

@@ -7,7 +7,7 @@ use mathlib.Core.List.{List, []}
 use mathlib.Core.Logic.{◌⊎◌, inl, inr, ⊎_elim}
 use lib.ListN.{get_or, length, replicate, get_or-replicate}
 use lib.Ieee.{Float, nan}
-use Rattle.arithmetic.specs.Numbers.{plusZero}
+use Rattle.arithmetic.specs.Numbers.{plus_zero}
 use Rattle.algebra.specs.Fold.{fold}
 use Rattle.algebra.specs.Table.{blank}
 use Rattle.algebra.specs.Kind.{floats}
@@ -86,28 +86,28 @@ row-holds h = record { wide = omega arith; fits = omega arith }
 
 -- the gains of a row that was cleared first
 pub gain-cleared : (d c p u o q t n : ℕ) (xs ys zs : List Float) → d + c ≤ length xs → Apart d c p (n * u) → Apart d c q (n * t) → o < u → c ≤ t
-    → ys ≡ put_row d c (λ j. plusZero) xs → zs ≡ put_row d c (λ j. gained_to n ys p u o ys q t (get_or ys (d + j) nan) j) ys
-    → zs ≡ put_row d c (gained_to n xs p u o xs q t plusZero) xs
+    → ys ≡ put_row d c (λ j. plus_zero) xs → zs ≡ put_row d c (λ j. gained_to n ys p u o ys q t (get_or ys (d + j) nan) j) ys
+    → zs ≡ put_row d c (gained_to n xs p u o xs q t plus_zero) xs
 unfolding gained_to
 gain-cleared d c p u o q t n xs ys zs hl hp hq ho hc ey ez =
-    row-over d c (λ j. plusZero) (λ j. gained_to n ys p u o ys q t (get_or ys (d + j) nan) j) (gained_to n xs p u o xs q t plusZero) xs ys zs hl ey ez
+    row-over d c (λ j. plus_zero) (λ j. gained_to n ys p u o ys q t (get_or ys (d + j) nan) j) (gained_to n xs p u o xs q t plus_zero) xs ys zs hl ey ez
     (λ j l.
-    let own : get_or ys (d + j) nan ≡ plusZero = ap (λ (zs : List Float). get_or zs (d + j) nan) ey ∙ put_row-at d c (λ j. plusZero) xs j l hl in
+    let own : get_or ys (d + j) nan ≡ plus_zero = ap (λ (zs : List Float). get_or zs (d + j) nan) ey ∙ put_row-at d c (λ j. plus_zero) xs j l hl in
     rw own
     (fold-ext 0 n
     (λ k y. floats.plus y (floats.times (get_or ys (p + k * u + o) nan) (get_or ys (q + k * t + j) nan)))
-    (λ k y. floats.plus y (floats.times (get_or xs (p + k * u + o) nan) (get_or xs (q + k * t + j) nan))) plusZero
-    (λ k lo hk y. rw (apart-cell (λ j. plusZero) xs ys hp ey k o hk ho, apart-cell (λ j. plusZero) xs ys hq ey k j hk (omega arith)))))
+    (λ k y. floats.plus y (floats.times (get_or xs (p + k * u + o) nan) (get_or xs (q + k * t + j) nan))) plus_zero
+    (λ k lo hk y. rw (apart-cell (λ j. plus_zero) xs ys hp ey k o hk ho, apart-cell (λ j. plus_zero) xs ys hq ey k j hk (omega arith)))))
 
 -- gains from +0 are a sum
 pub gained-sum : (f : ℕ → Float) (n : ℕ) (ws : List Float) (p u o : ℕ) (bs : List Float) (q t j : ℕ)
     → ((k : ℕ) → k < n → floats.times (get_or ws (p + k * u + o) nan) (get_or bs (q + k * t + j) nan) ≡ f k)
-    → gained_to n ws p u o bs q t plusZero j ≡ sum floats n f
+    → gained_to n ws p u o bs q t plus_zero j ≡ sum floats n f
 unfolding gained_to sum
 gained-sum f n ws p u o bs q t j h =
     fold-ext 0 n
     (λ k y. floats.plus y (floats.times (get_or ws (p + k * u + o) nan) (get_or bs (q + k * t + j) nan)))
-    (λ k y. floats.plus y (f k)) plusZero (λ k lo hk y. ap (λ (z : Float). floats.plus y z) (h k hk))
+    (λ k y. floats.plus y (f k)) plus_zero (λ k lo hk y. ap (λ (z : Float). floats.plus y z) (h k hk))
 
 -- The cells of the results.
 
@@ -118,7 +118,7 @@ blank-at z r c i j hi hj = rw (get_or-replicate r i (replicate c z) [] hi) (sym 
 pub product_at : (r n c : ℕ) (a b : List (List Float)) (i j : ℕ) → i < r → j < c
     → at floats (product floats r c r n c a b) i j ≡ sum floats n (λ k. floats.times (at floats a i k) (at floats b k j))
 unfolding product cell
-product_at r n c a b i j hi hj = table_at plusZero r c r c (cell floats n a b) i j nan hi hj (omega arith) (omega arith)
+product_at r n c a b i j hi hj = table_at plus_zero r c r c (cell floats n a b) i j nan hi hj (omega arith) (omega arith)
 
 pub gained-at : (r c : ℕ) (d : List (List Float)) (f : Float) (p : List (List Float)) (i j : ℕ) → i < r → j < c
     → at floats (gained r c d f p) i j ≡ floats.plus (at floats d i j) (floats.times f (at floats p i j))
@@ -129,7 +129,7 @@ gained-at r c d f p i j hi hj =
 -- row i of a product, where the rows before it stand
 pub product-row : (m : List (List Float)) (s d t p u q r n c i b : ℕ) (xs ys : List Float) → Apart d (r * s) p (r * t) → Apart d (r * s) q (n * u)
     → c ≤ s → n ≤ t → c ≤ u → i < r → b ≡ p + i * t → ys ≡ put_rows s d i c m xs → (j : ℕ) → j < c
-    → gained_to n ys b 1 0 ys q u plusZero j ≡ at floats (product floats r c r n c (rows_at t p r n xs) (rows_at u q n c xs)) i j
+    → gained_to n ys b 1 0 ys q u plus_zero j ≡ at floats (product floats r c r n c (rows_at t p r n xs) (rows_at u q n c xs)) i j
 product-row m s d t p u q r n c i b xs ys hp hq hs ht hu hi eb ey j hj =
     gained-sum (λ k. floats.times (at floats (rows_at t p r n xs) i k) (at floats (rows_at u q n c xs) k j)) n ys b 1 0 ys q u j
     (λ k hk.
@@ -145,7 +145,7 @@ product-row m s d t p u q r n c i b xs ys hp hq hs ht hu hi eb ey j hj =
 
 -- row i of xᵀ x, where the rows before it stand
 pub gram-row : (m : List (List Float)) (s d t p n c i : ℕ) (xs ys : List Float) → Apart d (c * s) p (n * t) → c ≤ s → c ≤ t → i < c
-    → ys ≡ put_rows s d i c m xs → (j : ℕ) → j < c → gained_to n ys p t i ys p t plusZero j ≡ at floats (gram_of n c (rows_at t p n c xs)) i j
+    → ys ≡ put_rows s d i c m xs → (j : ℕ) → j < c → gained_to n ys p t i ys p t plus_zero j ≡ at floats (gram_of n c (rows_at t p n c xs)) i j
 unfolding gram_of transpose
 gram-row m s d t p n c i xs ys hp hs ht hi ey j hj =
     let x : List (List Float) = rows_at t p n c xs in
@@ -154,7 +154,7 @@ gram-row m s d t p n c i xs ys hp hs ht hi ey j hj =
     rw (
       fill-apart s d c i c t p n c m xs ys hp (omega arith) hs ht ey k i hk hi,
       fill-apart s d c i c t p n c m xs ys hp (omega arith) hs ht ey k j hk hj,
-      table_at plusZero c n c n (λ i j. at floats x j i) i k nan hi hk (omega arith) (omega arith),
+      table_at plus_zero c n c n (λ i j. at floats x j i) i k nan hi hk (omega arith) (omega arith),
       rows_at-at t p n c xs k i hk hi,
       rows_at-at t p n c xs k j hk hj,
     ))

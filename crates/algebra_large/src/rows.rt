@@ -1,7 +1,7 @@
 // One row: c cells of the slice that lie side by side. Each loop runs over them in order, so that several can be done at a time.
 ghost use Rattle.std.specs.Prelude.{◌≡◌, ◌+◌, ◌*◌, ◌<◌, ◌≤◌, length, get_or};
 ghost use Rattle.std.specs.Float.{nan};
-ghost use Rattle.arithmetic.specs.Numbers.{plusZero};
+ghost use Rattle.arithmetic.specs.Numbers.{plus_zero};
 ghost use Rattle.algebra.specs.Kind.{floats};
 ghost use Rattle.algebra_large.specs.joints.Slab.{put_row, Holds, Apart};
 ghost use Rattle.algebra_large.specs.joints.Steps.{gained_to};
@@ -16,7 +16,7 @@ pub fn start(a: usize, s: usize, i: usize, r: usize, c: usize, len: usize) -> us
 
 pub fn clear_row(work: &mut [f64], d: usize, c: usize)
     requires { d + c ≤ length work.old }
-    ensures { work.new ≡ put_row d c (λ j. plusZero) work.old }
+    ensures { work.new ≡ put_row d c (λ j. plus_zero) work.old }
 {
     for j in 0..c {
         work[d + j] = 0.0;
@@ -100,7 +100,7 @@ pub fn product_row(
 )
     requires c_in_bounds { (d + c ≤ length work.old) × Holds u p n (o + 1) (length work.old) × Holds t q n c (length work.old) }
     requires apart { Apart d c p (n * u) × Apart d c q (n * t) }
-    ensures { work.new ≡ put_row d c (gained_to n work.old p u o work.old q t plusZero) work.old }
+    ensures { work.new ≡ put_row d c (gained_to n work.old p u o work.old q t plus_zero) work.old }
 {
     clear_row(work, d, c);
     gain_rows(work, d, p, u, o, q, t, n, c);

@@ -8,10 +8,10 @@ use lib.Dec.{ltb}
 use lib.ListN.{get_or, set, length}
 use lib.Ieee.{Float, nan}
 use borrow.Author.Tests.{lt-ltb, le-ltb}
-use Rattle.arithmetic.specs.Numbers.{plusZero}
+use Rattle.arithmetic.specs.Numbers.{plus_zero}
 use Rattle.algebra.specs.Kind.{floats}
 use Rattle.algebra.specs.Product.{at}
-use Rattle.algebra.specs.Cholesky.{put, less_dot, below_diagonal, cholesky_column, cholesky_to, notPositive, cholesky_refused, lower}
+use Rattle.algebra.specs.Cholesky.{put, less_dot, below_diagonal, cholesky_column, cholesky_to, not_positive, cholesky_refused, lower}
 use Rattle.algebra.proofs.FoldLaws.{fold_more, fold-keeps, fold_next}
 use Rattle.algebra.proofs.TableLaws.{table_at}
 use Rattle.algebra_large.specs.joints.Slab.{rows_at, put_row, put_rows, Holds}
@@ -71,27 +71,27 @@ column-more s a n j m xs ys zs h q hj ey ez =
     fold-turn (λ j m. cholesky_column floats n j m) 0 j s a n n m xs ys zs h (omega arith) (shape-cholesky j (omega arith) q) ey ez
 
 pub refused-more : (s a n j : ℕ) (m : List (List Float)) (xs ys : List Float) (b z : Bool) → Holds s a n n (length xs) → Shape n n m → j < n
-    → ys ≡ put_rows s a n n (cholesky_to floats j n m) xs → z ≡ cholesky_refused floats j n m → b ≡ notPositive floats j (rows_at s a n n ys)
+    → ys ≡ put_rows s a n n (cholesky_to floats j n m) xs → z ≡ cholesky_refused floats j n m → b ≡ not_positive floats j (rows_at s a n n ys)
     → z || b ≡ cholesky_refused floats (j + 1) n m
 unfolding cholesky_refused
 refused-more s a n j m xs ys b z h q hj ey ez eb =
     let e : rows_at s a n n ys ≡ cholesky_to floats j n m = read-now s a n n (cholesky_to floats j n m) xs ys h (shape-cholesky j (omega arith) q) ey in
-    fold_next 0 j (λ j z. z || notPositive floats j (cholesky_to floats j n m)) false z (z || b) (omega arith) ez
-    (ap (λ (x : Bool). z || x) (eb ∙ ap (λ (k : List (List Float)). notPositive floats j k) e))
+    fold_next 0 j (λ j z. z || not_positive floats j (cholesky_to floats j n m)) false z (z || b) (omega arith) ez
+    (ap (λ (x : Bool). z || x) (eb ∙ ap (λ (k : List (List Float)). not_positive floats j k) e))
 
-pub lower-at : (n : ℕ) (m : List (List Float)) (i j : ℕ) → i < n → j < n → at floats (lower floats n n n m) i j ≡ cond (ltb i j) plusZero (at floats m i j)
+pub lower-at : (n : ℕ) (m : List (List Float)) (i j : ℕ) → i < n → j < n → at floats (lower floats n n n m) i j ≡ cond (ltb i j) plus_zero (at floats m i j)
 unfolding lower
-lower-at n m i j hi hj = table_at plusZero n n n n (λ i j. cond (ltb i j) plusZero (at floats m i j)) i j nan hi hj (omega arith) (omega arith)
+lower-at n m i j hi hj = table_at plus_zero n n n n (λ i j. cond (ltb i j) plus_zero (at floats m i j)) i j nan hi hj (omega arith) (omega arith)
 
 -- row i with zeros above the diagonal, where the rows before it stand
 pub lower-more : (s a n i e d k : ℕ) (xs ys zs : List Float) → Holds s a n n (length xs) → i < n → e ≡ a + i * s → d ≡ e + (i + 1) → i + 1 + k ≡ n
-    → ys ≡ put_rows s a i n (lower floats n n n (rows_at s a n n xs)) xs → zs ≡ put_row d k (λ j. plusZero) ys
+    → ys ≡ put_rows s a i n (lower floats n n n (rows_at s a n n xs)) xs → zs ≡ put_row d k (λ j. plus_zero) ys
     → zs ≡ put_rows s a (i + 1) n (lower floats n n n (rows_at s a n n xs)) xs
 lower-more s a n i e d k xs ys zs h hi ee ed ek ey ez =
     let m : List (List Float) = rows_at s a n n xs in
     let long : length ys ≡ length xs = ap length ey ∙ length-put_rows s a i n (lower floats n n n m) xs in
     fill_more s a i n e (lower floats n n n m) (λ j. at floats (lower floats n n n m) i j) xs ys zs ee ey
-    (part-row e (i + 1) k n (λ j. plusZero) (λ j. at floats (lower floats n n n m) i j) d ys zs ed ek (omega (arith, row_fits h i hi, long)) ez
+    (part-row e (i + 1) k n (λ j. plus_zero) (λ j. at floats (lower floats n n n m) i j) d ys zs ed ek (omega (arith, row_fits h i hi, long)) ez
     (λ j hj.
     ap (λ (x : ℕ). get_or ys (x + j) nan) ee ∙ fill-own s a i n (lower floats n n n m) xs ys h.wide ey j (omega arith) ∙ sym (rows_at-at s a n n xs i j hi (omega arith))
     ∙ rw (lower-at n m i j hi (omega arith), le-ltb i j (omega arith)))

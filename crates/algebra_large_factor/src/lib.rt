@@ -3,7 +3,7 @@
 
 ghost use Rattle.std.specs.Prelude.{◌≡◌, ◌+◌, ◌*◌, ◌<◌, ◌≤◌, length};
 ghost use Rattle.algebra.specs.Kind.{floats};
-ghost use Rattle.algebra.specs.Cholesky.{less_dot, below_diagonal, cholesky_column, cholesky_to, notPositive, cholesky_refused, lower};
+ghost use Rattle.algebra.specs.Cholesky.{less_dot, below_diagonal, cholesky_column, cholesky_to, not_positive, cholesky_refused, lower};
 ghost use Rattle.algebra_large.specs.joints.Slab.{rows_at, put_rows, Holds};
 
 use algebra_large::rows::start;
@@ -38,7 +38,7 @@ pub fn below_diagonal(work: &mut [f64], a: usize, s: usize, n: usize, j: usize, 
 pub fn column(work: &mut [f64], a: usize, s: usize, n: usize, j: usize) -> bool
     requires { Holds s a n n (length work.old) × (j < n) }
     ensures work_after { work.new ≡ put_rows s a n n (cholesky_column floats n j (rows_at s a n n work.old)) work.old }
-    ensures value { result ≡ notPositive floats j (rows_at s a n n work.old) }
+    ensures value { result ≡ not_positive floats j (rows_at s a n n work.old) }
 {
     let x = less_dot(work, a, s, n, j, j);
     let d = arithmetic::root::sqrt(x);

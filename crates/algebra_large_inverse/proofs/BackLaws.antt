@@ -7,7 +7,7 @@ use mathlib.Core.List.{List, []}
 use mathlib.Core.Logic.{◌⊎◌, inl, inr, ⊎_elim}
 use lib.ListN.{get_or, set, length, length-replicate, replicate, get_or-replicate}
 use lib.Ieee.{Float, nan}
-use Rattle.arithmetic.specs.Numbers.{plusZero}
+use Rattle.arithmetic.specs.Numbers.{plus_zero}
 use Rattle.algebra.specs.Fold.{fold}
 use Rattle.algebra.specs.Table.{row, blank}
 use Rattle.algebra.specs.Kind.{floats}
@@ -155,8 +155,8 @@ length-row z c f = length-span 0 c f (replicate c z) ∙ length-replicate c z
 pub shape-back : {n c : ℕ} {x : List (List Float)} (h : ℕ) (m : List (List Float)) → Shape n c x → Shape n c (back_over h n c m x)
 unfolding back_over
 shape-back {n} {c} {x} h m q =
-    fold-keeps (λ y. Shape n c y) 0 h (λ h x. set x (n - 1 - h) (row plusZero c c (back_cell floats n m x (n - 1 - h)))) x q
-    (λ k lo hk y g. shape-set (n - 1 - k) (row plusZero c c (back_cell floats n m y (n - 1 - k))) g (length-row plusZero c (back_cell floats n m y (n - 1 - k))))
+    fold-keeps (λ y. Shape n c y) 0 h (λ h x. set x (n - 1 - h) (row plus_zero c c (back_cell floats n m x (n - 1 - h)))) x q
+    (λ k lo hk y g. shape-set (n - 1 - k) (row plus_zero c c (back_cell floats n m y (n - 1 - k))) g (length-row plus_zero c (back_cell floats n m y (n - 1 - k))))
 
 -- one more row
 pub back_more : (s a d t n c h i : ℕ) (x : List (List Float)) (xs ys zs : List Float) → Holds t d n c (length xs) → n + c ≤ s → Apart d (n * t) a (n * s) → Shape n c x → h < n
@@ -165,15 +165,15 @@ pub back_more : (s a d t n c h i : ℕ) (x : List (List Float)) (xs ys zs : List
     → zs ≡ put_rows t d n c (back_over (h + 1) n c (rows_at s a n (n + c) xs) x) xs
 unfolding back_over
 back_more s a d t n c h i x xs ys zs hd hs apt q hh ei ey ez =
-    set-step t d n c k (row plusZero c c (back_cell floats n m k i)) 0 c i (back_cell floats n (rows_at s a n (n + c) ys) (rows_at t d n c ys) i) (d + i * t) xs ys zs hd
+    set-step t d n c k (row plus_zero c c (back_cell floats n m k i)) 0 c i (back_cell floats n (rows_at s a n (n + c) ys) (rows_at t d n c ys) i) (d + i * t) xs ys zs hd
     (shape-back h m q) (omega arith) (omega arith) (omega arith) ey ez
     (λ l hl.
     let z : 0 + l ≡ l = omega arith in
-    rw (z, same-m, same-k) (sym (row_at plusZero c c (back_cell floats n m k i) l nan hl (omega arith))))
+    rw (z, same-m, same-k) (sym (row_at plus_zero c c (back_cell floats n m k i) l nan hl (omega arith))))
     (λ v hv o. absurd (o (omega arith) (omega arith)))
-    ∙ ap (λ (j : ℕ). put_rows t d n c (set k j (row plusZero c c (back_cell floats n m k j))) xs) ei
+    ∙ ap (λ (j : ℕ). put_rows t d n c (set k j (row plus_zero c c (back_cell floats n m k j))) xs) ei
     ∙ ap (λ (y : List (List Float)). put_rows t d n c y xs)
-    (sym (fold_more 0 h (λ h x. set x (n - 1 - h) (row plusZero c c (back_cell floats n m x (n - 1 - h)))) x (omega arith)))
+    (sym (fold_more 0 h (λ h x. set x (n - 1 - h) (row plus_zero c c (back_cell floats n m x (n - 1 - h)))) x (omega arith)))
   where
     m : List (List Float)
     m = rows_at s a n (n + c) xs
@@ -187,19 +187,19 @@ back_more s a d t n c h i x xs ys zs hd hs apt q hh ei ey ez =
     same-k : rows_at t d n c ys ≡ k
     same-k = read-now t d n c k xs ys hd (shape-back h m q) ey
 
-shape-blank : (n c : ℕ) → Shape n c (blank plusZero n c)
+shape-blank : (n c : ℕ) → Shape n c (blank plus_zero n c)
 unfolding blank
 shape-blank n c =
-    record { rows = length-replicate n (replicate c plusZero); columns = λ i h. ap length (get_or-replicate n i (replicate c plusZero) [] h) ∙ length-replicate c plusZero }
+    record { rows = length-replicate n (replicate c plus_zero); columns = λ i h. ap length (get_or-replicate n i (replicate c plus_zero) [] h) ∙ length-replicate c plus_zero }
 
 -- into a matrix that was cleared first
 pub back_done : (s a d t n c : ℕ) (xs ys zs : List Float) → Holds t d n c (length xs) → n + c ≤ s → Apart d (n * t) a (n * s)
-    → ys ≡ put_rows t d n c (blank plusZero n c) xs → zs ≡ put_rows t d n c (back_over n n c (rows_at s a n (n + c) ys) (rows_at t d n c ys)) ys
+    → ys ≡ put_rows t d n c (blank plus_zero n c) xs → zs ≡ put_rows t d n c (back_over n n c (rows_at s a n (n + c) ys) (rows_at t d n c ys)) ys
     → zs ≡ put_rows t d n c (back_to floats n n c n c (rows_at s a n (n + c) xs)) xs
 unfolding back_over back_to
 back_done s a d t n c xs ys zs hd hs apt ey ez =
     let m : List (List Float) = rows_at s a n (n + c) xs in
     let same : rows_at s a n (n + c) ys ≡ m =
-    ap (λ (l : List Float). rows_at s a n (n + c) l) ey ∙ frame t d n c s a n (n + c) (blank plusZero n c) xs apt hd.wide hs in
-    put-turn (back_over n n c m) t d n c (blank plusZero n c) xs ys zs hd (shape-blank n c) ey
+    ap (λ (l : List Float). rows_at s a n (n + c) l) ey ∙ frame t d n c s a n (n + c) (blank plus_zero n c) xs apt hd.wide hs in
+    put-turn (back_over n n c m) t d n c (blank plus_zero n c) xs ys zs hd (shape-blank n c) ey
     (ez ∙ ap (λ (k : List (List Float)). put_rows t d n c (back_over n n c k (rows_at t d n c ys)) ys) same)

@@ -11,7 +11,7 @@ use lib.ListN.{get_or, set, length, length-set}
 use lib.Seq.{get_or-set_same, get_or-set_other}
 use lib.Ieee.{Float, nan}
 use borrow.Author.Tests.{lt-ltb, le-ltb, eq-eqb, ne_eqb}
-use Rattle.arithmetic.specs.Numbers.{plusZero, one}
+use Rattle.arithmetic.specs.Numbers.{plus_zero, one}
 use Rattle.algebra.specs.Kind.{floats}
 use Rattle.algebra.specs.Product.{at, identity}
 use Rattle.algebra.specs.Elimination.{back_to, eliminate_to, joined, solution, inverse, inverse_refused, refused}
@@ -26,26 +26,26 @@ use Rattle.algebra_large_inverse.proofs.EliminationLaws.{shape-eliminate}
 
 -- a row: the matrix's, and the identity's
 pub join-row : (e b n i g : ℕ) (xs ys zs : List Float) → e + (n + n) ≤ length xs → i < n → ys ≡ put_row e n (λ j. get_or xs (b + j) nan) xs → g ≡ e + n
-    → zs ≡ put_row g n (λ j. plusZero) ys → set zs (g + i) one ≡ put_row e (n + n) (joined_cell n xs b i) xs
+    → zs ≡ put_row g n (λ j. plus_zero) ys → set zs (g + i) one ≡ put_row e (n + n) (joined_cell n xs b i) xs
 unfolding joined_cell
 join-row e b n i g xs ys zs hl hi ey eg ez =
     put_row-is e (n + n) (joined_cell n xs b i) xs (set zs (g + i) one) hl (length-set zs (g + i) one ∙ long-z ∙ long-y) (λ j hj. cell j hj (dec_lt j n) (same? i (j - n)))
     (λ x o.
     get_or-set_other zs (g + i) x one nan (λ q. o (n + i) (omega arith) (omega arith))
-    ∙ ap (λ (l : List Float). get_or l x nan) ez ∙ put_row-other g n (λ j. plusZero) ys x (λ k hk q. o (n + k) (omega arith) (omega arith))
+    ∙ ap (λ (l : List Float). get_or l x nan) ez ∙ put_row-other g n (λ j. plus_zero) ys x (λ k hk q. o (n + k) (omega arith) (omega arith))
     ∙ ap (λ (l : List Float). get_or l x nan) ey ∙ put_row-other e n (λ j. get_or xs (b + j) nan) xs x (λ k hk q. o k (omega arith) q))
   where
     long-y : length ys ≡ length xs
     long-y = ap length ey ∙ length-put_row e n (λ j. get_or xs (b + j) nan) xs
 
     long-z : length zs ≡ length ys
-    long-z = ap length ez ∙ length-put_row g n (λ j. plusZero) ys
+    long-z = ap length ez ∙ length-put_row g n (λ j. plus_zero) ys
 
-    cell : (j : ℕ) → j < n + n → Dec (j < n) → Dec (i ≡ j - n) → get_or (set zs (g + i) one) (e + j) nan ≡ cond (ltb j n) (get_or xs (b + j) nan) (cond (eqb i (j - n)) one plusZero)
+    cell : (j : ℕ) → j < n + n → Dec (j < n) → Dec (i ≡ j - n) → get_or (set zs (g + i) one) (e + j) nan ≡ cond (ltb j n) (get_or xs (b + j) nan) (cond (eqb i (j - n)) one plus_zero)
     cell j hj (yes l) w =
         rw (lt-ltb j n l)
         (get_or-set_other zs (g + i) (e + j) one nan (λ q. omega arith)
-        ∙ ap (λ (l : List Float). get_or l (e + j) nan) ez ∙ put_row-other g n (λ j. plusZero) ys (e + j) (λ k hk q. omega arith)
+        ∙ ap (λ (l : List Float). get_or l (e + j) nan) ez ∙ put_row-other g n (λ j. plus_zero) ys (e + j) (λ k hk q. omega arith)
         ∙ ap (λ (l : List Float). get_or l (e + j) nan) ey ∙ put_row-at e n (λ j. get_or xs (b + j) nan) xs j l (omega arith))
     cell j hj (no l) (yes w) =
         let q : e + j ≡ g + i = omega arith in
@@ -54,7 +54,7 @@ join-row e b n i g xs ys zs hl hi ey eg ez =
         let q : e + j ≡ g + (j - n) = omega arith in
         rw (le-ltb j n (omega arith), ne_eqb i (j - n) w, q)
         (get_or-set_other zs (g + i) (g + (j - n)) one nan (λ z. w (omega arith))
-        ∙ ap (λ (l : List Float). get_or l (g + (j - n)) nan) ez ∙ put_row-at g n (λ j. plusZero) ys (j - n) (omega arith) (omega (arith, long-y)))
+        ∙ ap (λ (l : List Float). get_or l (g + (j - n)) nan) ez ∙ put_row-at g n (λ j. plus_zero) ys (j - n) (omega arith) (omega (arith, long-y)))
 
 -- row i of the two matrices side by side, where the rows before it stand
 pub joined-row : (m : List (List Float)) (s a u p n i b : ℕ) (xs ys : List Float) → Apart a (n * s) p (n * u) → n + n ≤ s → n ≤ u → i < n → b ≡ p + i * u
@@ -63,22 +63,22 @@ pub joined-row : (m : List (List Float)) (s a u p n i b : ℕ) (xs ys : List Flo
 unfolding joined_cell joined identity
 joined-row m s a u p n i b xs ys h hs hu hi eb ey j hj =
     go (dec_lt j n)
-    ∙ sym (table_at plusZero n (n + n) n (n + n) (λ i j. cond (ltb j n) (at floats l i j) (at floats (identity floats n n n) i (j - n))) i j nan hi hj (omega arith) (omega arith))
+    ∙ sym (table_at plus_zero n (n + n) n (n + n) (λ i j. cond (ltb j n) (at floats l i j) (at floats (identity floats n n n) i (j - n))) i j nan hi hj (omega arith) (omega arith))
   where
     l : List (List Float)
     l = rows_at u p n n xs
 
-    go : Dec (j < n) → cond (ltb j n) (get_or ys (b + j) nan) (cond (eqb i (j - n)) one plusZero) ≡ cond (ltb j n) (at floats l i j) (at floats (identity floats n n n) i (j - n))
+    go : Dec (j < n) → cond (ltb j n) (get_or ys (b + j) nan) (cond (eqb i (j - n)) one plus_zero) ≡ cond (ltb j n) (at floats l i j) (at floats (identity floats n n n) i (j - n))
     go (yes w) =
         rw (lt-ltb j n w)
         (ap (λ (x : ℕ). get_or ys (x + j) nan) eb ∙ fill-apart s a n i (n + n) u p n n m xs ys h (omega arith) hs hu ey i j hi w ∙ sym (rows_at-at u p n n xs i j hi w))
     go (no w) =
         rw (le-ltb j n (omega arith))
-        (sym (table_at plusZero n n n n (λ i j. cond (eqb i j) one plusZero) i (j - n) nan hi (omega arith) (omega arith) (omega arith)))
+        (sym (table_at plus_zero n n n n (λ i j. cond (eqb i j) one plus_zero) i (j - n) nan hi (omega arith) (omega arith) (omega arith)))
 
 pub shape-joined : (n : ℕ) (a b : List (List Float)) → Shape n (n + n) (joined floats n (n + n) n n a b)
 unfolding joined
-shape-joined n a b = shape-table plusZero n (n + n) (λ i j. cond (ltb j n) (at floats a i j) (at floats b i (j - n)))
+shape-joined n a b = shape-table plus_zero n (n + n) (λ i j. cond (ltb j n) (at floats a i j) (at floats b i (j - n)))
 
 -- what the work area holds after elimination
 pub eliminated : (s a n : ℕ) (k : List (List Float)) (xs ys zs : List Float) → Holds s a n (n + n) (length xs) → Shape n (n + n) k
@@ -114,7 +114,7 @@ unfolding refused zero_on_diagonal joined
 singular-done s a n l xs ys zs z h ey ez e =
     let k : List (List Float) = joined floats n (n + n) n n l (identity floats n n n) in
     let q : Shape n (n + n) k = shape-joined n l (identity floats n n n) in
-    let m : n ≤ length k = le_of_eq (sym (length-table plusZero n (n + n) n (n + n) _)) in
+    let m : n ≤ length k = le_of_eq (sym (length-table plus_zero n (n + n) n (n + n) _)) in
     e ∙ ap (λ (x : List (List Float)). zero_on_diagonal n x) (eliminated-rows s a n k xs zs h q (eliminated s a n k xs ys zs h q ey ez))
     ∙ sym (refused-diagonal floats n (n + n) k m)
 

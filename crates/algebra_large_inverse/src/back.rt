@@ -1,7 +1,7 @@
 // Back substitution into another matrix, and the inverse.
 ghost use Rattle.std.specs.Prelude.{◌≡◌, cond, ◌+◌, ◌-◌, ◌*◌, ◌<◌, ◌≤◌, ltb, eqb, length, get_or};
 ghost use Rattle.std.specs.Float.{nan};
-ghost use Rattle.arithmetic.specs.Numbers.{plusZero, one};
+ghost use Rattle.arithmetic.specs.Numbers.{plus_zero, one};
 ghost use Rattle.algebra.specs.Kind.{floats};
 ghost use Rattle.algebra.specs.Product.{identity};
 ghost use Rattle.algebra.specs.Elimination.{back_cell, back_to, eliminate_to, joined, inverse, inverse_refused};

@@ -5,7 +5,7 @@ use mathlib.Core.Path.{◌≡◌, sym, ap, ◌∙◌}
 use mathlib.Core.List.{List}
 use lib.ListN.{get_or, length}
 use lib.Ieee.{Float, nan}
-use Rattle.arithmetic.specs.Numbers.{plusZero}
+use Rattle.arithmetic.specs.Numbers.{plus_zero}
 use Rattle.algebra.specs.Kind.{floats}
 use Rattle.algebra.specs.Product.{at, product}
 use Rattle.algebra_large.specs.joints.Slab.{rows_at, put_row}
@@ -24,17 +24,17 @@ by-more x d c p q t k b f ws bs xs ys zs hl eb ef ey ez =
     (λ j l. let z : p + k * 1 + 0 ≡ p + k = omega arith in rw (ef, eb, z))
 
 -- the gains of a row that was cleared first
-pub by-cleared : (d c p u o q t n : ℕ) (ws bs xs ys zs : List Float) → d + c ≤ length xs → ys ≡ put_row d c (λ j. plusZero) xs
-    → zs ≡ put_row d c (λ j. gained_to n ws p u o bs q t (get_or ys (d + j) nan) j) ys → zs ≡ put_row d c (gained_to n ws p u o bs q t plusZero) xs
+pub by-cleared : (d c p u o q t n : ℕ) (ws bs xs ys zs : List Float) → d + c ≤ length xs → ys ≡ put_row d c (λ j. plus_zero) xs
+    → zs ≡ put_row d c (λ j. gained_to n ws p u o bs q t (get_or ys (d + j) nan) j) ys → zs ≡ put_row d c (gained_to n ws p u o bs q t plus_zero) xs
 by-cleared d c p u o q t n ws bs xs ys zs hl ey ez =
-    row-over d c (λ j. plusZero) (λ j. gained_to n ws p u o bs q t (get_or ys (d + j) nan) j) (gained_to n ws p u o bs q t plusZero) xs ys zs hl ey ez
+    row-over d c (λ j. plus_zero) (λ j. gained_to n ws p u o bs q t (get_or ys (d + j) nan) j) (gained_to n ws p u o bs q t plus_zero) xs ys zs hl ey ez
     (λ j l.
     ap (λ (x : Float). gained_to n ws p u o bs q t x j)
-    (ap (λ (zs : List Float). get_or zs (d + j) nan) ey ∙ put_row-at d c (λ j. plusZero) xs j l hl))
+    (ap (λ (zs : List Float). get_or zs (d + j) nan) ey ∙ put_row-at d c (λ j. plus_zero) xs j l hl))
 
 -- row i of the product
 pub narrow-row : (s p t q r n c i b : ℕ) (ws bs : List Float) → i < r → b ≡ p + i * s → (j : ℕ) → j < c
-    → gained_to n ws b 1 0 bs q t plusZero j ≡ at floats (product floats r c r n c (rows_at s p r n ws) (rows_at t q n c bs)) i j
+    → gained_to n ws b 1 0 bs q t plus_zero j ≡ at floats (product floats r c r n c (rows_at s p r n ws) (rows_at t q n c bs)) i j
 narrow-row s p t q r n c i b ws bs hi eb j hj =
     gained-sum (λ k. floats.times (at floats (rows_at s p r n ws) i k) (at floats (rows_at t q n c bs) k j)) n ws b 1 0 bs q t j
     (λ k hk.

@@ -1,9 +1,9 @@
 // A large matrix times a narrow one that lies in a slice of its own.
 ghost use Rattle.std.specs.Prelude.{◌≡◌, ◌+◌, ◌*◌, ◌<◌, ◌≤◌, length, get_or};
 ghost use Rattle.std.specs.Float.{nan};
-ghost use Rattle.arithmetic.specs.Numbers.{plusZero};
+ghost use Rattle.arithmetic.specs.Numbers.{plus_zero};
 ghost use Rattle.algebra.specs.Kind.{floats};
-ghost use Rattle.algebra.specs.Product.{product, sumCells, at};
+ghost use Rattle.algebra.specs.Product.{product, sum_cells, at};
 ghost use Rattle.algebra_large.specs.joints.Slab.{rows_at, put_row, put_rows, Holds};
 ghost use Rattle.algebra_large.specs.joints.Steps.{gained_to, crossed};
 
@@ -54,7 +54,7 @@ pub fn narrow_row(
     c: usize,
 )
     requires { (d + c ≤ length out.old) × (p + n ≤ length work.now) × Holds u q n c (length x.now) }
-    ensures { out.new ≡ put_row d c (gained_to n work.now p 1 0 x.now q u plusZero) out.old }
+    ensures { out.new ≡ put_row d c (gained_to n work.now p 1 0 x.now q u plus_zero) out.old }
 {
     algebra_large::rows::clear_row(out, d, c);
     gain_all(out, d, work, p, x, q, u, n, c);
@@ -111,7 +111,7 @@ pub fn cross_row(
 // The sum over i, and within it over j, of P[j, i] times Q[i, j], with one running sum.
 pub fn cross_sum(work: &[f64], p: usize, s: usize, q: usize, t: usize, n: usize) -> f64
     requires { Holds s p n n (length work.now) × Holds t q n n (length work.now) }
-    ensures { result ≡ sumCells floats n n (λ i j. floats.times (at floats (rows_at s p n n work.now) j i) (at floats (rows_at t q n n work.now) i j)) }
+    ensures { result ≡ sum_cells floats n n (λ i j. floats.times (at floats (rows_at s p n n work.now) j i) (at floats (rows_at t q n n work.now) i j)) }
 {
     let mut y = 0.0;
     for i in 0..n {

@@ -1,6 +1,6 @@
 // Whole matrices, row by row.
 ghost use Rattle.std.specs.Prelude.{◌≡◌, ◌+◌, ◌*◌, ◌<◌, ◌≤◌, length};
-ghost use Rattle.arithmetic.specs.Numbers.{plusZero};
+ghost use Rattle.arithmetic.specs.Numbers.{plus_zero};
 ghost use Rattle.algebra.specs.Table.{blank};
 ghost use Rattle.algebra.specs.Kind.{floats};
 ghost use Rattle.algebra.specs.Product.{product};
@@ -11,7 +11,7 @@ use algebra_large::rows::start;
 // Zeros.
 pub fn clear(work: &mut [f64], d: usize, s: usize, r: usize, c: usize)
     requires { Holds s d r c (length work.old) }
-    ensures { work.new ≡ put_rows s d r c (blank plusZero r c) work.old }
+    ensures { work.new ≡ put_rows s d r c (blank plus_zero r c) work.old }
 {
     for i in 0..r {
         let a = start(d, s, i, r, c, work.len());

@@ -8,7 +8,7 @@ use lib.IntN.{ℤ, pos, nat_abs, ◌+ℤ◌, +ℤ_idl, +ℤ_idr}
 use lib.ListN.{get_or}
 use lib.Ieee.{Float, binary64, fits}
 use Rattle.arithmetic.specs.declared.Marked.{Marked}
-use Rattle.arithmetic.specs.Numbers.{plusZero}
+use Rattle.arithmetic.specs.Numbers.{plus_zero}
 use Rattle.arithmetic.specs.Marks.{given, also}
 use Rattle.arithmetic.proofs.Tied.{Tied}
 use Rattle.arithmetic.proofs.ScaleLaws.{scale-zero}
@@ -19,7 +19,7 @@ use Rattle.algebra.specs.Product.{at, product, transpose}
 use Rattle.algebra.proofs.TableLaws.{table-ext}
 use Rattle.algebra.proofs.MovingCells.{BearsCells, MovesCells, first-bears, step-bears, still-value, table-moves}
 use Rattle.algebra.proofs.MovingProducts.{product-moves, transpose-moves}
-use Rattle.algebra.specs.Small.{sandwich, givenCells, values, allMarks}
+use Rattle.algebra.specs.Small.{sandwich, given_cells, values, all_marks}
 
 abbrev Matrix : Type 0
 Matrix = List (List Marked)
@@ -29,7 +29,7 @@ pub tied-still : (x : Float) → T (fits binary64 x) → Tied (pos 0) x x
 tied-still x f = record { fine = f; moved = sym (scale-zero x) }
 
 -- +0 is tied to itself by every shift
-pub tied-nil : (u : ℤ) → Tied u plusZero plusZero
+pub tied-nil : (u : ℤ) → Tied u plus_zero plus_zero
 unfolding fits
 tied-nil u = record { fine = tt; moved = refl }
 
@@ -39,14 +39,14 @@ cells-by {t} {r} {c} {u} {v} {a} {a'} e p = subst (λ (z : ℤ). MovesCells t z 
 
 module _ {t : ℕ} where
   -- a count of all marks: what was seen before it bears as much, and so does every cell
-  pub all_marks-first : (r c : ℕ) (a : Matrix) (seen : Marked) → Bears t (allMarks marks r c a seen) → Bears t seen
-  unfolding allMarks
+  pub all_marks-first : (r c : ℕ) (a : Matrix) (seen : Marked) → Bears t (all_marks marks r c a seen) → Bears t seen
+  unfolding all_marks
   all_marks-first r c a seen h =
       let s : ℕ → ℕ → Marked → Marked = λ i j s. also s (at marks a i j) in
       first-bears 0 r (λ i x. fold 0 c (s i) x) seen (λ i b y. first-bears 0 c (s i) b (λ j x z. (also-bears x (at marks a i j) z).0) y) h
 
-  pub all_marks-cells : (r c : ℕ) (a : Matrix) (seen : Marked) → Bears t (allMarks marks r c a seen) → BearsCells t r c a
-  unfolding allMarks
+  pub all_marks-cells : (r c : ℕ) (a : Matrix) (seen : Marked) → Bears t (all_marks marks r c a seen) → BearsCells t r c a
+  unfolding all_marks
   all_marks-cells r c a seen h =
       let s : ℕ → ℕ → Marked → Marked = λ i j s. also s (at marks a i j) in
       let o : ℕ → Marked → Marked = λ i x. fold 0 c (s i) x in
@@ -59,19 +59,19 @@ module _ {t : ℕ} where
       }
 
   -- the same of the first N matrices of several
-  pub stack-first : (N r c : ℕ) (st : List Matrix) (seen : Marked) → Bears t (fold 0 N (λ i x. allMarks marks r c (get_or st i []) x) seen) → Bears t seen
-  stack-first N r c st seen h = first-bears 0 N (λ i x. allMarks marks r c (get_or st i []) x) seen (λ i b y. all_marks-first r c (get_or st i []) b y) h
+  pub stack-first : (N r c : ℕ) (st : List Matrix) (seen : Marked) → Bears t (fold 0 N (λ i x. all_marks marks r c (get_or st i []) x) seen) → Bears t seen
+  stack-first N r c st seen h = first-bears 0 N (λ i x. all_marks marks r c (get_or st i []) x) seen (λ i b y. all_marks-first r c (get_or st i []) b y) h
 
-  pub stack-cells : (N r c : ℕ) (st : List Matrix) (seen : Marked) → Bears t (fold 0 N (λ i x. allMarks marks r c (get_or st i []) x) seen) → (i : ℕ) → i < N
+  pub stack-cells : (N r c : ℕ) (st : List Matrix) (seen : Marked) → Bears t (fold 0 N (λ i x. all_marks marks r c (get_or st i []) x) seen) → (i : ℕ) → i < N
       → BearsCells t r c (get_or st i [])
   stack-cells N r c st seen h i l =
-      let o : ℕ → Marked → Marked = λ i x. allMarks marks r c (get_or st i []) x in
+      let o : ℕ → Marked → Marked = λ i x. all_marks marks r c (get_or st i []) x in
       all_marks-cells r c (get_or st i []) (fold 0 i o seen) (step-bears 0 N o seen (λ i b y. all_marks-first r c (get_or st i []) b y) h i (omega arith) l)
 
   -- given cells move as the numbers do
   pub given-cells : (R C r c : ℕ) → r ≤ R → c ≤ C → (u : ℤ) (a a' : List (List Float)) → ((i j : ℕ) → i < r → j < c → Tied u (at floats a i j) (at floats a' i j))
-      → MovesCells t u r c (givenCells marks R C r c a) (givenCells marks R C r c a')
-  unfolding givenCells
+      → MovesCells t u r c (given_cells marks R C r c a) (given_cells marks R C r c a')
+  unfolding given_cells
   given-cells R C r c hr hc u a a' p =
       table-moves u R C r c (λ i j. given (at floats a i j)) (λ i j. given (at floats a' i j)) hr hc
       (λ i j h l. given-moves u (at floats a i j) (at floats a' i j) (p i j h l))
@@ -92,5 +92,5 @@ module _ {t : ℕ} where
   pub values_agree : (R C r c : ℕ) (a a' : Matrix) → MovesCells t (pos 0) r c a a' → BearsCells t r c a → values marks R C r c a' ≡ values marks R C r c a
   unfolding values
   values_agree R C r c a a' p b =
-      table-ext plusZero R C r c (λ i j. (at marks a' i j).value) (λ i j. (at marks a i j).value)
+      table-ext plus_zero R C r c (λ i j. (at marks a' i j).value) (λ i j. (at marks a i j).value)
       (λ i j h l. still-value (at marks a i j) (at marks a' i j) (p.cell i j h l) (b.cell i j h l))

@@ -5,7 +5,7 @@ ghost use Rattle.std.specs.Prelude.{◌≡◌, cond, eqb, ◌≤◌};
 ghost use Rattle.arithmetic.specs.Numbers.{one};
 ghost use Rattle.algebra.specs.Table.{blank};
 ghost use Rattle.algebra.specs.Kind.{floats, zero_of};
-ghost use Rattle.algebra.specs.Product.{product, transpose, like_cells, trace, plus_cells, minusCells, times_number, over_number, identity};
+ghost use Rattle.algebra.specs.Product.{product, transpose, like_cells, trace, plus_cells, minus_cells, times_number, over_number, identity};
 ghost use Rattle.algebra.specs.Small.{sandwich};
 ghost use Rattle.algebra_products.specs.joints.Terms.{with_terms};
 
@@ -105,7 +105,7 @@ pub fn plus_cells(a: [[f64; 6]; 6], b: [[f64; 6]; 6], rows: usize, cols: usize) 
 // a - b, cell by cell.
 pub fn minus_cells(a: [[f64; 6]; 6], b: [[f64; 6]; 6], rows: usize, cols: usize) -> [[f64; 6]; 6]
     requires { (rows ≤ 6) × (cols ≤ 6) }
-    ensures { result ≡ minusCells floats 6 6 rows cols a b }
+    ensures { result ≡ minus_cells floats 6 6 rows cols a b }
 {
     let mut out = zeros();
     for i in 0..rows {

@@ -13,8 +13,8 @@ use borrow.Author.Count.{below_more}
 use lib.Ieee.{Float, binary64, fits, add, mul}
 use lib.Ieee.Fits.{and_l, and_r, mul-fits}
 use Rattle.arithmetic.specs.declared.Marked.{Marked}
-use Rattle.arithmetic.specs.Numbers.{plusZero, is_zero, is_finite}
-use Rattle.arithmetic.specs.Marks.{Mark, marked, no_mark, join_marks, own_mark, reported, lostProduct, markedAdd, markedMul, also_mark}
+use Rattle.arithmetic.specs.Numbers.{plus_zero, is_zero, is_finite}
+use Rattle.arithmetic.specs.Marks.{Mark, marked, no_mark, join_marks, own_mark, reported, lost_product, marked_add, marked_mul, also_mark}
 use Rattle.arithmetic.proofs.Operations.{Zero}
 use Rattle.arithmetic.proofs.RangeTest.{zero-of-test}
 use Rattle.arithmetic.proofs.JoinLaws.{join-none, join-again, join-term, marks-join, add-mark, mul-mark, zero-own, zero-product}
@@ -66,7 +66,7 @@ record ThreeParts (a b : List (List Marked)) (i j n : ℕ) (s : Marked) : Type 0
   own : reported s ≡ s.inside
 
 zero-reported : reported (zero_of marks) ≡ no_mark
-zero-reported = ap (join_marks no_mark) (zero-own plusZero refl) ∙ marks-join.unit no_mark
+zero-reported = ap (join_marks no_mark) (zero-own plus_zero refl) ∙ marks-join.unit no_mark
 
 parts_none : (a b : List (List Marked)) (i j : ℕ) → ThreeParts a b i j 0 (zero_of marks)
 parts_none a b i j =
@@ -76,34 +76,34 @@ parts_none a b i j =
       own = zero-reported;
     }
 
-parts_more : (a b : List (List Marked)) (i j n : ℕ) (s : Marked) → ThreeParts a b i j n s → ThreeParts a b i j (n + 1) (markedAdd s (markedMul (at marks a i n) (at marks b n j)))
-unfolding markedAdd markedMul
+parts_more : (a b : List (List Marked)) (i j n : ℕ) (s : Marked) → ThreeParts a b i j n s → ThreeParts a b i j (n + 1) (marked_add s (marked_mul (at marks a i n) (at marks b n j)))
+unfolding marked_add marked_mul
 parts_more a b i j n s h =
     let x = at marks a i n in
     let y = at marks b n j in
     let q = cell results n a b i j in
     let p = mul binary64 x.value y.value in
-    let l = not (lostProduct x.value y.value p) in
+    let l = not (lost_product x.value y.value p) in
     let o = own_mark (add binary64 s.value p) in
     let before = join_marks (join_marks (row_mark n a i) (column_mark n b j)) q.inside in
     let next : results.plus q (results.times x y) ≡ cell results (n + 1) a b i j = sym (cell-more n a b i j) in
     record {
       value = ap (λ (v : Float). add binary64 v p) h.value ∙ ap (λ (m : Marked). m.value) next;
       mark =
-          add-mark s (markedMul x y)
-          ∙ ap (λ (m : Mark). join_marks (join_marks m (reported (markedMul x y))) o) (h.own ∙ h.mark)
+          add-mark s (marked_mul x y)
+          ∙ ap (λ (m : Mark). join_marks (join_marks m (reported (marked_mul x y))) o) (h.own ∙ h.mark)
           ∙ ap (λ (m : Mark). join_marks (join_marks before (join_marks m (own_mark p))) o) (mul-mark x y)
           ∙ join-term marks-join (row_mark n a i) (column_mark n b j) q.inside (reported x) (reported y) (own_mark p) l o
           ∙ ap (λ (v : Float). join_marks (join_marks (join_marks (row_mark n a i) (reported x)) (join_marks (column_mark n b j) (reported y)))
           (join_marks (join_marks q.inside (join_marks (own_mark p) l)) (own_mark (add binary64 v p)))) h.value
           ∙ rw (row_more n a i, column-more n b j, ← next) refl;
-      own = ap (λ (m : Mark). join_marks m o) (add-mark s (markedMul x y)) ∙ join-again marks-join (join_marks (reported s) (reported (markedMul x y))) o ∙ sym (add-mark s (markedMul x y));
+      own = ap (λ (m : Mark). join_marks m o) (add-mark s (marked_mul x y)) ∙ join-again marks-join (join_marks (reported s) (reported (marked_mul x y))) o ∙ sym (add-mark s (marked_mul x y));
     }
 
 whole : (n : ℕ) (a b : List (List Marked)) (i j : ℕ) → ThreeParts a b i j n (cell marks n a b i j)
 unfolding cell sum
 whole n a b i j =
-    fold-steps (λ k s. ThreeParts a b i j k s) 0 n (λ k s. markedAdd s (markedMul (at marks a i k) (at marks b k j))) (zero_of marks) (omega arith) (parts_none a b i j)
+    fold-steps (λ k s. ThreeParts a b i j k s) 0 n (λ k s. marked_add s (marked_mul (at marks a i k) (at marks b k j))) (zero_of marks) (omega arith) (parts_none a b i j)
     (λ k lo hk s h. parts_more a b i j k s h)
 
 -- The law: a cell's mark is the inner results', joined to the row's and the column's; each counts every number once.
@@ -130,7 +130,7 @@ cell-plain n a b i j =
     fold-keeps (λ s. Plain binary64 s.value) 0 n (λ k s. results.plus s (results.times (at marks a i k) (at marks b k j))) (zero_of results) start
     (λ k lo hk s p. add-plain binary64 s.value (mul binary64 (at marks a i k).value (at marks b k j).value) p (mul-fits binary64 (at marks a i k).value (at marks b k j).value))
   where
-    start : Plain binary64 plusZero
+    start : Plain binary64 plus_zero
     start = record { held = tt; signed = λ z. z }
 
 -- the turn changes neither the sum nor what the results report

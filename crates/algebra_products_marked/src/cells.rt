@@ -3,7 +3,7 @@ ghost use Rattle.std.specs.Prelude.{◌≡◌, ◌≤◌};
 ghost use Rattle.algebra.specs.Table.{blank};
 ghost use Rattle.algebra.specs.Kind.{marks, zero_of};
 ghost use Rattle.algebra.specs.Product.{identity};
-ghost use Rattle.algebra.specs.Small.{givenCells, values, allMarks};
+ghost use Rattle.algebra.specs.Small.{given_cells, values, all_marks};
 
 use arithmetic::Marked;
 use arithmetic_steps::{also, given, zero_of};
@@ -20,7 +20,7 @@ pub fn zeros() -> [[Marked; 6]; 6]
 // Every cell an input: no step led to it.
 pub fn given_cells(a: [[f64; 6]; 6], rows: usize, cols: usize) -> [[Marked; 6]; 6]
     requires { (rows ≤ 6) × (cols ≤ 6) }
-    ensures { result ≡ givenCells marks 6 6 rows cols a }
+    ensures { result ≡ given_cells marks 6 6 rows cols a }
 {
     let mut out = zeros();
     for i in 0..rows {
@@ -57,7 +57,7 @@ pub fn values(a: [[Marked; 6]; 6], rows: usize, cols: usize) -> [[f64; 6]; 6]
 // `seen`, with the mark of every cell counted.
 pub fn all_marks(a: [[Marked; 6]; 6], rows: usize, cols: usize, seen: Marked) -> Marked
     requires { (rows ≤ 6) × (cols ≤ 6) }
-    ensures { result ≡ allMarks marks rows cols a seen }
+    ensures { result ≡ all_marks marks rows cols a seen }
 {
     let mut all = seen;
     for i in 0..rows {

@@ -3,7 +3,7 @@
 
 ghost use Rattle.std.specs.Prelude.{◌≡◌, ◌≤◌, ◌<◌};
 ghost use Rattle.algebra.specs.Kind.{marks};
-ghost use Rattle.algebra.specs.Product.{cell, product, transpose, like_cells, trace, plus_cells, minusCells, times_number, over_number};
+ghost use Rattle.algebra.specs.Product.{cell, product, transpose, like_cells, trace, plus_cells, minus_cells, times_number, over_number};
 ghost use Rattle.algebra.specs.Small.{sandwich};
 ghost use Rattle.algebra_products_marked.specs.joints.CellMarks.{Finite, column_marks, adds_nothing};
 
@@ -186,7 +186,7 @@ pub fn minus_cells(
     cols: usize,
 ) -> [[Marked; 6]; 6]
     requires { (rows ≤ 6) × (cols ≤ 6) }
-    ensures { result ≡ minusCells marks 6 6 rows cols a b }
+    ensures { result ≡ minus_cells marks 6 6 rows cols a b }
 {
     let mut out = zeros();
     for i in 0..rows {

@@ -3,7 +3,7 @@
 
 ghost use Rattle.std.specs.Prelude.{◌≡◌, ◌<◌, ◌≤◌};
 ghost use Rattle.algebra.specs.Kind.{floats};
-ghost use Rattle.algebra.specs.Jacobi.{ratio, tangent, cosine, sine, turnedFirst, turnedSecond, turnRow, turnColumns};
+ghost use Rattle.algebra.specs.Jacobi.{ratio, tangent, cosine, sine, turned_first, turned_second, turn_row, turn_columns};
 
 use arithmetic::plain::{magnitude, sign};
 use arithmetic::root::sqrt;
@@ -38,14 +38,14 @@ pub fn sine(t: f64, c: f64) -> f64
 
 // The pair (x, y) turned: its first number.
 pub fn turned_first(c: f64, s: f64, x: f64, y: f64) -> f64
-    ensures { result ≡ turnedFirst floats c s x y }
+    ensures { result ≡ turned_first floats c s x y }
 {
     c * x - s * y
 }
 
 // The pair (x, y) turned: its second number.
 pub fn turned_second(c: f64, s: f64, x: f64, y: f64) -> f64
-    ensures { result ≡ turnedSecond floats c s x y }
+    ensures { result ≡ turned_second floats c s x y }
 {
     s * x + c * y
 }
@@ -53,7 +53,7 @@ pub fn turned_second(c: f64, s: f64, x: f64, y: f64) -> f64
 // Both new cells come from the old ones.
 pub fn turn_row(row: [f64; 6], p: usize, q: usize, c: f64, s: f64) -> [f64; 6]
     requires { (p < 6) × (q < 6) }
-    ensures { result ≡ turnRow floats p q c s row }
+    ensures { result ≡ turn_row floats p q c s row }
 {
     let mut out = row;
     out[p] = turned_first(c, s, row[p], row[q]);
@@ -63,7 +63,7 @@ pub fn turn_row(row: [f64; 6], p: usize, q: usize, c: f64, s: f64) -> [f64; 6]
 
 pub fn turn_columns(m: [[f64; 6]; 6], n: usize, p: usize, q: usize, c: f64, s: f64) -> [[f64; 6]; 6]
     requires { (n ≤ 6) × (p < 6) × (q < 6) }
-    ensures { result ≡ turnColumns floats n p q c s m }
+    ensures { result ≡ turn_columns floats n p q c s m }
 {
     let mut out = m;
     for i in 0..n {

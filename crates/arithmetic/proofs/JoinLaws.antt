@@ -6,7 +6,7 @@ use lib.Dec.{T}
 use lib.Ieee.{Float, binary64, add, mul}
 use Rattle.arithmetic.specs.declared.Marked.{Marked}
 use Rattle.arithmetic.specs.Numbers.{is_zero}
-use Rattle.arithmetic.specs.Marks.{Mark, no_mark, join_marks, own_mark, in_range, stepMark, lostProduct, reported, product_mark, markedAdd, markedMul}
+use Rattle.arithmetic.specs.Marks.{Mark, no_mark, join_marks, own_mark, in_range, step_mark, lost_product, reported, product_mark, marked_add, marked_mul}
 use Rattle.arithmetic.proofs.Operations.{Zero}
 use Rattle.arithmetic.proofs.RangeTest.{zero-of-test, zero-range}
 
@@ -65,20 +65,20 @@ pub marks-join : Join no_mark join_marks
 marks-join = record { unit = λ a. refl; assoc = and_assoc; comm = and_comm; idem = and-idem }
 
 -- a step's mark: what its operands report, and the result's own
-step_is : (a b : Marked) (r : Float) → stepMark a b r ≡ join_marks (join_marks (reported a) (reported b)) (own_mark r)
-unfolding stepMark
+step_is : (a b : Marked) (r : Float) → step_mark a b r ≡ join_marks (join_marks (reported a) (reported b)) (own_mark r)
+unfolding step_mark
 step_is a b r = ap (λ (m : Mark). join_marks m (own_mark r)) (join-swap marks-join a.inside b.inside (own_mark a.value) (own_mark b.value))
 
-pub add-mark : (a b : Marked) → (markedAdd a b).inside ≡ join_marks (join_marks (reported a) (reported b)) (own_mark (add binary64 a.value b.value))
-unfolding markedAdd
+pub add-mark : (a b : Marked) → (marked_add a b).inside ≡ join_marks (join_marks (reported a) (reported b)) (own_mark (add binary64 a.value b.value))
+unfolding marked_add
 add-mark a b = step_is a b (add binary64 a.value b.value)
 
 pub mul-mark : (a b : Marked)
-    → (markedMul a b).inside ≡ join_marks (join_marks (reported a) (reported b)) (product_mark a.value b.value (mul binary64 a.value b.value))
-unfolding markedMul
+    → (marked_mul a b).inside ≡ join_marks (join_marks (reported a) (reported b)) (product_mark a.value b.value (mul binary64 a.value b.value))
+unfolding marked_mul
 mul-mark a b =
     let p = mul binary64 a.value b.value in
-    let l = not (lostProduct a.value b.value p) in
+    let l = not (lost_product a.value b.value p) in
     ap (λ (m : Mark). join_marks m l) (step_is a b p) ∙ marks-join.assoc (join_marks (reported a) (reported b)) (own_mark p) l
 
 -- ---- what a zero counts
@@ -91,7 +91,7 @@ zero-own x z = is_true (in_range x) (zero-range x z)
 
 -- a zero product of a zero is not lost
 pub zero-product : (x y p : Float) → T (is_zero x) → Zero p → product_mark x y p ≡ no_mark
-unfolding lostProduct
+unfolding lost_product
 zero-product x y p h z = rw (zero-own p z, is_true (is_zero x) h) (kept (is_zero p))
   where
     kept : (b : Bool) → not (b && false) ≡ true

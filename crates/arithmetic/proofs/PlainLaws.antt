@@ -12,7 +12,7 @@ use lib.Ieee.Bits.{is_true, is_false, nan_bits_is, nan_bits_above}
 use lib.Ieee.Compare.{differs_from_itself, nan_differs}
 use lib.Ieee.Exact.{HasValue}
 use lib.Ieee.Back.{round_whole}
-use Rattle.arithmetic.specs.Numbers.{plusZero, one, minus_one, magnitude, is_zero, is_finite, sign, is_larger, ofCount}
+use Rattle.arithmetic.specs.Numbers.{plus_zero, one, minus_one, magnitude, is_zero, is_finite, sign, is_larger, of_count}
 use Rattle.arithmetic.specs.Scale.{scale}
 use Rattle.arithmetic.proofs.Operations.{Zero}
 use Rattle.arithmetic.proofs.Rounding.{fits-written}
@@ -26,7 +26,7 @@ pub clash : {b : Bool} {X : Type 0} → b ≡ true → b ≡ false → X
 clash p q = absurd (true≢false (sym p ∙ q))
 
 -- ---- the magnitude, by the code's cases
-magnitude-none : (x : Float) → T (fits binary64 x) → Zero x → plusZero ≡ magnitude x
+magnitude-none : (x : Float) → T (fits binary64 x) → Zero x → plus_zero ≡ magnitude x
 unfolding magnitude
 magnitude-none nan t z = absurd z
 magnitude-none (inf s) t z = absurd z
@@ -36,7 +36,7 @@ magnitude-none (fin s (suc m) e) t z = absurd (some m z)
     some : (m : ℕ) → suc m ≡ 0 → ⊥
     some m h = omega arith
 
-pub magnitude-zero : (x : Float) → fits binary64 x ≡ true → eq x plusZero ≡ true → plusZero ≡ magnitude x
+pub magnitude-zero : (x : Float) → fits binary64 x ≡ true → eq x plus_zero ≡ true → plus_zero ≡ magnitude x
 unfolding is_zero
 magnitude-zero x f h = magnitude-none x (of_eq f) (zero-of-test x (of_eq h))
 
@@ -46,7 +46,7 @@ not-below a b t = no a (0 * b) (zero-mul b) (ltb→lt a (0 * b) t)
     no : (a z : ℕ) → z ≡ 0 → a < z → ⊥
     no a z e h = omega arith
 
-pub magnitude-negative : (x : Float) → lt x plusZero ≡ true → neg x ≡ magnitude x
+pub magnitude-negative : (x : Float) → lt x plus_zero ≡ true → neg x ≡ magnitude x
 unfolding magnitude lt neg
 magnitude-negative nan h = absurd (false≢true h)
 magnitude-negative (inf true) h = refl
@@ -54,13 +54,13 @@ magnitude-negative (inf false) h = absurd (false≢true h)
 magnitude-negative (fin true m e) h = refl
 magnitude-negative (fin false m e) h = absurd (not-below (m * up e * 1) (down e) (of_eq h))
 
-pub magnitude-positive : (x : Float) → eq x plusZero ≡ false → lt x plusZero ≡ false → x ≡ magnitude x
+pub magnitude-positive : (x : Float) → eq x plus_zero ≡ false → lt x plus_zero ≡ false → x ≡ magnitude x
 unfolding magnitude lt is_zero
 magnitude-positive nan z h = refl
 magnitude-positive (inf true) z h = absurd (true≢false h)
 magnitude-positive (inf false) z h = refl
 magnitude-positive (fin false m e) z h = refl
-magnitude-positive (fin true zero e) z h = clash (is_true (eq (fin true zero e) plusZero) (test-of-zero (fin true zero e) refl)) z
+magnitude-positive (fin true zero e) z h = clash (is_true (eq (fin true zero e) plus_zero) (test-of-zero (fin true zero e) refl)) z
 magnitude-positive (fin true (suc m) e) z h =
     clash (is_true (ltb 0 (suc m * up e * 1 + 0 * down e)) (lt→ltb 0 (suc m * up e * 1 + 0 * down e)
     (lt_of_lt_of_le (mul-pos (mul-pos (zero-lt-suc m) (up_pos e)) (zero-lt-suc 0)) (native.Mathlib.Nat.le-add_right (suc m * up e * 1) (0 * down e))))) h
@@ -116,12 +116,12 @@ pub is_number : (x : Float) → ne x x ≡ false → T (not (is_nan x))
 is_number x h = subst (λ (c : Bool). T (not c)) (sym h ∙ nan-test x) tt
 
 -- a count up to 2 ^ 53 is exact
-pub count-exact : (n : ℕ) → n ≤ 2 ^ 53 → HasValue (ofCount n) false n 1
-unfolding ofCount lib.Ieee.of_int
+pub count-exact : (n : ℕ) → n ≤ 2 ^ 53 → HasValue (of_count n) false n 1
+unfolding of_count lib.Ieee.of_int
 count-exact n h = round_whole binary64 false n h
 
-pub count_fits : (n : ℕ) → T (fits binary64 (ofCount n))
-unfolding ofCount
+pub count_fits : (n : ℕ) → T (fits binary64 (of_count n))
+unfolding of_count
 count_fits n = of_int-fits binary64 (pos n)
 
 -- ---- scaling: no condition
@@ -133,7 +133,7 @@ magnitude-scale u (fin s m e) = refl
 
 pub zero-scale : (u : ℤ) (x : Float) → is_zero (scale u x) ≡ is_zero x
 unfolding is_zero
-zero-scale u x = eq-scale u x plusZero
+zero-scale u x = eq-scale u x plus_zero
 
 pub finite-scale : (u : ℤ) (x : Float) → is_finite (scale u x) ≡ is_finite x
 unfolding is_finite
@@ -149,7 +149,7 @@ nan-scale u (fin s m e) = refl
 
 pub sign-scale : (u : ℤ) (x : Float) → sign (scale u x) ≡ sign x
 unfolding sign
-sign-scale u x = ap (λ (b : Bool). cond b minus_one one) (lt-scale u x plusZero)
+sign-scale u x = ap (λ (b : Bool). cond b minus_one one) (lt-scale u x plus_zero)
 
 pub larger-scale : (u : ℤ) (x y : Float) → is_larger (scale u x) (scale u y) ≡ is_larger x y
 unfolding is_larger

@@ -11,7 +11,7 @@ use lib.Pow.{pow_pos}
 use lib.Ieee.{Float, nan, inf, fin, up, down, lt, le, eq, neg}
 use lib.Ieee.Bits.{is_true, is_false}
 use lib.Ieee.Fits.{down_pos, and_i, and_l, and_r, eq→eqb}
-use Rattle.arithmetic.specs.Numbers.{plusZero, magnitude, is_zero}
+use Rattle.arithmetic.specs.Numbers.{plus_zero, magnitude, is_zero}
 use Rattle.arithmetic.specs.Marks.{least, limit, in_range}
 use Rattle.arithmetic.proofs.RangeTest.{or_cases, or_left, or_right, zero-of-test}
 

@@ -11,7 +11,7 @@ use lib.Pow.{pow_pos, pow_mono, pow-lt}
 use lib.Ieee.{Float, nan, inf, fin, binary64, up, down, size, lt, le, eq}
 use lib.Ieee.Digits.{size-lt, size_reaches}
 use lib.Ieee.Fits.{up_pos, down_pos, and_l, and_r, and_i, eq→eqb}
-use Rattle.arithmetic.specs.Numbers.{plusZero, magnitude, is_zero}
+use Rattle.arithmetic.specs.Numbers.{plus_zero, magnitude, is_zero}
 use Rattle.arithmetic.specs.Scale.{HasExponent}
 use Rattle.arithmetic.specs.Marks.{least, limit, in_range}
 use Rattle.arithmetic.proofs.ScaleLaws.{up-add}

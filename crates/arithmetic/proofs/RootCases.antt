@@ -13,35 +13,35 @@ use lib.Ieee.Fits.{up_pos, down_pos, kept-lt}
 use lib.Ieee.Digits.{size-le}
 use lib.Ieee.Bits.{of_bits-to_bits, of_bits-fits, is_true, is_false}
 use lib.Ieee.Compare.{differs_from_itself}
-use Rattle.arithmetic.specs.Numbers.{plusZero, is_zero}
+use Rattle.arithmetic.specs.Numbers.{plus_zero, is_zero}
 use Rattle.arithmetic.proofs.Operations.{Zero}
 use Rattle.arithmetic.proofs.RangeTest.{zero-of-test, test-of-zero}
 use Rattle.arithmetic.proofs.PlainLaws.{is_number, of_eq, clash, not-below}
 use Rattle.arithmetic.proofs.PowerOfTwo.{fits-parts}
-use Rattle.arithmetic.specs.SquareRoot.{squareRoot}
+use Rattle.arithmetic.specs.SquareRoot.{square_root}
 use Rattle.arithmetic.specs.joints.RootPattern.{root_bits}
 use Rattle.arithmetic.proofs.RootPatterns.{root-bits}
 
-pub root-nan : (x : Float) → ne x x ≡ true → x ≡ squareRoot x
-unfolding squareRoot
-root-nan x h = let e = differs_from_itself x (of_eq h) in e ∙ sym (ap squareRoot e)
+pub root-nan : (x : Float) → ne x x ≡ true → x ≡ square_root x
+unfolding square_root
+root-nan x h = let e = differs_from_itself x (of_eq h) in e ∙ sym (ap square_root e)
 
-root-of-zero : (x : Float) → Zero x → x ≡ squareRoot x
-unfolding squareRoot
+root-of-zero : (x : Float) → Zero x → x ≡ square_root x
+unfolding square_root
 root-of-zero nan z = absurd z
 root-of-zero (inf s) z = absurd z
-root-of-zero (fin s m e) z = ap (λ (k : ℕ). fin s k e) z ∙ sym (ap (λ (k : ℕ). squareRoot (fin s k e)) z)
+root-of-zero (fin s m e) z = ap (λ (k : ℕ). fin s k e) z ∙ sym (ap (λ (k : ℕ). square_root (fin s k e)) z)
 
-pub root-zero : (x : Float) → eq x plusZero ≡ true → x ≡ squareRoot x
+pub root-zero : (x : Float) → eq x plus_zero ≡ true → x ≡ square_root x
 unfolding is_zero
 root-zero x h = root-of-zero x (zero-of-test x (of_eq h))
 
-pub root-negative : (x : Float) → eq x plusZero ≡ false → lt x plusZero ≡ true → nan ≡ squareRoot x
-unfolding squareRoot lt
+pub root-negative : (x : Float) → eq x plus_zero ≡ false → lt x plus_zero ≡ true → nan ≡ square_root x
+unfolding square_root lt
 root-negative nan z h = refl
 root-negative (inf true) z h = refl
 root-negative (inf false) z h = absurd (false≢true h)
-root-negative (fin true zero e) z h = clash (is_true (eq (fin true zero e) plusZero) (unfold is_zero in test-of-zero (fin true zero e) refl)) z
+root-negative (fin true zero e) z h = clash (is_true (eq (fin true zero e) plus_zero) (unfold is_zero in test-of-zero (fin true zero e) refl)) z
 root-negative (fin false m e) z h = absurd (not-below (m * up e * 1) (down e) (of_eq h))
 root-negative (fin true (suc m) e) z h = refl
 
@@ -60,22 +60,22 @@ bits-finite m e h =
     small z r h k = omega arith
 
 -- a value above zero
-module _ (x : Float) (F : fits binary64 x ≡ true) (N : ne x x ≡ false) (Z : eq x plusZero ≡ false) (L : lt x plusZero ≡ false) where
+module _ (x : Float) (F : fits binary64 x ≡ true) (N : ne x x ≡ false) (Z : eq x plus_zero ≡ false) (L : lt x plus_zero ≡ false) where
   same : of_bits binary64 (to_bits binary64 x) ≡ x
   same = of_bits-to_bits binary64 x (of_eq F)
 
   no_bits : to_bits binary64 x ≡ 0 → ⊥
   unfolding of_bits eq
-  no_bits e = true≢false (sym (ap (λ (y : Float). eq y plusZero) (sym same ∙ ap (of_bits binary64) e)) ∙ Z)
+  no_bits e = true≢false (sym (ap (λ (y : Float). eq y plus_zero) (sym same ∙ ap (of_bits binary64) e)) ∙ Z)
 
   pub bits_pos : 0 < to_bits binary64 x
   bits_pos = elim (eq-zero-or-pos (to_bits binary64 x)) [ inl e ↦ absurd (no_bits e) | inr p ↦ p ]
 
-  pub root-pattern : to_bits binary64 x < 2047 * 2 ^ 52 → of_bits binary64 (root_bits (to_bits binary64 x)) ≡ squareRoot x
-  root-pattern h = sym (ap squareRoot (sym same) ∙ root-bits (to_bits binary64 x) bits_pos h)
+  pub root-pattern : to_bits binary64 x < 2047 * 2 ^ 52 → of_bits binary64 (root_bits (to_bits binary64 x)) ≡ square_root x
+  root-pattern h = sym (ap square_root (sym same) ∙ root-bits (to_bits binary64 x) bits_pos h)
 
-pub root-infinite : (x : Float) → fits binary64 x ≡ true → ne x x ≡ false → eq x plusZero ≡ false → lt x plusZero ≡ false → 2047 * 2 ^ 52 ≤ to_bits binary64 x → x ≡ squareRoot x
-unfolding squareRoot lt is_nan
+pub root-infinite : (x : Float) → fits binary64 x ≡ true → ne x x ≡ false → eq x plus_zero ≡ false → lt x plus_zero ≡ false → 2047 * 2 ^ 52 ≤ to_bits binary64 x → x ≡ square_root x
+unfolding square_root lt is_nan
 root-infinite nan F N Z L h = absurd (is_number nan N)
 root-infinite (inf true) F N Z L h = absurd (true≢false L)
 root-infinite (inf false) F N Z L h = refl
@@ -84,7 +84,7 @@ root-infinite (fin false (suc m) e) F N Z L h = absurd (not-le_of_lt (bits-finit
 root-infinite (fin true (suc m) e) F N Z L h = clash (is_true (ltb 0 (suc m * up e * 1 + 0 * down e)) (lt→ltb 0 (suc m * up e * 1 + 0 * down e) (lt_of_lt_of_le (mul-pos (mul-pos (zero-lt-suc m) (up_pos e)) (zero-lt-suc 0)) (native.Mathlib.Nat.le-add_right (suc m * up e * 1) (0 * down e))))) L
 
 -- ---- a root fits
-whole-fits : (m : ℕ) (e : ℤ) → T (fits binary64 (fin false (suc m) e)) → T (fits binary64 (squareRoot (fin false (suc m) e)))
+whole-fits : (m : ℕ) (e : ℤ) → T (fits binary64 (fin false (suc m) e)) → T (fits binary64 (square_root (fin false (suc m) e)))
 unfolding is_zero is_nan lt
 whole-fits m e t =
     let x = fin false (suc m) e in
@@ -98,14 +98,14 @@ whole-fits m e t =
     never : (m : ℕ) → suc m ≡ 0 → ⊥
     never m h = omega arith
 
-    apart : (m : ℕ) (e : ℤ) → eq (fin false (suc m) e) plusZero ≡ false
-    apart m e = is_false (eq (fin false (suc m) e) plusZero) (not_T (eq (fin false (suc m) e) plusZero) (λ q. never m (zero-of-test (fin false (suc m) e) q)))
+    apart : (m : ℕ) (e : ℤ) → eq (fin false (suc m) e) plus_zero ≡ false
+    apart m e = is_false (eq (fin false (suc m) e) plus_zero) (not_T (eq (fin false (suc m) e) plus_zero) (λ q. never m (zero-of-test (fin false (suc m) e) q)))
 
-    above : (m : ℕ) (e : ℤ) → lt (fin false (suc m) e) plusZero ≡ false
+    above : (m : ℕ) (e : ℤ) → lt (fin false (suc m) e) plus_zero ≡ false
     above m e = is_false (ltb (suc m * up e * 1) (0 * down e)) (not_T (ltb (suc m * up e * 1) (0 * down e)) (not-below (suc m * up e * 1) (down e)))
 
-pub root-fits : (x : Float) → T (fits binary64 x) → T (fits binary64 (squareRoot x))
-unfolding squareRoot fits
+pub root-fits : (x : Float) → T (fits binary64 x) → T (fits binary64 (square_root x))
+unfolding square_root fits
 root-fits nan t = tt
 root-fits (inf true) t = tt
 root-fits (inf false) t = tt

@@ -4,7 +4,7 @@ use Prim.Native.Nat.{ℕ, zero, suc, ◌+◌, ◌-◌, ◌*◌, ◌/◌, ◌%◌
 use native.Mathlib.Nat.{mul-le-mul, div-add-mod'}
 use native.Mathlib.Omega.{arith}
 use lib.Pow.{shl_lt}
-use Rattle.arithmetic.specs.SquareRoot.{wholeRoot}
+use Rattle.arithmetic.specs.SquareRoot.{whole_root}
 use Rattle.arithmetic.proofs.RootWhole.{Roots, root-roots, roots-unique}
 
 -- the product of two halves has 54 digits
@@ -29,8 +29,8 @@ left_is a g p q s =
     subst (λ (x : ℕ). x * x + r ≡ a * 2 ^ 44) (div-add-mod' g (2 ^ 27)) (remains a h l d e r (omega (arith, p)) (omega (arith, q)) (omega (arith, s)))
 
 -- k places on from g
-pub kept : (a g k rem : ℕ) → a < 2 ^ 64 → g * g + rem ≡ a * 2 ^ 44 → k * (g * 2 + k) ≤ rem → rem ≤ k * (g * 2 + k) + g * 2 + k * 2 → g + k ≡ wholeRoot 54 (a * 2 ^ 44)
-kept a g k rem A e h l = roots-unique (a * 2 ^ 44) (g + k) (wholeRoot 54 (a * 2 ^ 44)) (omega arith, omega arith) (root-roots 54 (a * 2 ^ 44) (shl_lt 64 44 A))
+pub kept : (a g k rem : ℕ) → a < 2 ^ 64 → g * g + rem ≡ a * 2 ^ 44 → k * (g * 2 + k) ≤ rem → rem ≤ k * (g * 2 + k) + g * 2 + k * 2 → g + k ≡ whole_root 54 (a * 2 ^ 44)
+kept a g k rem A e h l = roots-unique (a * 2 ^ 44) (g + k) (whole_root 54 (a * 2 ^ 44)) (omega arith, omega arith) (root-roots 54 (a * 2 ^ 44) (shl_lt 64 44 A))
 
 -- the tests' own numbers stay small
 pub places : (w k : ℕ) → w < 2 ^ 55 → k ≤ 4 → k * (w + k) < 2 ^ 58

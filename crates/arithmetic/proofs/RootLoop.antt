@@ -5,7 +5,7 @@ use native.Mathlib.Nat.{lt_of_lt_of_le, le_antisymm, pow-suc}
 use native.Mathlib.Numerals.{add-one}
 use native.Mathlib.Omega.{arith}
 use lib.Pow.{pow_mono, shl_lt}
-use Rattle.arithmetic.specs.SquareRoot.{wholeRoot}
+use Rattle.arithmetic.specs.SquareRoot.{whole_root}
 use Rattle.arithmetic.proofs.RootWhole.{Roots, root-roots, roots-unique}
 
 -- After i turns r is the root of the first 2 i digits of a (64 digits, and zeros after them), rem what is left of these, and `rest` the digits to come.
@@ -51,12 +51,12 @@ module _ (a i r rem rest : ℕ) (h : Rooting a i r rem rest) (l : i < 54) where
     few = omega (arith, double, h.few);
   }
 
-pub ended : (a i r rem rest : ℕ) → a < 2 ^ 64 → Rooting a i r rem rest → 54 ≤ i → r ≡ wholeRoot 54 (a * 2 ^ 44)
+pub ended : (a i r rem rest : ℕ) → a < 2 ^ 64 → Rooting a i r rem rest → 54 ≤ i → r ≡ whole_root 54 (a * 2 ^ 44)
 ended a i r rem rest A h l =
     let e : i ≡ 54 = le_antisymm h.turns l in
     let s : (r * r + rem) * 2 ^ 64 + rest ≡ a * 4 ^ 54 = subst (λ (x : ℕ). (r * r + rem) * 2 ^ 64 + rest ≡ a * 4 ^ x) e h.sum in
     let t : r * r + rem ≡ a * 2 ^ 44 = cut (r * r + rem) rest a s h.tail in
-    roots-unique (a * 2 ^ 44) r (wholeRoot 54 (a * 2 ^ 44)) (omega (arith, t), omega (arith, t, h.close)) (root-roots 54 (a * 2 ^ 44) (shl_lt 64 44 A))
+    roots-unique (a * 2 ^ 44) r (whole_root 54 (a * 2 ^ 44)) (omega (arith, t), omega (arith, t, h.close)) (root-roots 54 (a * 2 ^ 44) (shl_lt 64 44 A))
   where
     cut : (x y a : ℕ) → x * 2 ^ 64 + y ≡ a * 4 ^ 54 → y < 2 ^ 64 → x ≡ a * 2 ^ 44
     cut x y a h k = omega arith

@@ -14,7 +14,7 @@ use lib.Ieee.Back.{round_whole}
 use Rattle.arithmetic.specs.Scale.{scale}
 use Rattle.arithmetic.proofs.ScaleLaws.{scale-val, up-add}
 use Rattle.arithmetic.proofs.PowerOfTwo.{fits-parts}
-use Rattle.arithmetic.specs.SquareRoot.{half, parity, missing_digits, radicand, rounded, squareRoot, Near, Full}
+use Rattle.arithmetic.specs.SquareRoot.{half, parity, missing_digits, radicand, rounded, square_root, Near, Full}
 use Rattle.arithmetic.proofs.RootWhole.{swap, half_down, parity-down, rounded-nearest}
 use Rattle.arithmetic.proofs.RootPatterns.{full-of, rounded-full, less-up}
 use Rattle.arithmetic.specs.SquareRoot.{CorrectlyRounded}
@@ -55,8 +55,8 @@ parity-lt : (E : ℤ) → parity E < 2
 parity-lt (pos n) = omega arith
 parity-lt (negsuc n) = omega arith
 
-pub root-nearest : (m : ℕ) (e : ℤ) → T (fits binary64 (fin false (suc m) e)) → CorrectlyRounded (fin false (suc m) e) (squareRoot (fin false (suc m) e))
-unfolding squareRoot
+pub root-nearest : (m : ℕ) (e : ℤ) → T (fits binary64 (fin false (suc m) e)) → CorrectlyRounded (fin false (suc m) e) (square_root (fin false (suc m) e))
+unfolding square_root
 root-nearest m e t =
     let z = missing_digits (suc m) in
     let M = suc m * 2 ^ z in

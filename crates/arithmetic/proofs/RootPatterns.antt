@@ -20,7 +20,7 @@ use Rattle.arithmetic.proofs.ScaleLaws.{scale-scale, scale-val, sub_val, up-add}
 use Rattle.arithmetic.proofs.Rounding.{Written, unique, fits-written, scale-written}
 use Rattle.arithmetic.proofs.Operations.{size-pos, up_neg, down-neg}
 use Rattle.arithmetic.proofs.PowerOfTwo.{fits-parts}
-use Rattle.arithmetic.specs.SquareRoot.{wholeRoot, half, parity, missing_digits, radicand, rounded, root_at, squareRoot}
+use Rattle.arithmetic.specs.SquareRoot.{whole_root, half, parity, missing_digits, radicand, rounded, root_at, square_root}
 use Rattle.arithmetic.proofs.RootWhole.{Roots, root-roots, roots-unique, below, half-add}
 use Rattle.arithmetic.specs.joints.RootPattern.{lead, expo, pattern, root_pattern, root_bits}
 use Rattle.arithmetic.specs.SquareRoot.{Full}
@@ -104,8 +104,8 @@ full-pos M h = lt_of_lt_of_le (pow_pos 52) h.0
 none-there : (n d M p : ℕ) → 0 < d → 0 < p → 0 < M → zero * n ≡ M * p * d → ⊥
 none-there n d M p D P h e = lt_irrefl 0 (subst (λ (x : ℕ). 0 < x) (sym e ∙ zero-mul n) (mul-pos (mul-pos h P) D))
 
-pub root_is : (x : Float) (M n : ℕ) → T (fits binary64 x) → Full M → HasValue x false (M * 2 ^ n) (2 ^ 1126) → squareRoot x ≡ root_at M (sub_ℕ n 1126)
-unfolding squareRoot
+pub root_is : (x : Float) (M n : ℕ) → T (fits binary64 x) → Full M → HasValue x false (M * 2 ^ n) (2 ^ 1126) → square_root x ≡ root_at M (sub_ℕ n 1126)
+unfolding square_root
 root_is nan M n t F v = absurd v
 root_is (inf b) M n t F v = absurd v
 root_is (fin b zero e) M n t F v = absurd (none-there (up e * 2 ^ 1126) (down e) M (2 ^ n) (down_pos e) (pow_pos n) (full-pos M F) (sym (mul_assoc zero (up e) (2 ^ 1126)) ∙ v.1))
@@ -195,7 +195,7 @@ rounded-full M p P F =
     let N = radicand M p in
     let top : N < (18014398509481982 + 1) * (18014398509481982 + 1) = most M F.1 p P in
     let R = root-roots 54 N (lt_of_lt_of_le top (lib.Dec.lit≤ tt)) in
-    halves (wholeRoot 54 N) (below N (2 ^ 53) (wholeRoot 54 N) (least M F.0 p) R.1) (below N (wholeRoot 54 N) 18014398509481982 R.0 top)
+    halves (whole_root 54 N) (below N (2 ^ 53) (whole_root 54 N) (least M F.0 p) R.1) (below N (whole_root 54 N) 18014398509481982 R.0 top)
   where
     halves : (r : ℕ) → 2 ^ 53 ≤ r → r ≤ 18014398509481982 → Full ((r + 1) / 2)
     halves r h k = omega arith
@@ -271,7 +271,7 @@ expo-lt zero t h = few (missing_digits t)
 expo-lt (suc k) t h = omega arith
 
 -- ---- the law: the root of a positive finite value, by patterns
-pub root-bits : (b : ℕ) → 0 < b → b < 2047 * 2 ^ 52 → squareRoot (of_bits binary64 b) ≡ of_bits binary64 (root_bits b)
+pub root-bits : (b : ℕ) → 0 < b → b < 2047 * 2 ^ 52 → square_root (of_bits binary64 b) ≡ of_bits binary64 (root_bits b)
 unfolding root_bits
 root-bits b P h =
     let k = b / 2 ^ 52 in
@@ -306,8 +306,8 @@ whole_is M p P F =
     sum p = omega arith
 
 -- its root is below 2 ^ 54
-pub root-small : (M p : ℕ) → p < 2 → Full M → wholeRoot 54 (radicand M p) < 2 ^ 54
-root-small M p P F = small (wholeRoot 54 (radicand M p)) (rounded-full M p P F).1
+pub root-small : (M p : ℕ) → p < 2 → Full M → whole_root 54 (radicand M p) < 2 ^ 54
+root-small M p P F = small (whole_root 54 (radicand M p)) (rounded-full M p P F).1
   where
     small : (r : ℕ) → (r + 1) / 2 < 2 ^ 53 → r < 2 ^ 54
     small r h = omega arith

@@ -11,7 +11,7 @@ use lib.Ieee.{Float, nan, inf, fin, Format, binary64, up, down, size, round, fit
 use lib.Ieee.Digits.{size-lt, size_reaches, size-le}
 use Rattle.arithmetic.specs.Scale.{scale}
 use Rattle.arithmetic.proofs.ScaleLaws.{scale-scale}
-use Rattle.arithmetic.specs.SquareRoot.{wholeRoot, half, parity, missing_digits, radicand, rounded, root_at, squareRoot, Near}
+use Rattle.arithmetic.specs.SquareRoot.{whole_root, half, parity, missing_digits, radicand, rounded, root_at, square_root, Near}
 
 abbrev pub Roots : ℕ → ℕ → Type 0
 Roots n r = (r * r ≤ n) × (n < (r + 1) * (r + 1))
@@ -29,11 +29,11 @@ step-high s n q h k = omega (arith, h, k)
 four : (n : ℕ) → (4 * (n / 4) ≤ n) × (n < 4 * (n / 4) + 4)
 four n = omega arith
 
-pub root-roots : (k n : ℕ) → n < 4 ^ k → Roots n (wholeRoot k n)
-unfolding wholeRoot
+pub root-roots : (k n : ℕ) → n < 4 ^ k → Roots n (whole_root k n)
+unfolding whole_root
 root-roots zero n h = (only_zero n h, h)
 root-roots (suc k) n h =
-    let s = wholeRoot k (n / 4) in
+    let s = whole_root k (n / 4) in
     let ih = root-roots k (n / 4) ((div-lt_iff_lt-mul (zero-lt-suc 3)).1 (subst (λ (x : ℕ). n < x) (pow-suc 4 k) h)) in
     let q = four n in
     go s (step-low s n (n / 4) ih.0 q.0) (step-high s n (n / 4) ih.1 q.1) (leb ((2 * s + 1) * (2 * s + 1)) n) (leb→le ((2 * s + 1) * (2 * s + 1)) n) (nleb→lt ((2 * s + 1) * (2 * s + 1)) n)
@@ -125,8 +125,8 @@ cond-nan : (v : ℤ) (s : Bool) (x y : Float) → x ≡ scale v y → cond s nan
 cond-nan v true x y h = refl
 cond-nan v false x y h = h
 
-pub root-scale : (v : ℤ) (x : Float) → squareRoot (scale (v +ℤ v) x) ≡ scale v (squareRoot x)
-unfolding squareRoot
+pub root-scale : (v : ℤ) (x : Float) → square_root (scale (v +ℤ v) x) ≡ scale v (square_root x)
+unfolding square_root
 root-scale v nan = refl
 root-scale v (inf s) = cond-nan v s (inf false) (inf false) refl
 root-scale v (fin s zero e) = refl
@@ -136,16 +136,16 @@ root-scale v (fin s (suc m) e) =
     cond-nan v s (root_at M ((e +ℤ (v +ℤ v)) +ℤ z)) (root_at M (e +ℤ z)) (ap (root_at M) (swap e (v +ℤ v) z) ∙ root_at-scale M (e +ℤ z) v)
 
 -- ---- some roots, worked out
-root-two : squareRoot (fin false 1 (pos 1)) ≡ lib.Ieee.of_bits binary64 0x3FF6A09E667F3BCD
-unfolding squareRoot wholeRoot round lib.Ieee.of_bits
+root-two : square_root (fin false 1 (pos 1)) ≡ lib.Ieee.of_bits binary64 0x3FF6A09E667F3BCD
+unfolding square_root whole_root round lib.Ieee.of_bits
 root-two = refl
 
-root-least : squareRoot (fin false 1 (negsuc 1073)) ≡ fin false 1 (negsuc 536)
-unfolding squareRoot wholeRoot round
+root-least : square_root (fin false 1 (negsuc 1073)) ≡ fin false 1 (negsuc 536)
+unfolding square_root whole_root round
 root-least = refl
 
-root-three : squareRoot (fin false 3 (pos 0)) ≡ lib.Ieee.of_bits binary64 0x3FFBB67AE8584CAA
-unfolding squareRoot wholeRoot round lib.Ieee.of_bits
+root-three : square_root (fin false 3 (pos 0)) ≡ lib.Ieee.of_bits binary64 0x3FFBB67AE8584CAA
+unfolding square_root whole_root round lib.Ieee.of_bits
 root-three = refl
 
 -- ---- the nearest: twice q is within 1 of the root of N, for an N that 4 divides
@@ -178,7 +178,7 @@ near-odd N k n h = (lt_of_le_of_lt (le_of_eq (ap (λ (z : ℕ). z * z) one-off))
     grow = omega arith
 
 pub rounded-nearest : (N : ℕ) → N < 4 ^ 54 → N % 4 ≡ 0 → 0 < N → Near N (rounded N)
-rounded-nearest N h f P = go (wholeRoot 54 N) (root-roots 54 N h) (wholeRoot 54 N % 2) refl
+rounded-nearest N h f P = go (whole_root 54 N) (root-roots 54 N h) (whole_root 54 N % 2) refl
   where
     evenly : (r : ℕ) → r % 2 ≡ 0 → (r ≡ 2 * (r / 2)) × ((r + 1) / 2 ≡ r / 2)
     evenly r e = omega arith

@@ -4,7 +4,7 @@ use Rattle.std.specs.Float.{fin, binary64}
 use Rattle.std.specs.Float.Ieee.{add, sub, mul, div, lt, le}
 use Rattle.arithmetic.specs.declared.Marked.{Marked}
 use Rattle.arithmetic.specs.Numbers.{magnitude, is_zero}
-use Rattle.arithmetic.specs.SquareRoot.{squareRoot}
+use Rattle.arithmetic.specs.SquareRoot.{square_root}
 
 -- 2 ^ -800 and 2 ^ 801
 abbrev pub least : Float
@@ -54,15 +54,15 @@ abbrev pub is_inside : Marked → Bool
 is_inside a = a.inside
 
 -- the mark of a step on a and b with the rounded result r: both operands are inside and in range, and the result is in range
-unfoldable pub stepMark : Marked → Marked → Float → Bool
-stepMark a b r = a.inside && b.inside && (in_range a.value && in_range b.value) && in_range r
+unfoldable pub step_mark : Marked → Marked → Float → Bool
+step_mark a b r = a.inside && b.inside && (in_range a.value && in_range b.value) && in_range r
 
 -- "no product of nonzero factors, nor quotient of a nonzero numerator, is zero"
-unfoldable pub lostProduct : Float → Float → Float → Bool
-lostProduct x y r = is_zero r && (not (is_zero x) && not (is_zero y))
+unfoldable pub lost_product : Float → Float → Float → Bool
+lost_product x y r = is_zero r && (not (is_zero x) && not (is_zero y))
 
-unfoldable pub lostQuotient : Float → Float → Bool
-lostQuotient x r = is_zero r && not (is_zero x)
+unfoldable pub lost_quotient : Float → Float → Bool
+lost_quotient x r = is_zero r && not (is_zero x)
 
 -- what a counts as an operand: its mark, and its number's own
 abbrev pub reported : Marked → Mark
@@ -70,7 +70,7 @@ reported a = join_marks a.inside (own_mark a.value)
 
 -- what the result p of x times y counts, with nothing of x and y
 abbrev pub product_mark : Float → Float → Float → Mark
-product_mark x y p = join_marks (own_mark p) (not (lostProduct x y p))
+product_mark x y p = join_marks (own_mark p) (not (lost_product x y p))
 
 -- a + x y, whose mark counts a's and the two results, and nothing of x and y
 abbrev pub with_product : Marked → Float → Float → Marked
@@ -79,25 +79,25 @@ with_product a x y =
     let r = add binary64 a.value p in
     marked r (join_marks (join_marks a.inside (product_mark x y p)) (own_mark r))
 
-unfoldable pub markedAdd : Marked → Marked → Marked
-markedAdd a b = let r = add binary64 a.value b.value in marked r (stepMark a b r)
+unfoldable pub marked_add : Marked → Marked → Marked
+marked_add a b = let r = add binary64 a.value b.value in marked r (step_mark a b r)
 
-unfoldable pub markedSub : Marked → Marked → Marked
-markedSub a b = let r = sub binary64 a.value b.value in marked r (stepMark a b r)
+unfoldable pub marked_sub : Marked → Marked → Marked
+marked_sub a b = let r = sub binary64 a.value b.value in marked r (step_mark a b r)
 
-unfoldable pub markedMul : Marked → Marked → Marked
-markedMul a b = let r = mul binary64 a.value b.value in marked r (stepMark a b r && not (lostProduct a.value b.value r))
+unfoldable pub marked_mul : Marked → Marked → Marked
+marked_mul a b = let r = mul binary64 a.value b.value in marked r (step_mark a b r && not (lost_product a.value b.value r))
 
-unfoldable pub markedDiv : Marked → Marked → Marked
-markedDiv a b = let r = div binary64 a.value b.value in marked r (stepMark a b r && not (lostQuotient a.value r))
+unfoldable pub marked_div : Marked → Marked → Marked
+marked_div a b = let r = div binary64 a.value b.value in marked r (step_mark a b r && not (lost_quotient a.value r))
 
-unfoldable pub markedRoot : Marked → Marked
-markedRoot a = let r = squareRoot a.value in marked r (a.inside && in_range a.value && in_range r)
+unfoldable pub marked_root : Marked → Marked
+marked_root a = let r = square_root a.value in marked r (a.inside && in_range a.value && in_range r)
 
 -- ---- what rounds nothing is no step and keeps the mark
 -- the sign cleared
-unfoldable pub markedMagnitude : Marked → Marked
-markedMagnitude a = marked (magnitude a.value) a.inside
+unfoldable pub marked_magnitude : Marked → Marked
+marked_magnitude a = marked (magnitude a.value) a.inside
 
 -- the number a, whose mark counts b's too: what is compared or dropped is still counted
 unfoldable pub also : Marked → Marked → Marked

@@ -6,8 +6,8 @@ use Rattle.std.specs.Float.{nan, inf, fin, binary64}
 use Rattle.std.specs.Float.Ieee.{lt, eq, of_int}
 
 -- +0, 1 and -1
-abbrev pub plusZero : Float
-plusZero = fin false 0 (pos 0)
+abbrev pub plus_zero : Float
+plus_zero = fin false 0 (pos 0)
 
 abbrev pub one : Float
 one = fin false 1 (pos 0)
@@ -23,7 +23,7 @@ magnitude (fin s m e) = fin false m e
 
 -- x is +0 or -0
 unfoldable pub is_zero : Float → Bool
-is_zero x = eq x plusZero
+is_zero x = eq x plus_zero
 
 -- x is neither a NaN nor an infinity
 unfoldable pub is_finite : Float → Bool
@@ -33,12 +33,12 @@ is_finite (fin s m e) = true
 
 -- the sign of Jacobi's rotations: -1 where x < 0, and 1 otherwise (document 01: "sign(0) = 1", so of -0 too)
 unfoldable pub sign : Float → Float
-sign x = cond (lt x plusZero) minus_one one
+sign x = cond (lt x plus_zero) minus_one one
 
 -- the magnitude of x is strictly larger than that of y: what replaces a pivot (document 01: "replaced only by a strictly larger one")
 unfoldable pub is_larger : Float → Float → Bool
 is_larger x y = lt (magnitude y) (magnitude x)
 
 -- a whole number as an f64; exact up to 2 ^ 53
-unfoldable pub ofCount : ℕ → Float
-ofCount n = of_int binary64 (pos n)
+unfoldable pub of_count : ℕ → Float
+of_count n = of_int binary64 (pos n)

@@ -6,9 +6,9 @@ use Rattle.std.specs.Float.Ieee.Exact.{HasValue}
 use Rattle.arithmetic.specs.Scale.{scale}
 
 -- the whole part of the square root of n, n below 4 ^ k, by binary digits: two digits of n give one of the root
-unfoldable pub wholeRoot : ℕ → ℕ → ℕ
-wholeRoot zero n = 0
-wholeRoot (suc k) n = let r = 2 * wholeRoot k (n / 4) in cond (leb ((r + 1) * (r + 1)) n) (r + 1) r
+unfoldable pub whole_root : ℕ → ℕ → ℕ
+whole_root zero n = 0
+whole_root (suc k) n = let r = 2 * whole_root k (n / 4) in cond (leb ((r + 1) * (r + 1)) n) (r + 1) r
 
 -- half of an exponent, rounded down, and what is left
 abbrev pub half : ℤ → ℤ
@@ -29,18 +29,18 @@ radicand M p = M * 2 ^ (54 + p)
 
 -- the root of N to 53 digits: its whole part has 54, and the last of them says which way to round
 abbrev pub rounded : ℕ → ℕ
-rounded N = (wholeRoot 54 N + 1) / 2
+rounded N = (whole_root 54 N + 1) / 2
 
 -- the root of M * 2 ^ E, M of 53 digits
 abbrev pub root_at : ℕ → ℤ → Float
 root_at M E = scale (half E +ℤ negsuc 25) (round binary64 false (rounded (radicand M (parity E))) 1)
 
 -- the square root of an f64: a negative argument gives a NaN, -0 gives -0, +infinity gives +infinity
-unfoldable pub squareRoot : Float → Float
-squareRoot nan = nan
-squareRoot (inf s) = cond s nan (inf false)
-squareRoot (fin s zero e) = fin s zero e
-squareRoot (fin s (suc m) e) = cond s nan (root_at (suc m * 2 ^ missing_digits (suc m)) (e -ℤ pos (missing_digits (suc m))))
+unfoldable pub square_root : Float → Float
+square_root nan = nan
+square_root (inf s) = cond s nan (inf false)
+square_root (fin s zero e) = fin s zero e
+square_root (fin s (suc m) e) = cond s nan (root_at (suc m * 2 ^ missing_digits (suc m)) (e -ℤ pos (missing_digits (suc m))))
 
 -- ---- what "correctly rounded" says of a positive x and its root y
 -- q has 53 binary digits

@@ -2,7 +2,7 @@
 ghost use Rattle.std.specs.Prelude.{◌≡◌, ◌^◌, ◌≤◌};
 ghost use Rattle.std.specs.Float.Ieee.{is_nan, of_bits, to_bits};
 ghost use Rattle.std.specs.Float.{binary64};
-ghost use Rattle.arithmetic.specs.Numbers.{magnitude, is_zero, is_finite, sign, is_larger, ofCount};
+ghost use Rattle.arithmetic.specs.Numbers.{magnitude, is_zero, is_finite, sign, is_larger, of_count};
 
 // The value without its sign, of -0 too.
 pub fn magnitude(x: f64) -> f64
@@ -52,7 +52,7 @@ pub fn is_larger(x: f64, y: f64) -> bool
 // A count as a number: exact, since an f64 holds every whole number up to 2^53.
 pub fn of_count(n: usize) -> f64
     requires { n ≤ 2 ^ 53 }
-    ensures { result ≡ ofCount n }
+    ensures { result ≡ of_count n }
 {
     n as f64
 }

@@ -1,13 +1,13 @@
 // The square root, correctly rounded, over whole numbers.
 ghost use Rattle.std.specs.Prelude.{◌≡◌, ◌+◌, ◌*◌, ◌^◌, ◌<◌, ◌≤◌};
-ghost use Rattle.arithmetic.specs.SquareRoot.{wholeRoot, squareRoot, missing_digits};
+ghost use Rattle.arithmetic.specs.SquareRoot.{whole_root, square_root, missing_digits};
 ghost use Rattle.arithmetic.specs.joints.RootPattern.{root_bits, root_pattern};
 
 use crate::plain::to_bits;
 
 // The whole part of the square root of a * 2^44, digit by digit: two binary digits of it are brought down a turn, and give one of the root.
 fn digit_root(a: u64) -> u64
-    ensures { result ≡ wholeRoot 54 (a * 2 ^ 44) }
+    ensures { result ≡ whole_root 54 (a * 2 ^ 44) }
 {
     let mut r: u64 = 0;
     let mut rem: u64 = 0;
@@ -92,7 +92,7 @@ fn further(w: u64, rem: u64) -> u64
 
 // The whole part of the square root of a * 2^44: a guess, kept where it is the one number whose square is at most that and whose successor's is not.
 pub fn whole_root(a: u64) -> u64
-    ensures { result ≡ wholeRoot 54 (a * 2 ^ 44) }
+    ensures { result ≡ whole_root 54 (a * 2 ^ 44) }
 {
     let g = guess(a);
     let rem = remainder(a, g);
@@ -142,7 +142,7 @@ pub fn root_bits(b: u64) -> u64
 
 // The square root, correctly rounded.
 pub fn sqrt(x: f64) -> f64
-    ensures { result ≡ squareRoot x }
+    ensures { result ≡ square_root x }
 {
     if x != x {
         return x;

@@ -9,8 +9,8 @@ unfoldable pub decimal : ℕ → ℕ → Float
 decimal n k = round binary64 false n (10 ^ k)
 
 -- |a2| and |d| > 1e-15; |V0| and |V2| < 1e-10; div < 1e-10; |qρ − 1| > 1e-12; |df − 2| < 1e-2; eigenvalue > 1e-10; ridge 1e-8; 2^-100; 3000
-unfoldable pub documentCutoffs : Cutoffs
-documentCutoffs = record {
+unfoldable pub document_cutoffs : Cutoffs
+document_cutoffs = record {
   moment = decimal 1 15;
   leading = decimal 1 10;
   divisor = decimal 1 10;

@@ -2,7 +2,7 @@
 #![tactic(auto)]
 
 ghost use Rattle.std.specs.Prelude.{◌≡◌};
-ghost use Rattle.arithmetic_cutoffs.specs.Cutoffs.{documentCutoffs};
+ghost use Rattle.arithmetic_cutoffs.specs.Cutoffs.{document_cutoffs};
 
 // The lab's small numbers, which go by value through every function that looks at one: a2 and d; V0 and V2; the divisor of div; qρ − 1; df near 2;
 // the smallest eigenvalue of IE; what joins its diagonal; the factor of the rotation test; the cap of a component's df.
@@ -21,7 +21,7 @@ pub struct Cutoffs {
 
 // A caller passes these on, or others of its own.
 pub fn document_cutoffs() -> Cutoffs
-    ensures { result ≡ documentCutoffs }
+    ensures { result ≡ document_cutoffs }
 {
     Cutoffs {
         moment: 1e-15,

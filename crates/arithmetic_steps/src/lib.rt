@@ -2,8 +2,8 @@
 #![tactic(auto)]
 
 ghost use Rattle.std.specs.Prelude.{◌≡◌};
-ghost use Rattle.arithmetic.specs.Numbers.{plusZero};
-ghost use Rattle.arithmetic.specs.Marks.{no_mark, join_marks, in_range, stepMark, lostProduct, lostQuotient, reported, with_product, marked, given, is_inside, markedAdd, markedSub, markedMul, markedDiv, markedRoot, markedMagnitude, also, also_mark};
+ghost use Rattle.arithmetic.specs.Numbers.{plus_zero};
+ghost use Rattle.arithmetic.specs.Marks.{no_mark, join_marks, in_range, step_mark, lost_product, lost_quotient, reported, with_product, marked, given, is_inside, marked_add, marked_sub, marked_mul, marked_div, marked_root, marked_magnitude, also, also_mark};
 
 use arithmetic::Marked;
 use arithmetic::plain::{is_zero, magnitude};
@@ -26,21 +26,21 @@ pub fn in_range(x: f64) -> bool
 
 // The mark of a step on a and b with the rounded result r.
 pub fn step_mark(a: Marked, b: Marked, r: f64) -> bool
-    ensures { result ≡ stepMark a b r }
+    ensures { result ≡ step_mark a b r }
 {
     a.inside & b.inside & (in_range(a.value) & in_range(b.value)) & in_range(r)
 }
 
 // Whether r is a zero product of factors that are not zero.
 pub fn lost_product(x: f64, y: f64, r: f64) -> bool
-    ensures { result ≡ lostProduct x y r }
+    ensures { result ≡ lost_product x y r }
 {
     is_zero(r) & (!is_zero(x) & !is_zero(y))
 }
 
 // Whether r is a zero quotient of a numerator that is not zero.
 pub fn lost_quotient(x: f64, r: f64) -> bool
-    ensures { result ≡ lostQuotient x r }
+    ensures { result ≡ lost_quotient x r }
 {
     is_zero(r) & !is_zero(x)
 }
@@ -97,14 +97,14 @@ pub fn given(x: f64) -> Marked
 
 // +0, from which sums start.
 pub fn zero_of() -> Marked
-    ensures { result ≡ given plusZero }
+    ensures { result ≡ given plus_zero }
 {
     given(0.0)
 }
 
 // +0 with the mark `inside`: what was lent as a bool becomes a marked number again at once.
 pub fn seen_of(inside: bool) -> Marked
-    ensures { result ≡ marked plusZero inside }
+    ensures { result ≡ marked plus_zero inside }
 {
     Marked {
         value: 0.0,
@@ -120,7 +120,7 @@ pub fn is_inside(a: Marked) -> bool
 }
 
 pub fn add(a: Marked, b: Marked) -> Marked
-    ensures { result ≡ markedAdd a b }
+    ensures { result ≡ marked_add a b }
 {
     let r = a.value + b.value;
     Marked {
@@ -130,7 +130,7 @@ pub fn add(a: Marked, b: Marked) -> Marked
 }
 
 pub fn sub(a: Marked, b: Marked) -> Marked
-    ensures { result ≡ markedSub a b }
+    ensures { result ≡ marked_sub a b }
 {
     let r = a.value - b.value;
     Marked {
@@ -140,7 +140,7 @@ pub fn sub(a: Marked, b: Marked) -> Marked
 }
 
 pub fn mul(a: Marked, b: Marked) -> Marked
-    ensures { result ≡ markedMul a b }
+    ensures { result ≡ marked_mul a b }
 {
     let r = a.value * b.value;
     Marked {
@@ -150,7 +150,7 @@ pub fn mul(a: Marked, b: Marked) -> Marked
 }
 
 pub fn div(a: Marked, b: Marked) -> Marked
-    ensures { result ≡ markedDiv a b }
+    ensures { result ≡ marked_div a b }
 {
     let r = a.value / b.value;
     Marked {
@@ -160,7 +160,7 @@ pub fn div(a: Marked, b: Marked) -> Marked
 }
 
 pub fn square_root(a: Marked) -> Marked
-    ensures { result ≡ markedRoot a }
+    ensures { result ≡ marked_root a }
 {
     let r = sqrt(a.value);
     Marked {
@@ -171,7 +171,7 @@ pub fn square_root(a: Marked) -> Marked
 
 // The sign cleared: no step.
 pub fn unsigned(a: Marked) -> Marked
-    ensures { result ≡ markedMagnitude a }
+    ensures { result ≡ marked_magnitude a }
 {
     Marked {
         value: magnitude(a.value),

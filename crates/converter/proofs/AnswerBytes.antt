@@ -12,30 +12,30 @@ use lib.Seq.{get_or-set_other, get_or-append-add}
 use Rattle.tests.specs.declared.Entry.{Entry}
 use Rattle.tests.specs.Verdict.{Verdict, verdict}
 use Rattle.records.specs.format.Bytes.{byte, bytes_of}
-use Rattle.records.specs.format.Layout.{flag, entryBytes, answer_bytes}
+use Rattle.records.specs.format.Layout.{flag, entry_bytes, answer_bytes}
 use Rattle.converter.specs.AnswerBytes.{SameButMarks, SameAnswer}
 
 -- the entry of a verdict and a mark
 abbrev pub entry_with : Verdict → Bool → Entry
 entry_with v inside = record { f = v.f; df = v.df; rank = v.rank; inside = inside }
 
-long-entry : (e : Entry) → length (entryBytes e) ≡ 24
-unfolding entryBytes bytes_of
+long-entry : (e : Entry) → length (entry_bytes e) ≡ 24
+unfolding entry_bytes bytes_of
 long-entry e = refl
 
 -- another mark is another byte 19
-mark-byte : (v : Verdict) (a b : Bool) → entryBytes (entry_with v b) ≡ set (entryBytes (entry_with v a)) 19 (flag b)
-unfolding entryBytes bytes_of
+mark-byte : (v : Verdict) (a b : Bool) → entry_bytes (entry_with v b) ≡ set (entry_bytes (entry_with v a)) 19 (flag b)
+unfolding entry_bytes bytes_of
 mark-byte v a b = refl
 
-entry-byte : (x y : Entry) → verdict y ≡ verdict x → (i : ℕ) → i ≢ 19 → byte (entryBytes y) i ≡ byte (entryBytes x) i
+entry-byte : (x y : Entry) → verdict y ≡ verdict x → (i : ℕ) → i ≢ 19 → byte (entry_bytes y) i ≡ byte (entry_bytes x) i
 entry-byte x y e i h =
-    ap (λ (v : Verdict). byte (entryBytes (entry_with v y.inside)) i) e
+    ap (λ (v : Verdict). byte (entry_bytes (entry_with v y.inside)) i) e
     ∙ ap (λ (s : List ℕ). byte s i) (mark-byte (verdict x) x.inside y.inside)
-    ∙ get_or-set_other (entryBytes x) 19 i (flag y.inside) 0 h
+    ∙ get_or-set_other (entry_bytes x) 19 i (flag y.inside) 0 h
 
 -- the Satterthwaite call's one entry
-pub entry-same : (x y : Entry) → verdict y ≡ verdict x → SameButMarks (entryBytes x) (entryBytes y)
+pub entry-same : (x y : Entry) → verdict y ≡ verdict x → SameButMarks (entry_bytes x) (entry_bytes y)
 entry-same x y e = record { long = long-entry y ∙ sym (long-entry x); bytes = λ i h. entry-byte x y e i (λ n. h (ap (λ (j : ℕ). j % 24) n)) }
 
 -- a first entry, and the others after it
@@ -64,7 +64,7 @@ answer-same [] [] e = record { long = refl; bytes = λ i h. refl }
 answer-same [] (y ∷ ys) e = let z : ◌≡◌ {A = ℕ} 0 1 = cc in absurd (omega arith)
 answer-same (x ∷ xs) [] e = let z : ◌≡◌ {A = ℕ} 0 1 = cc in absurd (omega arith)
 answer-same (x ∷ xs) (y ∷ ys) e =
-    after (entryBytes x) (entryBytes y) (answer_bytes xs) (answer_bytes ys) (long-entry x) (entry-same x y (cc)) (answer-same xs ys (cc))
+    after (entry_bytes x) (entry_bytes y) (answer_bytes xs) (answer_bytes ys) (long-entry x) (entry-same x y (cc)) (answer-same xs ys (cc))
 
 -- either call on two files that it accepts, so that it returns 0 for any bytes of the stated length, with the same bytes but for the marks
 module _ (stated : ℕ) (returned returned' : List ℕ → ℕ) (bytes bytes' : List ℕ) (zero : (answer : List ℕ) → length answer ≡ stated → returned answer ≡ 0)

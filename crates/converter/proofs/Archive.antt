@@ -10,7 +10,7 @@ use lib.Ieee.{Float, binary64, fits, mul, div, le, to_bits, of_bits}
 use lib.Ieee.Bits.{of_bits-to_bits}
 use lib.Ieee.Fits.{mul-fits, div-fits}
 use borrow.Author.Tests.{eqb-true, eq-eqb, not-false}
-use Rattle.arithmetic.specs.Numbers.{plusZero}
+use Rattle.arithmetic.specs.Numbers.{plus_zero}
 use Rattle.arithmetic.specs.Scale.{scale, power_of_two}
 use Rattle.arithmetic.proofs.ScaleLaws.{le-scale}
 use Rattle.algebra.specs.Kind.{floats}
@@ -21,10 +21,10 @@ use Rattle.records.specs.declared.Kind.{Kind}
 use Rattle.records.specs.declared.Sizes.{Sizes}
 use Rattle.records.specs.declared.Value.TheVariants.{Float as FloatBits}
 use Rattle.records.specs.format.Scan.{any}
-use Rattle.records.specs.format.Kinds.{Table, kindAt, width, archive_kinds, limits, archive_table}
-use Rattle.records.specs.format.File.{count, cell, beyond, formReasons}
-use Rattle.records.specs.format.Order.{orderReasons}
-use Rattle.records.specs.readers.Archive.{Archive, sizes_at, archived, coefficients, parameters, sizes, kinds, cell_value, archive_of, misscaled, valueReasons, scaled_reasons, reasons}
+use Rattle.records.specs.format.Kinds.{Table, kind_at, width, archive_kinds, limits, archive_table}
+use Rattle.records.specs.format.File.{count, cell, beyond, form_reasons}
+use Rattle.records.specs.format.Order.{order_reasons}
+use Rattle.records.specs.readers.Archive.{Archive, sizes_at, archived, coefficients, parameters, sizes, kinds, cell_value, archive_of, misscaled, value_reasons, scaled_reasons, reasons}
 use Rattle.records.proofs.format.ScanLaws.{any-none-cells, none-any-cells}
 use Rattle.records.proofs.format.Slots.{Inside}
 use Rattle.records.proofs.format.CellLaws.{cell-fits}
@@ -37,22 +37,22 @@ use Rattle.converter.proofs.Asked.{none}
 
 -- sigma2 and what it scales: f64 bits, in cells that the fields name, at any sizes
 archive-floats : (k : ℤ) (z : Sizes) → OnFloats (archive_change k) (archive_kinds z)
-unfolding kindAt archive_kinds
-archive-floats k z = among 11 12 13 18 (λ j. (kindAt (archive_kinds z) j).value ≡ FloatBits) refl refl refl refl
+unfolding kind_at archive_kinds
+archive-floats k z = among 11 12 13 18 (λ j. (kind_at (archive_kinds z) j).value ≡ FloatBits) refl refl refl refl
 
-archive-numbered : (k : ℤ) (z : Sizes) (kind : ℕ) → (archive_change k).rewrites kind ≡ true → numbered (kindAt (archive_kinds z) kind) ≡ false
-unfolding kindAt archive_kinds is_number
-archive-numbered k z = among 11 12 13 18 (λ j. numbered (kindAt (archive_kinds z) j) ≡ false) refl refl refl refl
+archive-numbered : (k : ℤ) (z : Sizes) (kind : ℕ) → (archive_change k).rewrites kind ≡ true → numbered (kind_at (archive_kinds z) kind) ≡ false
+unfolding kind_at archive_kinds is_number
+archive-numbered k z = among 11 12 13 18 (λ j. numbered (kind_at (archive_kinds z) j) ≡ false) refl refl refl refl
 
 -- ---- what is archived, from its parts; and the same with another sigma2
 abbrev archive_from : ℕ → ℕ → (ℕ → ℕ → Float) → (ℕ → ℕ → Float) → (ℕ → ℕ → ℕ → Float) → (ℕ → ℕ → Float) → Float → Archive
 archive_from p N phi phi_a ps w sigma2 = record {
   coefficients = p;
   parameters = N;
-  phi = table plusZero 6 6 p p phi;
-  phi_a = table plusZero 6 6 p p phi_a;
-  ps = stack 4 N (λ i. table plusZero 6 6 p p (ps i));
-  w = table plusZero 6 6 N N w;
+  phi = table plus_zero 6 6 p p phi;
+  phi_a = table plus_zero 6 6 p p phi_a;
+  ps = stack 4 N (λ i. table plus_zero 6 6 p p (ps i));
+  w = table plus_zero 6 6 N N w;
   sigma2 = sigma2;
 }
 
@@ -107,8 +107,8 @@ module _ (k : ℤ) (s : List ℕ) where
       (fun_ext (λ n. table_stays 17 n refl))
       ∙ ap (λ (f : ℕ → ℕ → Float). archive_from (coefficients s) (parameters s) (cell_value s 15 0) (cell_value s 16 0) (cell_value s 17) f (cell_value s' 18 0 0 0)) (table_stays 14 0 refl)
 
-  form-same : formReasons archive_table (kinds s') s' ≡ formReasons archive_table (kinds s) s
-  form-same = ap (λ (t : Table). formReasons archive_table t s') kinds-same ∙ alike.same_form
+  form-same : form_reasons archive_table (kinds s') s' ≡ form_reasons archive_table (kinds s) s
+  form-same = ap (λ (t : Table). form_reasons archive_table t s') kinds-same ∙ alike.same_form
 
   -- its sigma2 is the f64 product
   pub sigma2-product : any (count s) (beyond (kinds s) s) ≡ false → (archive_of (converted (archive_change k) s)).sigma2 ≡ mul binary64 (archive_of s).sigma2 (power_of_two (k +ℤ k))
@@ -124,11 +124,11 @@ module _ (k : ℤ) (s : List ℕ) where
 
 module _ (s : List ℕ) (h : AcceptedArchive s) where
   -- a scaled number is what is archived: their bits are the same
-  scaled-number : (kind n r c : ℕ) → misscaled s kind ≡ false → T (fits binary64 (archived (archive_of s) kind n r c)) → Inside (kindAt (kinds s) kind) n r c
+  scaled-number : (kind n r c : ℕ) → misscaled s kind ≡ false → T (fits binary64 (archived (archive_of s) kind n r c)) → Inside (kind_at (kinds s) kind) n r c
       → cell_value s kind n r c ≡ archived (archive_of s) kind n r c
   unfolding misscaled
   scaled-number kind n r c e f v =
-      let z : Kind = kindAt (kinds s) kind in
+      let z : Kind = kind_at (kinds s) kind in
       let x : Float = cell_value s kind n r c in
       let y : Float = archived (archive_of s) kind n r c in
       let differs : ℕ → ℕ → ℕ → Bool = λ n r c. not (eqb (to_bits binary64 (cell_value s kind n r c)) (to_bits binary64 (archived (archive_of s) kind n r c))) in
@@ -139,7 +139,7 @@ module _ (s : List ℕ) (h : AcceptedArchive s) where
 
   -- so is each number of a kind that the change rewrites
   abbrev IsArchived : ℕ → Type 0
-  IsArchived kind = (n r c : ℕ) → Inside (kindAt (kinds s) kind) n r c → cell_value s kind n r c ≡ archived (archive_of s) kind n r c
+  IsArchived kind = (n r c : ℕ) → Inside (kind_at (kinds s) kind) n r c → cell_value s kind n r c ≡ archived (archive_of s) kind n r c
 
   phi-archived : IsArchived 11
   unfolding archived
@@ -154,7 +154,7 @@ module _ (s : List ℕ) (h : AcceptedArchive s) where
   ps-archived n r c = scaled-number 13 n r c h.ps_scaled (div-fits binary64 (at floats (matrix_at (archive_of s).ps n) r c) (archive_of s).sigma2)
 
   sigma2-archived : IsArchived 18
-  unfolding kindAt archive_kinds width archived archive_of
+  unfolding kind_at archive_kinds width archived archive_of
   sigma2-archived n r c v = rw (none n v.number, none r v.row, none c v.column)
 
   -- ---- and each number that sigma2 scales moves with it
@@ -162,30 +162,30 @@ module _ (s : List ℕ) (h : AcceptedArchive s) where
     abbrev after : Archive
     after = with_sigma2 (archive_of s) (scale (k +ℤ k) (archive_of s).sigma2)
 
-    is-archived : (kind n r c : ℕ) → (archive_change k).rewrites kind ≡ true → Inside (kindAt (kinds s) kind) n r c → cell_value s kind n r c ≡ archived (archive_of s) kind n r c
+    is-archived : (kind n r c : ℕ) → (archive_change k).rewrites kind ≡ true → Inside (kind_at (kinds s) kind) n r c → cell_value s kind n r c ≡ archived (archive_of s) kind n r c
     is-archived kind n r c e = among 11 12 13 18 IsArchived phi-archived phi_a-archived ps-archived sigma2-archived kind e n r c
 
     -- what is archived with the other sigma2 is, kind by kind, the number scaled by what the change does to it
     abbrev Moved : ℕ → Type 0
-    Moved kind = (n r c : ℕ) → Inside (kindAt (kinds s) kind) n r c → archived after kind n r c ≡ scale (moves (archive_change k) kind n r c) (archived (archive_of s) kind n r c)
+    Moved kind = (n r c : ℕ) → Inside (kind_at (kinds s) kind) n r c → archived after kind n r c ≡ scale (moves (archive_change k) kind n r c) (archived (archive_of s) kind n r c)
 
     phi-moved : Moved 11
-    unfolding kindAt archive_kinds width sizes sizes_at archived archive_of
+    unfolding kind_at archive_kinds width sizes sizes_at archived archive_of
     phi-moved n r c v = m.phi r c v.row v.column
 
     phi_a-moved : Moved 12
-    unfolding kindAt archive_kinds width sizes sizes_at archived archive_of
+    unfolding kind_at archive_kinds width sizes sizes_at archived archive_of
     phi_a-moved n r c v = m.phi_a r c v.row v.column
 
     ps-moved : Moved 13
-    unfolding kindAt archive_kinds width sizes sizes_at archived archive_of
+    unfolding kind_at archive_kinds width sizes sizes_at archived archive_of
     ps-moved n r c v = m.ps n r c v.number v.row v.column
 
     sigma2-moved : Moved 18
     unfolding archived
     sigma2-moved n r c v = refl
 
-    is-moved : (kind n r c : ℕ) → (archive_change k).rewrites kind ≡ true → Inside (kindAt (kinds s) kind) n r c
+    is-moved : (kind n r c : ℕ) → (archive_change k).rewrites kind ≡ true → Inside (kind_at (kinds s) kind) n r c
         → archived after kind n r c ≡ scale (moves (archive_change k) kind n r c) (archived (archive_of s) kind n r c)
     is-moved kind n r c e = among 11 12 13 18 Moved phi-moved phi_a-moved ps-moved sigma2-moved kind e n r c
 
@@ -208,7 +208,7 @@ module _ (s : List ℕ) (h : AcceptedArchive s) where
     unfolding archive_of
     archive-after = archive-same k s ∙ ap (with_sigma2 (archive_of s)) (scales k s archive-exact h.formed.within 18 0 0 0 refl)
 
-    number-after : (kind n r c : ℕ) → (archive_change k).rewrites kind ≡ true → Inside (kindAt (kinds s) kind) n r c
+    number-after : (kind n r c : ℕ) → (archive_change k).rewrites kind ≡ true → Inside (kind_at (kinds s) kind) n r c
         → cell_value (converted (archive_change k) s) kind n r c ≡ archived (archive_of (converted (archive_change k) s)) kind n r c
     number-after kind n r c e v =
         scales k s archive-exact h.formed.within kind n r c e
@@ -221,19 +221,19 @@ module _ (s : List ℕ) (h : AcceptedArchive s) where
     unfolding misscaled
     scaled-after kind e =
         let t : List ℕ = converted (archive_change k) s in
-        let z : Kind = kindAt (kinds t) kind in
+        let z : Kind = kind_at (kinds t) kind in
         none-any-cells (width z.count) (width z.row) (width z.column) (λ n r c. not (eqb (to_bits binary64 (cell_value t kind n r c)) (to_bits binary64 (archived (archive_of t) kind n r c))))
         (λ n r c i j l. ap not (eq-eqb (to_bits binary64 (cell_value t kind n r c)) (to_bits binary64 (archived (archive_of t) kind n r c))
-        (ap (to_bits binary64) (number-after kind n r c e (subst (λ (y : Table). Inside (kindAt y kind) n r c) (kinds-same k s) (record { number = i; row = j; column = l }))))))
+        (ap (to_bits binary64) (number-after kind n r c e (subst (λ (y : Table). Inside (kind_at y kind) n r c) (kinds-same k s) (record { number = i; row = j; column = l }))))))
 
-    positive-same : le (archive_of (converted (archive_change k) s)).sigma2 plusZero ≡ le (archive_of s).sigma2 plusZero
-    positive-same = ap (λ (a : Archive). le a.sigma2 plusZero) archive-after ∙ le-scale (k +ℤ k) (archive_of s).sigma2 plusZero
+    positive-same : le (archive_of (converted (archive_change k) s)).sigma2 plus_zero ≡ le (archive_of s).sigma2 plus_zero
+    positive-same = ap (λ (a : Archive). le a.sigma2 plus_zero) archive-after ∙ le-scale (k +ℤ k) (archive_of s).sigma2 plus_zero
 
     scaled-same : (kind : ℕ) → (archive_change k).rewrites kind ≡ true → misscaled s kind ≡ false → misscaled (converted (archive_change k) s) kind ≡ misscaled s kind
     scaled-same kind e none = scaled-after kind e ∙ sym none
 
     pub reasons-same : reasons (converted (archive_change k) s) ≡ reasons s
-    unfolding reasons orderReasons valueReasons scaled_reasons
+    unfolding reasons order_reasons value_reasons scaled_reasons
     reasons-same =
         rw ((alike k s).same_length, (alike k s).same_order, form-same k s, (alike k s).same_finite archive-exact, positive-same)
         (rw (scaled-same 11 refl h.phi_scaled, scaled-same 12 refl h.phi_a_scaled, scaled-same 13 refl h.ps_scaled))

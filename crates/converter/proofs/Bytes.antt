@@ -13,7 +13,7 @@ use Rattle.algebra.proofs.TableLaws.{row_at}
 use Rattle.algebra.proofs.FoldLaws.{length-span}
 use Rattle.records.specs.format.Bytes.{byte, bytes_of}
 use Rattle.records.specs.format.File.{count, kind_of}
-use Rattle.converter.specs.Converted.{Change, newBits, newByte, converted}
+use Rattle.converter.specs.Converted.{Change, new_bits, new_byte, converted}
 
 -- ---- the positions of record i
 pub at_quotient : (i o : ℕ) → o < 16 → (16 * i + o) / 16 ≡ i
@@ -40,11 +40,11 @@ and_last false b c h = refl
 module _ (g : Change) (s : List ℕ) where
   pub length-converted : length (converted g s) ≡ length s
   unfolding converted row
-  length-converted = length-span 0 (length s) (newByte g s) (replicate (length s) 0) ∙ length-replicate (length s) 0
+  length-converted = length-span 0 (length s) (new_byte g s) (replicate (length s) 0) ∙ length-replicate (length s) 0
 
-  pub byte-converted : (p : ℕ) → p < length s → byte (converted g s) p ≡ newByte g s p
+  pub byte-converted : (p : ℕ) → p < length s → byte (converted g s) p ≡ new_byte g s p
   unfolding converted
-  byte-converted p h = row_at 0 (length s) (length s) (newByte g s) p 0 h (omega arith)
+  byte-converted p h = row_at 0 (length s) (length s) (new_byte g s) p 0 h (omega arith)
 
   -- past the end both files read 0
   byte_past : (p : ℕ) → length s ≤ p → byte (converted g s) p ≡ byte s p
@@ -54,23 +54,23 @@ module _ (g : Change) (s : List ℕ) where
   abbrev Rewritten : ℕ → ℕ → Bool
   Rewritten i o = leb 8 o && (ltb i (count s) && g.rewrites (kind_of s i))
 
-  new_byte-old : (i o : ℕ) → o < 16 → Rewritten i o ≡ false → newByte g s (16 * i + o) ≡ byte s (16 * i + o)
-  unfolding newByte
+  new_byte-old : (i o : ℕ) → o < 16 → Rewritten i o ≡ false → new_byte g s (16 * i + o) ≡ byte s (16 * i + o)
+  unfolding new_byte
   new_byte-old i o h e = rw (at_rest i o h, at_quotient i o h, e)
 
-  new_byte-new : (i o : ℕ) → o < 16 → Rewritten i o ≡ true → newByte g s (16 * i + o) ≡ byte (bytes_of 8 (newBits g s i)) (o - 8)
-  unfolding newByte
+  new_byte-new : (i o : ℕ) → o < 16 → Rewritten i o ≡ true → new_byte g s (16 * i + o) ≡ byte (bytes_of 8 (new_bits g s i)) (o - 8)
+  unfolding new_byte
   new_byte-new i o h e = rw (at_rest i o h, at_quotient i o h, e)
 
   -- the first eight bytes of every record stay
-  pub new_byte-kept : (i o : ℕ) → o < 8 → newByte g s (16 * i + o) ≡ byte s (16 * i + o)
+  pub new_byte-kept : (i o : ℕ) → o < 8 → new_byte g s (16 * i + o) ≡ byte s (16 * i + o)
   new_byte-kept i o h = new_byte-old i o (omega arith) (and_none (leb 8 o) (ltb i (count s) && g.rewrites (kind_of s i)) (not-from o h))
 
   -- and all bytes of a record whose kind is not rewritten
-  pub new_byte-other : (i o : ℕ) → o < 16 → g.rewrites (kind_of s i) ≡ false → newByte g s (16 * i + o) ≡ byte s (16 * i + o)
+  pub new_byte-other : (i o : ℕ) → o < 16 → g.rewrites (kind_of s i) ≡ false → new_byte g s (16 * i + o) ≡ byte s (16 * i + o)
   new_byte-other i o h e = new_byte-old i o h (and_last (leb 8 o) (ltb i (count s)) (g.rewrites (kind_of s i)) e)
 
-  byte-old : (p : ℕ) → newByte g s p ≡ byte s p → byte (converted g s) p ≡ byte s p
+  byte-old : (p : ℕ) → new_byte g s p ≡ byte s p → byte (converted g s) p ≡ byte s p
   byte-old p e = go (dec_lt p (length s))
     where
       go : Dec (p < length s) → byte (converted g s) p ≡ byte s p
@@ -84,11 +84,11 @@ module _ (g : Change) (s : List ℕ) where
   byte-other i o h e = byte-old (16 * i + o) (new_byte-other i o h e)
 
   -- a rewritten record holds the new value's bytes
-  pub byte-new : (i o : ℕ) → i < count s → g.rewrites (kind_of s i) ≡ true → o < 8 → byte (converted g s) (16 * i + 8 + o) ≡ byte (bytes_of 8 (newBits g s i)) o
+  pub byte-new : (i o : ℕ) → i < count s → g.rewrites (kind_of s i) ≡ true → o < 8 → byte (converted g s) (16 * i + 8 + o) ≡ byte (bytes_of 8 (new_bits g s i)) o
   byte-new i o l e h =
       let k : i * 16 + 16 ≤ length s = whole (length s) i l in
       let r : Rewritten i (8 + o) ≡ true = rw (is_true (leb 8 (8 + o)) (le→leb 8 (8 + o) (omega arith)), is_true (ltb i (count s)) (lt→ltb i (count s) l), e) in
-      ap (byte (converted g s)) (place i o) ∙ byte-converted (16 * i + (8 + o)) (omega arith) ∙ new_byte-new i (8 + o) (omega arith) r ∙ ap (byte (bytes_of 8 (newBits g s i))) (back o)
+      ap (byte (converted g s)) (place i o) ∙ byte-converted (16 * i + (8 + o)) (omega arith) ∙ new_byte-new i (8 + o) (omega arith) r ∙ ap (byte (bytes_of 8 (new_bits g s i))) (back o)
     where
       whole : (n i : ℕ) → i < n / 16 → i * 16 + 16 ≤ n
       whole n i h = omega arith

@@ -8,15 +8,15 @@ use Rattle.arithmetic.proofs.PlainLaws.{clash}
 use Rattle.records.specs.declared.Field.{Field}
 use Rattle.records.specs.declared.Field.TheVariants.{Index, Number, Unused}
 use Rattle.records.specs.declared.Kind.{Kind}
-use Rattle.records.specs.format.Kinds.{holds, indexOf, Table, kindAt}
+use Rattle.records.specs.format.Kinds.{holds, index_of, Table, kind_at}
 use Rattle.records.specs.format.File.{kind_of, row_of, column_of, count_of, cell_count, cell_row, cell_column, beyond}
 use Rattle.records.proofs.format.ScanLaws.{or-false}
 use Rattle.records.proofs.format.Slots.{within}
 use Rattle.converter.specs.ReadAlike.{is_number, numbered}
 
 -- a field that is no number names its cell by what it holds
-held-index : (f : Field) (x : ℕ) → is_number f ≡ false → holds f x ≡ true → indexOf f x ≡ x
-unfolding is_number holds indexOf
+held-index : (f : Field) (x : ℕ) → is_number f ≡ false → holds f x ≡ true → index_of f x ≡ x
+unfolding is_number holds index_of
 held-index (Index limit) x e h = refl
 held-index Number x e h = clash refl e
 held-index Unused x e h = sym (eqb-true x 0 h)
@@ -27,10 +27,10 @@ pub record Own (t : Table) (s : List ℕ) (i : ℕ) : Type 0 where
   pub column : cell_column t s i ≡ column_of s i
   pub number : cell_count t s i ≡ count_of s i
 
-pub own-fields : (t : Table) (s : List ℕ) (i : ℕ) → beyond t s i ≡ false → numbered (kindAt t (kind_of s i)) ≡ false → Own t s i
+pub own-fields : (t : Table) (s : List ℕ) (i : ℕ) → beyond t s i ≡ false → numbered (kind_at t (kind_of s i)) ≡ false → Own t s i
 unfolding beyond
 own-fields t s i b e =
-    let z : Kind = kindAt t (kind_of s i) in
+    let z : Kind = kind_at t (kind_of s i) in
     let w = within z s i b in
     let f = or-false (is_number z.count || is_number z.row) (is_number z.column) e in
     let h = or-false (is_number z.count) (is_number z.row) f.0 in

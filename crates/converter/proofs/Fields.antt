@@ -11,7 +11,7 @@ use lib.Ieee.Bits.{of_bits-to_bits, to_bits-lt}
 use Rattle.records.specs.format.Bytes.{byte, bytes_of}
 use Rattle.records.specs.format.File.{count, kind_of, row_of, column_of, count_of, bits_of, first_value_of, value_of}
 use Rattle.records.specs.format.Alike.{Alike, Stays}
-use Rattle.converter.specs.Converted.{Change, rewritten, newBits, converted}
+use Rattle.converter.specs.Converted.{Change, rewritten, new_bits, converted}
 use Rattle.records.proofs.format.WrittenLaws.{long-bytes, word_same, long_same}
 use Rattle.converter.proofs.Bytes.{length-converted, byte-kept, byte-other, byte-new}
 use Rattle.converter.proofs.Rewritten.{rewritten-fits}
@@ -44,12 +44,12 @@ module _ (g : Change) (s : List ℕ) where
   abbrev new_value : ℕ → Float
   new_value i = rewritten g (kind_of s i) (count_of s i) (row_of s i) (column_of s i) (value_of s i)
 
-  new_bits-small : (i : ℕ) → newBits g s i < 2 ^ 64
-  unfolding newBits
+  new_bits-small : (i : ℕ) → new_bits g s i < 2 ^ 64
+  unfolding new_bits
   new_bits-small i = to_bits-lt binary64 (new_value i) (rewritten-fits g (kind_of s i) (count_of s i) (row_of s i) (column_of s i) (value_of s i))
 
-  pub bits-new : (i : ℕ) → i < count s → g.rewrites (kind_of s i) ≡ true → bits_of (converted g s) i ≡ newBits g s i
-  bits-new i l e = long_same (bytes_of 8 (newBits g s i)) (converted g s) (16 * i + 8) 0 (λ o h. byte-new g s i o l e h ∙ ap (byte (bytes_of 8 (newBits g s i))) (from_start o)) ∙ long-bytes (newBits g s i) (new_bits-small i)
+  pub bits-new : (i : ℕ) → i < count s → g.rewrites (kind_of s i) ≡ true → bits_of (converted g s) i ≡ new_bits g s i
+  bits-new i l e = long_same (bytes_of 8 (new_bits g s i)) (converted g s) (16 * i + 8) 0 (λ o h. byte-new g s i o l e h ∙ ap (byte (bytes_of 8 (new_bits g s i))) (from_start o)) ∙ long-bytes (new_bits g s i) (new_bits-small i)
     where
       from_start : (o : ℕ) → o ≡ 0 + o
       from_start o = omega arith
@@ -62,5 +62,5 @@ module _ (g : Change) (s : List ℕ) where
   kept-stays k e i q = value-other i (ap g.rewrites q ∙ e)
 
   pub value-new : (i : ℕ) → i < count s → g.rewrites (kind_of s i) ≡ true → value_of (converted g s) i ≡ rewritten g (kind_of s i) (count_of s i) (row_of s i) (column_of s i) (value_of s i)
-  unfolding newBits
+  unfolding new_bits
   value-new i l e = ap (of_bits binary64) (bits-new i l e) ∙ of_bits-to_bits binary64 (new_value i) (rewritten-fits g (kind_of s i) (count_of s i) (row_of s i) (column_of s i) (value_of s i))

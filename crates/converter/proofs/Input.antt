@@ -12,7 +12,7 @@ use Rattle.arithmetic.specs.Scale.{scale, power_of_two}
 use Rattle.algebra.specs.Kind.{floats}
 use Rattle.algebra.specs.Product.{at}
 use Rattle.records.specs.format.Scan.{any}
-use Rattle.records.specs.format.Kinds.{Table, kindAt, kenward_roger_kinds, width}
+use Rattle.records.specs.format.Kinds.{Table, kind_at, kenward_roger_kinds, width}
 use Rattle.records.specs.format.File.{count, cell, beyond}
 use Rattle.records.specs.readers.Series.{coefficients, contrast_rows, sizes, kinds, sigma2, beta, beta_h, contrast, reasons}
 use Rattle.records.proofs.readers.AcceptedSeries.{AcceptedSeries}
@@ -33,12 +33,12 @@ pub record InputExact (k : ℤ) (m : ℕ → ℤ) (s : List ℕ) : Type 0 where
 
 -- ---- so are the numbers in all cells that the sizes leave these kinds, and with them the values of all records that hold them
 series-kinds : (s : List ℕ) → AskedKinds (kinds s) s (coefficients s)
-unfolding kindAt kenward_roger_kinds sizes
+unfolding kind_at kenward_roger_kinds sizes
 series-kinds s = record { estimates = refl; lines = refl; hypotheses = refl }
 
 module _ (w : ℕ) (k : ℤ) (m : ℕ → ℤ) (s : List ℕ) (c : AcceptedSeries w s) (h : InputExact k m s) where
   variance-again : AskedAgain k m (kinds s) s 7
-  unfolding kindAt kenward_roger_kinds width kenward_roger_shift
+  unfolding kind_at kenward_roger_kinds width kenward_roger_shift
   variance-again n r j i = rw (none n i.number, none r i.row, none j i.column) h.variance
 
   pub input-exact : Exact (kenward_roger_change k m) s
@@ -68,7 +68,7 @@ module _ (k : ℤ) (m : ℕ → ℤ) (s : List ℕ) (within : any (count s) (bey
   same-kinds : kinds s' ≡ kinds s
   same-kinds = kinds-same alike.alike
 
-  named : (kind : ℕ) → (kenward_roger_change k m).rewrites kind ≡ true → numbered (kindAt (kinds s) kind) ≡ false
+  named : (kind : ℕ) → (kenward_roger_change k m).rewrites kind ≡ true → numbered (kind_at (kinds s) kind) ≡ false
   named = series-numbered k m (sizes s)
 
   pub sigma2-product : sigma2 s' ≡ mul binary64 (sigma2 s) (power_of_two (k +ℤ k))

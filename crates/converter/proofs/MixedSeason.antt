@@ -13,7 +13,7 @@ use Rattle.records.specs.format.Scan.{any}
 use Rattle.records.specs.text.Season.{closes, series_to}
 use Rattle.records.specs.promises.Bench.{pull_bytes, pull_file}
 use Rattle.records.specs.promises.SeasonPrints.{season_bytes}
-use Rattle.converter.specs.Converted.{Change, kenward_roger_shift, rewritten, newBits, newByte}
+use Rattle.converter.specs.Converted.{Change, kenward_roger_shift, rewritten, new_bits, new_byte}
 use Rattle.converter.specs.SeasonDemand.{converted_season, season_change}
 
 -- document 01's `pulltest` series with β 3 in the place of 6; and what k = 5 and m = -3 make of it: sigma2 8 becomes 8192, β 3 becomes 96, contrast 1 becomes 1/8
@@ -39,5 +39,5 @@ after_first = season_change later_power later_rows
 
 -- the first series has its bytes, and the second those that its own change makes
 pub season-computed : converted_season after_first (season_of_two later_file) ≡ season_of_two later_shifted
-unfolding converted_season season_bytes series_to closes any newByte newBits rewritten kenward_roger_shift row fold word long bytes_of mul of_bits to_bits
+unfolding converted_season season_bytes series_to closes any new_byte new_bits rewritten kenward_roger_shift row fold word long bytes_of mul of_bits to_bits
 season-computed = refl

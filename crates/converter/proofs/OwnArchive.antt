@@ -12,7 +12,7 @@ use Rattle.arithmetic.specs.Scale.{scale}
 use Rattle.algebra.specs.Reasons.{first}
 use Rattle.records.specs.declared.Kind.{Kind}
 use Rattle.records.specs.format.Bytes.{byte}
-use Rattle.records.specs.format.Kinds.{kindAt, kind_numbers, width, archive_kinds}
+use Rattle.records.specs.format.Kinds.{kind_at, kind_numbers, width, archive_kinds}
 use Rattle.records.specs.format.Cells.{slot}
 use Rattle.records.specs.format.Written.{field_of, cell_record, file_of}
 use Rattle.records.specs.readers.Archive.{Archive, sizes_at, archived, archive_content, archive_bytes, archive_of, refusal}
@@ -30,7 +30,7 @@ use Rattle.converter.proofs.Parts.{record-below, below-converted}
 -- ---- an archive's file is made of bytes
 module _ (a : Archive) (few : a.coefficients ≤ 6) (fewer : a.parameters ≤ 4) where
   -- no index that its kinds use is above a byte
-  widths : (k : ℕ) → (width (kindAt (archive_kinds_of a) k).row ≤ 256) × (width (kindAt (archive_kinds_of a) k).column ≤ 256)
+  widths : (k : ℕ) → (width (kind_at (archive_kinds_of a) k).row ≤ 256) × (width (kind_at (archive_kinds_of a) k).column ≤ 256)
   unfolding archive_kinds sizes_at width
   widths k =
       let p : a.coefficients ≤ 256 = omega arith in
@@ -39,11 +39,11 @@ module _ (a : Archive) (few : a.coefficients ≤ 6) (fewer : a.parameters ≤ 4)
       let none : 0 ≤ 256 = lit≤ tt in
       each-numbered (archive_kinds_of a) (λ k z. (width z.row ≤ 256) × (width z.column ≤ 256)) ((p, p), ((p, p), ((p, p), ((N, N), ((p, p), ((p, p), ((p, p), ((one, one), tt)))))))) k (none, one)
 
-  record-byte : (k n r c o : ℕ) → k < kind_numbers → r < width (kindAt (archive_kinds_of a) k).row → c < width (kindAt (archive_kinds_of a) k).column
-      → byte (cell_record (kindAt (archive_kinds_of a) k) k n r c (archive_content a k n r c)) o < 256
+  record-byte : (k n r c o : ℕ) → k < kind_numbers → r < width (kind_at (archive_kinds_of a) k).row → c < width (kind_at (archive_kinds_of a) k).column
+      → byte (cell_record (kind_at (archive_kinds_of a) k) k n r c (archive_content a k n r c)) o < 256
   unfolding cell_record archive_content
   record-byte k n r c o l i j =
-      let z : Kind = kindAt (archive_kinds_of a) k in
+      let z : Kind = kind_at (archive_kinds_of a) k in
       record-below k (field_of z.row r 0) (field_of z.column c 0) (field_of z.count n 0) (to_bits binary64 (archived a k n r c)) (omega arith)
       (field_below z.row r 0 256 i (widths k).0 (lit< tt)) (field_below z.column c 0 256 j (widths k).1 (lit< tt)) o
 

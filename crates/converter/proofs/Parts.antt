@@ -12,8 +12,8 @@ use lib.ListN.{length, drop, length-append, length-drop, get_or-append, get_or-e
 use lib.Seq.{ext_get_or, get_or-take, get_or-drop, get_or-append-add, length-take-le}
 use Rattle.records.specs.format.Bytes.{byte, bytes_of}
 use Rattle.records.specs.format.File.{count, kind_of}
-use Rattle.records.specs.format.Written.{recordOf, sequence, record_at, records_of}
-use Rattle.converter.specs.Converted.{Change, newBits, newByte, converted}
+use Rattle.records.specs.format.Written.{record_of, sequence, record_at, records_of}
+use Rattle.converter.specs.Converted.{Change, new_bits, new_byte, converted}
 use Rattle.converter.proofs.Bytes.{length-converted, byte-converted}
 use Rattle.converter.proofs.Fields.{converted-alike}
 use Rattle.converter.proofs.Season.{new_byte-equal}
@@ -132,7 +132,7 @@ append-below [] y f h i = h i
 append-below (a ∷ x) y f h zero = f 0
 append-below (a ∷ x) y f h (suc i) = append-below x y (λ j. f (suc j)) h i
 
-pub record-below : (k r c n b : ℕ) → k < 256 → r < 256 → c < 256 → (o : ℕ) → byte (recordOf k r c n b) o < 256
+pub record-below : (k r c n b : ℕ) → k < 256 → r < 256 → c < 256 → (o : ℕ) → byte (record_of k r c n b) o < 256
 record-below k r c n b hk hr hc zero = hk
 record-below k r c n b hk hr hc (suc zero) = hr
 record-below k r c n b hk hr hc (suc (suc zero)) = hc
@@ -140,11 +140,11 @@ record-below k r c n b hk hr hc (suc (suc (suc zero))) = lit< tt
 record-below k r c n b hk hr hc (suc (suc (suc (suc o)))) = append-below (bytes_of 4 n) (bytes_of 8 b) (bytes_of-below 4 n) (bytes_of-below 8 b) o
 
 pub below-converted : (g : Change) (s : List ℕ) → ((i : ℕ) → byte s i < 256) → (i : ℕ) → byte (converted g s) i < 256
-unfolding newByte
+unfolding new_byte
 below-converted g s h p = go (dec_lt p (length s))
   where
-    either : (b : Bool) → cond b (byte (bytes_of 8 (newBits g s (p / 16))) (p % 16 - 8)) (byte s p) < 256
-    either true = bytes_of-below 8 (newBits g s (p / 16)) (p % 16 - 8)
+    either : (b : Bool) → cond b (byte (bytes_of 8 (new_bits g s (p / 16))) (p % 16 - 8)) (byte s p) < 256
+    either true = bytes_of-below 8 (new_bits g s (p / 16)) (p % 16 - 8)
     either false = h p
 
     go : Dec (p < length s) → byte (converted g s) p < 256

@@ -7,7 +7,7 @@ use lib.Dec.{T}
 use lib.IntN.{ℤ, neg_ℤ}
 use lib.Ieee.{Float, nan, inf, fin, Format, binary64, up, down, round, fits, mul, div, unlike}
 use lib.Ieee.Fits.{mul-fits}
-use Rattle.arithmetic.specs.Numbers.{plusZero}
+use Rattle.arithmetic.specs.Numbers.{plus_zero}
 use Rattle.arithmetic.specs.Scale.{scale, power_of_two}
 use Rattle.arithmetic.proofs.Operations.{up_neg, down-neg}
 use Rattle.arithmetic.proofs.PowerOfTwo.{scale-is-mul}
@@ -43,6 +43,6 @@ module _ (g : Change) (k n r c : ℕ) where
   pub rewritten-scales : (x : Float) → T (fits binary64 (scale (moves g k n r c) x)) → rewritten g k n r c x ≡ scale (moves g k n r c) x
   rewritten-scales x t = rewritten-product x ∙ scale-is-mul binary64 (moves g k n r c) x t
 
-  pub rewritten-zero : plusZero ≡ rewritten g k n r c plusZero
+  pub rewritten-zero : plus_zero ≡ rewritten g k n r c plus_zero
   unfolding fits
-  rewritten-zero = sym (rewritten-scales plusZero tt)
+  rewritten-zero = sym (rewritten-scales plus_zero tt)

@@ -8,38 +8,38 @@ use Rattle.arithmetic.specs.Scale.{scale}
 use Rattle.records.specs.declared.Sizes.{Sizes}
 use Rattle.records.specs.declared.Value.TheVariants.{Float as FloatBits}
 use Rattle.records.specs.format.Scan.{any}
-use Rattle.records.specs.format.Kinds.{Table, kindAt, satterthwaiteKinds, limits, satterthwaite}
-use Rattle.records.specs.format.File.{count, cell, beyond, formReasons}
-use Rattle.records.specs.format.Order.{orderReasons}
-use Rattle.records.specs.readers.Parameters.{coefficients, contrast_rows, parameters, sizes, kinds, cell_value, valueReasons, reasons}
-use Rattle.converter.specs.Converted.{satterthwaiteShift, satterthwaiteChange, converted}
+use Rattle.records.specs.format.Kinds.{Table, kind_at, satterthwaite_kinds, limits, satterthwaite}
+use Rattle.records.specs.format.File.{count, cell, beyond, form_reasons}
+use Rattle.records.specs.format.Order.{order_reasons}
+use Rattle.records.specs.readers.Parameters.{coefficients, contrast_rows, parameters, sizes, kinds, cell_value, value_reasons, reasons}
+use Rattle.converter.specs.Converted.{satterthwaite_shift, satterthwaite_change, converted}
 use Rattle.converter.specs.ReadAlike.{Exact, OnFloats, is_number, numbered, ReadAlike}
 use Rattle.converter.proofs.Among.{among}
 use Rattle.converter.proofs.ReadAlike.{converted-reads-alike}
 
 -- β, β_H, v and the Jacobians: f64 bits, in cells that the fields name, at any sizes
-parameters-floats : (k : ℤ) (z : Sizes) → OnFloats (satterthwaiteChange k) (satterthwaiteKinds z)
-unfolding kindAt satterthwaiteKinds
-parameters-floats k z = among 8 10 30 31 (λ j. (kindAt (satterthwaiteKinds z) j).value ≡ FloatBits) refl refl refl refl
+parameters-floats : (k : ℤ) (z : Sizes) → OnFloats (satterthwaite_change k) (satterthwaite_kinds z)
+unfolding kind_at satterthwaite_kinds
+parameters-floats k z = among 8 10 30 31 (λ j. (kind_at (satterthwaite_kinds z) j).value ≡ FloatBits) refl refl refl refl
 
-pub parameters-numbered : (k : ℤ) (z : Sizes) (kind : ℕ) → (satterthwaiteChange k).rewrites kind ≡ true → numbered (kindAt (satterthwaiteKinds z) kind) ≡ false
-unfolding kindAt satterthwaiteKinds is_number
-parameters-numbered k z = among 8 10 30 31 (λ j. numbered (kindAt (satterthwaiteKinds z) j) ≡ false) refl refl refl refl
+pub parameters-numbered : (k : ℤ) (z : Sizes) (kind : ℕ) → (satterthwaite_change k).rewrites kind ≡ true → numbered (kind_at (satterthwaite_kinds z) kind) ≡ false
+unfolding kind_at satterthwaite_kinds is_number
+parameters-numbered k z = among 8 10 30 31 (λ j. numbered (kind_at (satterthwaite_kinds z) j) ≡ false) refl refl refl refl
 
 module _ (k : ℤ) (s : List ℕ) where
   abbrev s' : List ℕ
-  s' = converted (satterthwaiteChange k) s
+  s' = converted (satterthwaite_change k) s
 
-  alike : ReadAlike (satterthwaiteChange k) satterthwaite (kinds s) s (converted (satterthwaiteChange k) s)
-  alike = converted-reads-alike (satterthwaiteChange k) satterthwaite (kinds s) s (parameters-floats k (limits 1))
+  alike : ReadAlike (satterthwaite_change k) satterthwaite (kinds s) s (converted (satterthwaite_change k) s)
+  alike = converted-reads-alike (satterthwaite_change k) satterthwaite (kinds s) s (parameters-floats k (limits 1))
 
-  pub p-same : coefficients (converted (satterthwaiteChange k) s) ≡ coefficients s
+  pub p-same : coefficients (converted (satterthwaite_change k) s) ≡ coefficients s
   p-same = ap (max 1) (alike.same_rows 8)
 
-  pub q-same : contrast_rows (converted (satterthwaiteChange k) s) ≡ contrast_rows s
+  pub q-same : contrast_rows (converted (satterthwaite_change k) s) ≡ contrast_rows s
   q-same = ap (max 1) (alike.same_rows 9)
 
-  pub n-same : parameters (converted (satterthwaiteChange k) s) ≡ parameters s
+  pub n-same : parameters (converted (satterthwaite_change k) s) ≡ parameters s
   n-same = rw (alike.same_rows 32, alike.same_columns 32)
 
   sizes-same : sizes s' ≡ sizes s
@@ -47,20 +47,20 @@ module _ (k : ℤ) (s : List ℕ) where
   sizes-same = rw (alike.same_rows 8, alike.same_rows 9, alike.same_rows 10, alike.same_rows 32, alike.same_columns 32)
 
   kinds-same : kinds s' ≡ kinds s
-  kinds-same = ap satterthwaiteKinds sizes-same
+  kinds-same = ap satterthwaite_kinds sizes-same
 
-  pub stays : (kind n r c : ℕ) → (satterthwaiteChange k).rewrites kind ≡ false → cell_value (converted (satterthwaiteChange k) s) kind n r c ≡ cell_value s kind n r c
+  pub stays : (kind n r c : ℕ) → (satterthwaite_change k).rewrites kind ≡ false → cell_value (converted (satterthwaite_change k) s) kind n r c ≡ cell_value s kind n r c
   stays kind n r c e = ap (λ (t : Table). cell t s' kind n r c) kinds-same ∙ alike.kept_cell kind n r c e
 
-  form-same : formReasons satterthwaite (kinds s') s' ≡ formReasons satterthwaite (kinds s) s
-  form-same = ap (λ (t : Table). formReasons satterthwaite t s') kinds-same ∙ alike.same_form
+  form-same : form_reasons satterthwaite (kinds s') s' ≡ form_reasons satterthwaite (kinds s) s
+  form-same = ap (λ (t : Table). form_reasons satterthwaite t s') kinds-same ∙ alike.same_form
 
-  module _ (h : Exact (satterthwaiteChange k) s) where
-    pub scales : any (count s) (beyond (kinds s) s) ≡ false → (kind n r c : ℕ) → (satterthwaiteChange k).rewrites kind ≡ true
-        → cell_value (converted (satterthwaiteChange k) s) kind n r c ≡ scale (satterthwaiteShift k kind n r c) (cell_value s kind n r c)
+  module _ (h : Exact (satterthwaite_change k) s) where
+    pub scales : any (count s) (beyond (kinds s) s) ≡ false → (kind n r c : ℕ) → (satterthwaite_change k).rewrites kind ≡ true
+        → cell_value (converted (satterthwaite_change k) s) kind n r c ≡ scale (satterthwaite_shift k kind n r c) (cell_value s kind n r c)
     scales within kind n r c e =
         ap (λ (t : Table). cell t s' kind n r c) kinds-same ∙ alike.scaled_cell h within kind n r c e (parameters-numbered k (sizes s) kind e)
 
-    pub reasons-same : reasons (converted (satterthwaiteChange k) s) ≡ reasons s
-    unfolding reasons orderReasons valueReasons
+    pub reasons-same : reasons (converted (satterthwaite_change k) s) ≡ reasons s
+    unfolding reasons order_reasons value_reasons
     reasons-same = rw (alike.same_length, alike.same_order, form-same, alike.same_finite h)

@@ -20,7 +20,7 @@ use Rattle.records.specs.text.Season.{closes, begins, series_before, series_to, 
 use Rattle.records.proofs.format.ScanLaws.{last-same}
 use Rattle.records.proofs.format.WrittenLaws.{word_same, long_same}
 use Rattle.records.proofs.text.SeasonLaws.{closes-same, begins-more, left-length}
-use Rattle.converter.specs.Converted.{Change, newBits, newByte, converted}
+use Rattle.converter.specs.Converted.{Change, new_bits, new_byte, converted}
 use Rattle.converter.specs.SeasonDemand.{series_number, converted_season, season_change, SeasonConverted, SeasonConverts}
 use Rattle.converter.proofs.Bytes.{at_quotient, at_rest, length-converted, byte-converted, new_byte-kept, new_byte-other}
 
@@ -38,12 +38,12 @@ module _ (g : Change) (s t : List ℕ) (i j : ℕ) (same : (o : ℕ) → o < 16 
   bits-equal : bits_of s i ≡ bits_of t j
   bits-equal = long_same t s (16 * i + 8) (16 * j + 8) (λ o h. ap (byte s) (on i 8 o) ∙ same (8 + o) (omega arith) ∙ ap (byte t) (sym (on j 8 o)))
 
-  new_bits-equal : newBits g s i ≡ newBits g t j
-  unfolding newBits
+  new_bits-equal : new_bits g s i ≡ new_bits g t j
+  unfolding new_bits
   new_bits-equal = rw (kind-equal, count-equal, same 1 (lit< tt), same 2 (lit< tt), bits-equal)
 
-  pub new_byte-equal : i < count s → j < count t → (o : ℕ) → o < 16 → newByte g s (16 * i + o) ≡ newByte g t (16 * j + o)
-  unfolding newByte
+  pub new_byte-equal : i < count s → j < count t → (o : ℕ) → o < 16 → new_byte g s (16 * i + o) ≡ new_byte g t (16 * j + o)
+  unfolding new_byte
   new_byte-equal l k o h =
       rw (at_rest i o h, at_rest j o h, at_quotient i o h, at_quotient j o h, is_true (ltb i (count s)) (lt→ltb i (count s) l), is_true (ltb j (count t)) (lt→ltb j (count t) k), kind-equal, new_bits-equal, same o h)
 
@@ -82,14 +82,14 @@ module _ (g : ℕ → Change) (other : (j : ℕ) → (g j).rewrites 21 ≡ false
   -- ---- the bytes
   length-season : length s' ≡ length s
   unfolding converted_season row
-  length-season = length-span 0 (length s) (λ p. newByte (own (p / 16)) s p) (replicate (length s) 0) ∙ length-replicate (length s) 0
+  length-season = length-span 0 (length s) (λ p. new_byte (own (p / 16)) s p) (replicate (length s) 0) ∙ length-replicate (length s) 0
 
-  byte-season : (i o : ℕ) → o < 16 → 16 * i + o < length s → byte s' (16 * i + o) ≡ newByte (own i) s (16 * i + o)
+  byte-season : (i o : ℕ) → o < 16 → 16 * i + o < length s → byte s' (16 * i + o) ≡ new_byte (own i) s (16 * i + o)
   unfolding converted_season
-  byte-season i o h l = row_at 0 (length s) (length s) (λ p. newByte (own (p / 16)) s p) (16 * i + o) 0 l (omega arith) ∙ ap (λ (x : ℕ). newByte (own x) s (16 * i + o)) (at_quotient i o h)
+  byte-season i o h l = row_at 0 (length s) (length s) (λ p. new_byte (own (p / 16)) s p) (16 * i + o) 0 l (omega arith) ∙ ap (λ (x : ℕ). new_byte (own x) s (16 * i + o)) (at_quotient i o h)
 
   -- a byte that the record's change keeps stays; past the end both files read 0
-  byte-stays : (i o : ℕ) → o < 16 → newByte (own i) s (16 * i + o) ≡ byte s (16 * i + o) → byte s' (16 * i + o) ≡ byte s (16 * i + o)
+  byte-stays : (i o : ℕ) → o < 16 → new_byte (own i) s (16 * i + o) ≡ byte s (16 * i + o) → byte s' (16 * i + o) ≡ byte s (16 * i + o)
   byte-stays i o h e = go (dec_lt (16 * i + o) (length s))
     where
       go : Dec (16 * i + o < length s) → byte s' (16 * i + o) ≡ byte s (16 * i + o)
@@ -141,7 +141,7 @@ module _ (g : ℕ → Change) (other : (j : ℕ) → (g j).rewrites 21 ≡ false
         let z = length_part s refl in
         byte-part s' i o k l
         ∙ byte-season (b + i) o k (omega arith)
-        ∙ ap (λ (j : ℕ). newByte (g j) s (16 * (b + i) + o)) (number-within s n (b + i) (omega arith) (omega arith))
+        ∙ ap (λ (j : ℕ). new_byte (g j) s (16 * (b + i) + o)) (number-within s n (b + i) (omega arith) (omega arith))
         ∙ new_byte-equal (own n) s t (b + i) i (λ x y. sym (byte-part s i x y l)) (omega arith) (omega arith) o k
         ∙ sym (byte-converted (own n) t (16 * i + o) (omega arith))
 

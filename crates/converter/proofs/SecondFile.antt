@@ -8,7 +8,7 @@ use mathlib.Core.List.{List}
 use lib.IntN.{ℤ}
 use lib.ListN.{get_or}
 use lib.Ieee.{nan, binary64, mul}
-use Rattle.arithmetic.specs.Numbers.{plusZero, is_zero}
+use Rattle.arithmetic.specs.Numbers.{plus_zero, is_zero}
 use Rattle.arithmetic.specs.Scale.{power_of_two}
 use Rattle.arithmetic.proofs.PlainLaws.{zero-scale}
 use Rattle.algebra.specs.Kind.{floats}
@@ -17,10 +17,10 @@ use Rattle.algebra.proofs.TableLaws.{row_at, table_at}
 use Rattle.records.specs.declared.Sizes.{Sizes}
 use Rattle.records.specs.declared.Value.TheVariants.{Float as FloatBits}
 use Rattle.records.specs.format.Scan.{any}
-use Rattle.records.specs.format.Kinds.{Table, kindAt, width, test_kinds, limits, test_table}
-use Rattle.records.specs.format.File.{count, cell, present, beyond, formReasons}
-use Rattle.records.specs.format.Order.{orderReasons}
-use Rattle.records.specs.readers.SecondFile.{coefficients, contrast_rows, sizes, kinds, cell_value, zero_contrast, reader, formed_for, valueReasons, reasons, beta, beta_h, contrast}
+use Rattle.records.specs.format.Kinds.{Table, kind_at, width, test_kinds, limits, test_table}
+use Rattle.records.specs.format.File.{count, cell, present, beyond, form_reasons}
+use Rattle.records.specs.format.Order.{order_reasons}
+use Rattle.records.specs.readers.SecondFile.{coefficients, contrast_rows, sizes, kinds, cell_value, zero_contrast, reader, formed_for, value_reasons, reasons, beta, beta_h, contrast}
 use Rattle.records.proofs.format.ScanLaws.{any_same}
 use Rattle.records.proofs.readers.ReaderLaws.{WellFormed}
 use Rattle.converter.specs.Converted.{kenward_roger_shift, kenward_roger_change, converted}
@@ -31,30 +31,30 @@ use Rattle.converter.proofs.Asked.{AskedExact, AskedKinds, AskedAgain, column-pr
 
 -- β, contrast and β_H: f64 bits, in cells that the fields name, at any sizes; a record of kind 7 would be a bad one
 tests-floats : (k : ℤ) (m : ℕ → ℤ) (z : Sizes) → OnFloats (kenward_roger_change k m) (test_kinds z)
-unfolding kindAt test_kinds
-tests-floats k m z = among 7 8 9 10 (λ j. (kindAt (test_kinds z) j).value ≡ FloatBits) refl refl refl refl
+unfolding kind_at test_kinds
+tests-floats k m z = among 7 8 9 10 (λ j. (kind_at (test_kinds z) j).value ≡ FloatBits) refl refl refl refl
 
-tests-numbered : (k : ℤ) (m : ℕ → ℤ) (z : Sizes) (kind : ℕ) → (kenward_roger_change k m).rewrites kind ≡ true → numbered (kindAt (test_kinds z) kind) ≡ false
-unfolding kindAt test_kinds is_number
-tests-numbered k m z = among 7 8 9 10 (λ j. numbered (kindAt (test_kinds z) j) ≡ false) refl refl refl refl
+tests-numbered : (k : ℤ) (m : ℕ → ℤ) (z : Sizes) (kind : ℕ) → (kenward_roger_change k m).rewrites kind ≡ true → numbered (kind_at (test_kinds z) kind) ≡ false
+unfolding kind_at test_kinds is_number
+tests-numbered k m z = among 7 8 9 10 (λ j. numbered (kind_at (test_kinds z) j) ≡ false) refl refl refl refl
 
 tests-kinds : (u : List ℕ) → AskedKinds (kinds u) u (coefficients u)
-unfolding kindAt test_kinds sizes
+unfolding kind_at test_kinds sizes
 tests-kinds u = record { estimates = refl; lines = refl; hypotheses = refl }
 
 -- ---- where the numbers of a second file stand
 module _ (u : List ℕ) (hp : coefficients u ≤ 6) where
   pub beta-at : (i : ℕ) → i < coefficients u → get_or (beta u) i nan ≡ cell_value u 8 i 0
   unfolding beta
-  beta-at i l = row_at plusZero 6 (coefficients u) (λ i. cell_value u 8 i 0) i nan l hp
+  beta-at i l = row_at plus_zero 6 (coefficients u) (λ i. cell_value u 8 i 0) i nan l hp
 
   pub beta_h-at : (i : ℕ) → i < coefficients u → get_or (beta_h u) i nan ≡ cell_value u 10 i 0
   unfolding beta_h
-  beta_h-at i l = row_at plusZero 6 (coefficients u) (λ i. cell_value u 10 i 0) i nan l hp
+  beta_h-at i l = row_at plus_zero 6 (coefficients u) (λ i. cell_value u 10 i 0) i nan l hp
 
   pub contrast-at : contrast_rows u ≤ 6 → (i j : ℕ) → i < contrast_rows u → j < coefficients u → at floats (contrast u) i j ≡ cell_value u 9 i j
   unfolding contrast
-  contrast-at hr i j o l = table_at plusZero 6 6 (contrast_rows u) (coefficients u) (cell_value u 9) i j nan o l hr hp
+  contrast-at hr i j o l = table_at plus_zero 6 6 (contrast_rows u) (coefficients u) (cell_value u 9) i j nan o l hr hp
 
 module _ (k : ℤ) (m : ℕ → ℤ) (u : List ℕ) where
   abbrev u' : List ℕ
@@ -76,10 +76,10 @@ module _ (k : ℤ) (m : ℕ → ℤ) (u : List ℕ) where
   kinds-same : kinds u' ≡ kinds u
   kinds-same = ap test_kinds sizes-same
 
-  form-same : formReasons test_table (kinds u') u' ≡ formReasons test_table (kinds u) u
-  form-same = ap (λ (t : Table). formReasons test_table t u') kinds-same ∙ alike.same_form
+  form-same : form_reasons test_table (kinds u') u' ≡ form_reasons test_table (kinds u) u
+  form-same = ap (λ (t : Table). form_reasons test_table t u') kinds-same ∙ alike.same_form
 
-  named : (kind : ℕ) → (kenward_roger_change k m).rewrites kind ≡ true → numbered (kindAt (kinds u) kind) ≡ false
+  named : (kind : ℕ) → (kenward_roger_change k m).rewrites kind ≡ true → numbered (kind_at (kinds u) kind) ≡ false
   named = tests-numbered k m (sizes u)
 
   module _ (within : any (count u) (beyond (kinds u) u) ≡ false) (hp : coefficients u ≤ 6) (hr : contrast_rows u ≤ 6) where
@@ -102,7 +102,7 @@ module _ (k : ℤ) (m : ℕ → ℤ) (u : List ℕ) where
   module _ (p : ℕ) (formed : WellFormed (reader p) u) (hp : coefficients u ≤ 6) (hr : contrast_rows u ≤ 6) (h : AskedExact k m (coefficients u) (contrast_rows u) (beta u) (beta_h u) (contrast u)) where
     -- there is no record of kind 7
     variance-again : AskedAgain k m (kinds u) u 7
-    unfolding kindAt test_kinds width
+    unfolding kind_at test_kinds width
     variance-again n r j i = let l = i.row in absurd (omega arith)
 
     tests-exact : Exact (kenward_roger_change k m) u
@@ -127,5 +127,5 @@ module _ (k : ℤ) (m : ℕ → ℤ) (u : List ℕ) where
 
     -- so the refusals are, with the same number of coefficients
     pub reasons-same : reasons p (converted (kenward_roger_change k m) u) ≡ reasons p u
-    unfolding reasons orderReasons formed_for valueReasons
+    unfolding reasons order_reasons formed_for value_reasons
     reasons-same = rw (alike.same_length, alike.same_order, form-same, p-same, alike.same_finite tests-exact, zero_contrast-same)

@@ -6,7 +6,7 @@ use mathlib.Core.List.{List}
 use lib.IntN.{ℤ}
 use Rattle.records.specs.declared.Sizes.{Sizes}
 use Rattle.records.specs.declared.Value.TheVariants.{Float as FloatBits}
-use Rattle.records.specs.format.Kinds.{kindAt, kenward_roger_kinds}
+use Rattle.records.specs.format.Kinds.{kind_at, kenward_roger_kinds}
 use Rattle.records.specs.format.Alike.{Stays}
 use Rattle.records.specs.readers.Shortened.{shortened}
 use Rattle.records.specs.readers.Series.{sizes, kinds, as_sent, design, phi}
@@ -19,12 +19,12 @@ use Rattle.converter.proofs.ReadAlike.{converted-reads-alike}
 
 -- sigma2, β, contrast and β_H: f64 bits, in cells that the fields name, at any sizes
 series-floats : (k : ℤ) (m : ℕ → ℤ) (z : Sizes) → OnFloats (kenward_roger_change k m) (kenward_roger_kinds z)
-unfolding kindAt kenward_roger_kinds
-series-floats k m z = among 7 8 9 10 (λ j. (kindAt (kenward_roger_kinds z) j).value ≡ FloatBits) refl refl refl refl
+unfolding kind_at kenward_roger_kinds
+series-floats k m z = among 7 8 9 10 (λ j. (kind_at (kenward_roger_kinds z) j).value ≡ FloatBits) refl refl refl refl
 
-pub series-numbered : (k : ℤ) (m : ℕ → ℤ) (z : Sizes) (kind : ℕ) → (kenward_roger_change k m).rewrites kind ≡ true → numbered (kindAt (kenward_roger_kinds z) kind) ≡ false
-unfolding kindAt kenward_roger_kinds is_number
-series-numbered k m z = among 7 8 9 10 (λ j. numbered (kindAt (kenward_roger_kinds z) j) ≡ false) refl refl refl refl
+pub series-numbered : (k : ℤ) (m : ℕ → ℤ) (z : Sizes) (kind : ℕ) → (kenward_roger_change k m).rewrites kind ≡ true → numbered (kind_at (kenward_roger_kinds z) kind) ≡ false
+unfolding kind_at kenward_roger_kinds is_number
+series-numbered k m z = among 7 8 9 10 (λ j. numbered (kind_at (kenward_roger_kinds z) j) ≡ false) refl refl refl refl
 
 module _ (k : ℤ) (m : ℕ → ℤ) (s : List ℕ) where
   abbrev s' : List ℕ

@@ -5,11 +5,11 @@
 use Rattle.std.specs.Prelude.{ℕ, ◌*◌, ◌<◌, ◌≤◌, ◌≡◌, true, false, List, map, ℤ, nat_abs, get_or}
 use Rattle.arithmetic.specs.Marks.{MarkBears}
 use Rattle.arithmetic_cutoffs.specs.declared.Cutoffs.{Cutoffs}
-use Rattle.arithmetic_cutoffs.specs.Cutoffs.{documentCutoffs}
+use Rattle.arithmetic_cutoffs.specs.Cutoffs.{document_cutoffs}
 use Rattle.tests.specs.Answer.{no_entry}
 use Rattle.tests.specs.Verdict.{verdict}
 use Rattle.records.specs.format.Layout.{answer_length}
-use Rattle.records.specs.readers.CutoffTable.{badTable, cutoffsIn, built_in_table}
+use Rattle.records.specs.readers.CutoffTable.{bad_table, cutoffs_in, built_in_table}
 use Rattle.records.specs.readers.Archive.{archive_bytes, coefficients}
 use Rattle.records.specs.readers.SecondFile.{contrast_rows, own_tests}
 use Rattle.records.specs.calls.ArchiveCall.{series_archive, from_archive_number, from_archive_entries, testing_returned, testing_written}
@@ -57,18 +57,18 @@ abbrev pub FromArchiveBorne : Type 0
 FromArchiveBorne = (c : Cutoffs) → PairBorne (SamePairVerdicts c) c
 
 abbrev pub FromArchiveBorneAnswer : Type 0
-FromArchiveBorneAnswer = (lab : List ℕ) → badTable lab ≡ false → PairBorne (SamePairAnswers lab) (cutoffsIn lab)
+FromArchiveBorneAnswer = (lab : List ℕ) → bad_table lab ≡ false → PairBorne (SamePairAnswers lab) (cutoffs_in lab)
 
 -- THE THIRD DEMAND, for the test from an archive: in entries, and in its answer bytes; "for each accepted table" (document 02, "Req 06")
 abbrev pub FromArchiveDemand : Type 0
-FromArchiveDemand = (lab : List ℕ) → badTable lab ≡ false → PairWith (SamePairVerdicts (cutoffsIn lab)) (cutoffsIn lab)
+FromArchiveDemand = (lab : List ℕ) → bad_table lab ≡ false → PairWith (SamePairVerdicts (cutoffs_in lab)) (cutoffs_in lab)
 
 abbrev pub FromArchiveAnswer : Type 0
-FromArchiveAnswer = (lab : List ℕ) → badTable lab ≡ false → PairWith (SamePairAnswers lab) (cutoffsIn lab)
+FromArchiveAnswer = (lab : List ℕ) → bad_table lab ≡ false → PairWith (SamePairAnswers lab) (cutoffs_in lab)
 
 -- and of the call without a table, with document 01's cutoffs: the instance at the built-in table
 abbrev pub BuiltInFromArchiveAnswer : Type 0
-BuiltInFromArchiveAnswer = PairWith (SamePairAnswers built_in_table) documentCutoffs
+BuiltInFromArchiveAnswer = PairWith (SamePairAnswers built_in_table) document_cutoffs
 
 -- ---- the series' own archive and tests: under another converter they are what the two changes make of them, so that the answer from a converted series' archive (SeriesDemand,
 -- `ArchiveAnswer`) is one of these

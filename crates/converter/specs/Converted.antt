@@ -24,11 +24,11 @@ abbrev pub kenward_roger_change : ℤ → (ℕ → ℤ) → Change
 kenward_roger_change k m = record { rewrites = λ kind. eqb kind kind_sigma2 || eqb kind kind_beta || eqb kind kind_contrast || eqb kind kind_beta_h; divides = λ kind. false; shift = kenward_roger_shift k m }
 
 -- "The Satterthwaite call reads kinds 8, 9, 10, 30 v, 31 Jacobian": v and the Jacobians by 4 ^ k, β and β_H by 2 ^ k
-unfoldable pub satterthwaiteShift : ℤ → ℕ → ℕ → ℕ → ℕ → ℤ
-satterthwaiteShift k kind n r c = cond (eqb kind kind_v || eqb kind kind_jacobian) (k +ℤ k) k
+unfoldable pub satterthwaite_shift : ℤ → ℕ → ℕ → ℕ → ℕ → ℤ
+satterthwaite_shift k kind n r c = cond (eqb kind kind_v || eqb kind kind_jacobian) (k +ℤ k) k
 
-abbrev pub satterthwaiteChange : ℤ → Change
-satterthwaiteChange k = record { rewrites = λ kind. eqb kind kind_beta || eqb kind kind_beta_h || eqb kind kind_v || eqb kind kind_jacobian; divides = λ kind. false; shift = satterthwaiteShift k }
+abbrev pub satterthwaite_change : ℤ → Change
+satterthwaite_change k = record { rewrites = λ kind. eqb kind kind_beta || eqb kind kind_beta_h || eqb kind kind_v || eqb kind kind_jacobian; divides = λ kind. false; shift = satterthwaite_shift k }
 
 -- Document 02, "Req 02": "kind 11 Φ, 12 Φ_A, 13 P (the count field is its index), 14 W", in response units; "Φ, Φ_A and P in residual units and sigma2 follow as kinds 15 to 18". What is
 -- in response units is, in document 01, "Φ and Φ_A times sigma2, each P divided by it; W unchanged": so in an archive sigma2 and kinds 11 and 12 by 4 ^ k, kind 13 divided by 4 ^ k, and
@@ -45,14 +45,14 @@ unfoldable pub rewritten : Change → ℕ → ℕ → ℕ → ℕ → Float → 
 rewritten g k n r c x = let p : Float = power_of_two (g.shift k n r c) in cond (g.divides k) (div binary64 x p) (mul binary64 x p)
 
 -- the bits of record i's new value; its count, row and column are the record's own fields
-unfoldable pub newBits : Change → List ℕ → ℕ → ℕ
-newBits g s i = to_bits binary64 (rewritten g (kind_of s i) (count_of s i) (row_of s i) (column_of s i) (value_of s i))
+unfoldable pub new_bits : Change → List ℕ → ℕ → ℕ
+new_bits g s i = to_bits binary64 (rewritten g (kind_of s i) (count_of s i) (row_of s i) (column_of s i) (value_of s i))
 
 -- byte p of the converted file: of the bytes 8 to 15 of a record with a rewritten kind the new value's, any other as it was
-unfoldable pub newByte : Change → List ℕ → ℕ → ℕ
-newByte g s p =
+unfoldable pub new_byte : Change → List ℕ → ℕ → ℕ
+new_byte g s p =
     let i : ℕ = p / 16 in
-    cond (leb 8 (p % 16) && (ltb i (count s) && g.rewrites (kind_of s i))) (byte (bytes_of 8 (newBits g s i)) (p % 16 - 8)) (byte s p)
+    cond (leb 8 (p % 16) && (ltb i (count s) && g.rewrites (kind_of s i))) (byte (bytes_of 8 (new_bits g s i)) (p % 16 - 8)) (byte s p)
 
 unfoldable pub converted : Change → List ℕ → List ℕ
-converted g s = row 0 (length s) (length s) (newByte g s)
+converted g s = row 0 (length s) (length s) (new_byte g s)

@@ -6,12 +6,12 @@ use Rattle.std.specs.Float.{binary64}
 use Rattle.std.specs.Float.Ieee.{fits}
 use Rattle.arithmetic.specs.Marks.{MarkBears}
 use Rattle.arithmetic_cutoffs.specs.declared.Cutoffs.{Cutoffs}
-use Rattle.arithmetic_cutoffs.specs.Cutoffs.{documentCutoffs}
-use Rattle.records.specs.readers.CutoffTable.{badTable, cutoffsIn, built_in_table}
+use Rattle.arithmetic_cutoffs.specs.Cutoffs.{document_cutoffs}
+use Rattle.records.specs.readers.CutoffTable.{bad_table, cutoffs_in, built_in_table}
 use Rattle.records.specs.calls.SatterthwaiteCall.{number, entry, returned, written}
 use Rattle.records.specs.format.Layout.{entry_length}
 use Rattle.tests.specs.Verdict.{verdict}
-use Rattle.converter.specs.Converted.{satterthwaiteChange, converted}
+use Rattle.converter.specs.Converted.{satterthwaite_change, converted}
 use Rattle.converter.specs.AnswerBytes.{SameAnswer}
 
 -- s' is accepted, and its entry has the rank, F and df of the entry of s, none where that has none; the marks may differ
@@ -22,11 +22,11 @@ pub record SameVerdict (c : Cutoffs) (s s' : List ℕ) : Type 0 where
 -- P of a file and of what another converter makes of it: every file that is accepted with an entry that bears t, and every k that t covers, 4|k| ≤ t: V moves by 2k, its squares in Jacobi's rotation
 -- tests by 4k, and no number of a marked step by more
 abbrev pub ParametersBorne : (List ℕ → List ℕ → Type 0) → Cutoffs → Type 0
-ParametersBorne P c = (t : ℕ) (s : List ℕ) (k : ℤ) → 4 * nat_abs k ≤ t → number c s ≡ 0 → MarkBears t (entry c s).inside → P s (converted (satterthwaiteChange k) s)
+ParametersBorne P c = (t : ℕ) (s : List ℕ) (k : ℤ) → 4 * nat_abs k ≤ t → number c s ≡ 0 → MarkBears t (entry c s).inside → P s (converted (satterthwaite_change k) s)
 
 -- the same for every file that is accepted with its entry inside, k from -32 to 32
 abbrev pub ParametersWith : (List ℕ → List ℕ → Type 0) → Cutoffs → Type 0
-ParametersWith P c = (s : List ℕ) (k : ℤ) → nat_abs k ≤ 32 → number c s ≡ 0 → (entry c s).inside ≡ true → P s (converted (satterthwaiteChange k) s)
+ParametersWith P c = (s : List ℕ) (k : ℤ) → nat_abs k ≤ 32 → number c s ≡ 0 → (entry c s).inside ≡ true → P s (converted (satterthwaite_change k) s)
 
 -- the same answer bytes of the call with a table, 24 of them, but for the mark
 abbrev pub SameEntryBytes : List ℕ → List ℕ → List ℕ → Type 0
@@ -37,15 +37,15 @@ abbrev pub SatterthwaiteBorne : Type 0
 SatterthwaiteBorne = (c : Cutoffs) → T (fits binary64 c.rotation) → ParametersBorne (SameVerdict c) c
 
 abbrev pub SatterthwaiteBorneAnswer : Type 0
-SatterthwaiteBorneAnswer = (lab : List ℕ) → badTable lab ≡ false → ParametersBorne (SameEntryBytes lab) (cutoffsIn lab)
+SatterthwaiteBorneAnswer = (lab : List ℕ) → bad_table lab ≡ false → ParametersBorne (SameEntryBytes lab) (cutoffs_in lab)
 
 -- THE THIRD DEMAND, for the Satterthwaite call: in its entry, and in its 24 answer bytes; "for each accepted table" (document 02, "Req 06")
 abbrev pub SatterthwaiteDemand : Type 0
-SatterthwaiteDemand = (lab : List ℕ) → badTable lab ≡ false → ParametersWith (SameVerdict (cutoffsIn lab)) (cutoffsIn lab)
+SatterthwaiteDemand = (lab : List ℕ) → bad_table lab ≡ false → ParametersWith (SameVerdict (cutoffs_in lab)) (cutoffs_in lab)
 
 abbrev pub SatterthwaiteAnswer : Type 0
-SatterthwaiteAnswer = (lab : List ℕ) → badTable lab ≡ false → ParametersWith (SameEntryBytes lab) (cutoffsIn lab)
+SatterthwaiteAnswer = (lab : List ℕ) → bad_table lab ≡ false → ParametersWith (SameEntryBytes lab) (cutoffs_in lab)
 
 -- and of the call without a table, with document 01's cutoffs: the instance at the built-in table
 abbrev pub BuiltInEntryAnswer : Type 0
-BuiltInEntryAnswer = ParametersWith (SameEntryBytes built_in_table) documentCutoffs
+BuiltInEntryAnswer = ParametersWith (SameEntryBytes built_in_table) document_cutoffs

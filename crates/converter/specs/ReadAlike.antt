@@ -9,8 +9,8 @@ use Rattle.records.specs.declared.Field.TheVariants.{Index, Number, Unused}
 use Rattle.records.specs.declared.Value.TheVariants.{Float}
 use Rattle.records.specs.declared.Kind.{Kind}
 use Rattle.records.specs.format.Scan.{any}
-use Rattle.records.specs.format.Kinds.{Table, kindAt}
-use Rattle.records.specs.format.File.{count, kind_of, row_of, column_of, count_of, value_of, cell, rows, columns, present, beyond, notFinite, lengthReasons, formReasons}
+use Rattle.records.specs.format.Kinds.{Table, kind_at}
+use Rattle.records.specs.format.File.{count, kind_of, row_of, column_of, count_of, value_of, cell, rows, columns, present, beyond, not_finite, length_reasons, form_reasons}
 use Rattle.records.specs.format.Alike.{Alike}
 use Rattle.records.specs.format.Order.{falls}
 use Rattle.converter.specs.Converted.{Change, rewritten, converted}
@@ -29,7 +29,7 @@ pub record Exact (g : Change) (s : List ℕ) : Type 0 where
 
 -- it rewrites f64 bits alone: no kind whose value is a number in the first byte
 abbrev pub OnFloats : Change → Table → Type 0
-OnFloats g limit = (k : ℕ) → g.rewrites k ≡ true → (kindAt limit k).value ≡ Float
+OnFloats g limit = (k : ℕ) → g.rewrites k ≡ true → (kind_at limit k).value ≡ Float
 
 -- ---- two files
 -- a kind with a field that is a number, as a block's k and m, and so no part of a cell's name
@@ -50,17 +50,17 @@ pub record ReadAlike (g : Change) (limit sized : Table) (s s' : List ℕ) : Type
   pub same_columns : (k : ℕ) → columns s' k ≡ columns s k
   pub same_present : (k : ℕ) → present s' k ≡ present s k
   -- the refusals
-  pub same_length : lengthReasons s' ≡ lengthReasons s
+  pub same_length : length_reasons s' ≡ length_reasons s
   -- it rises exactly where the file does
   pub same_order : falls s' ≡ falls s
-  pub same_form : formReasons limit sized s' ≡ formReasons limit sized s
-  pub same_finite : Exact g s → any (count s') (notFinite s') ≡ any (count s) (notFinite s)
+  pub same_form : form_reasons limit sized s' ≡ form_reasons limit sized s
+  pub same_finite : Exact g s → any (count s') (not_finite s') ≡ any (count s) (not_finite s)
   -- the cells of a kind that is not rewritten
   pub kept_cell : (k n r c : ℕ) → g.rewrites k ≡ false → cell sized s' k n r c ≡ cell sized s k n r c
   -- and of one that is, where no record lies beyond the sizes, so that a record's own fields are the indices of its cell: what the change makes of the number, and under `Exact` the number scaled
-  pub new_cell : any (count s) (beyond sized s) ≡ false → (k n r c : ℕ) → g.rewrites k ≡ true → numbered (kindAt sized k) ≡ false
+  pub new_cell : any (count s) (beyond sized s) ≡ false → (k n r c : ℕ) → g.rewrites k ≡ true → numbered (kind_at sized k) ≡ false
       → cell sized s' k n r c ≡ rewritten g k n r c (cell sized s k n r c)
-  pub scaled_cell : Exact g s → any (count s) (beyond sized s) ≡ false → (k n r c : ℕ) → g.rewrites k ≡ true → numbered (kindAt sized k) ≡ false
+  pub scaled_cell : Exact g s → any (count s) (beyond sized s) ≡ false → (k n r c : ℕ) → g.rewrites k ≡ true → numbered (kind_at sized k) ≡ false
       → cell sized s' k n r c ≡ scale (moves g k n r c) (cell sized s k n r c)
 
 -- A CONVERTED FILE IS READ ALIKE, for every change, every table and every file

@@ -6,7 +6,7 @@ use Rattle.records.specs.readers.Series.{contrast_rows}
 use Rattle.records.specs.calls.KenwardRogerCall.{number}
 use Rattle.records.specs.text.Season.{closes, series_to, series_in, left_over, worst_line, latest_count}
 use Rattle.records.specs.promises.SeasonPrints.{series_at}
-use Rattle.converter.specs.Converted.{Change, kenward_roger_change, newByte, converted}
+use Rattle.converter.specs.Converted.{Change, kenward_roger_change, new_byte, converted}
 use Rattle.converter.specs.SeriesDemand.{AllInside, SameVerdicts}
 
 -- the series of record i, by its number: how many are closed before it
@@ -16,7 +16,7 @@ series_number s i = length (series_to s i)
 -- the season's file where series j was measured with the converter of the change g j: each record's value as its own series' change makes it, all other bytes as they were; bytes after the last record that closes belong to one
 -- series more
 unfoldable pub converted_season : (ℕ → Change) → List ℕ → List ℕ
-converted_season g s = row 0 (length s) (length s) (λ p. newByte (g (series_number s (p / 16))) s p)
+converted_season g s = row 0 (length s) (length s) (λ p. new_byte (g (series_number s (p / 16))) s p)
 
 -- the change of series j by 2 ^ (k j), and of row r of its contrast by 2 ^ (m j r)
 abbrev pub season_change : (ℕ → ℤ) → (ℕ → ℕ → ℤ) → ℕ → Change

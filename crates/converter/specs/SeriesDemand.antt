@@ -4,10 +4,10 @@
 use Rattle.std.specs.Prelude.{ℕ, ◌*◌, ◌<◌, ◌≤◌, ◌≡◌, true, false, List, map, ℤ, nat_abs, length, get_or}
 use Rattle.arithmetic.specs.Marks.{MarkBears}
 use Rattle.arithmetic_cutoffs.specs.declared.Cutoffs.{Cutoffs}
-use Rattle.arithmetic_cutoffs.specs.Cutoffs.{documentCutoffs}
+use Rattle.arithmetic_cutoffs.specs.Cutoffs.{document_cutoffs}
 use Rattle.tests.specs.Answer.{no_entry}
 use Rattle.records.specs.readers.Series.{coefficients, contrast_rows}
-use Rattle.records.specs.readers.CutoffTable.{badTable, cutoffsIn, built_in_table}
+use Rattle.records.specs.readers.CutoffTable.{bad_table, cutoffs_in, built_in_table}
 use Rattle.records.specs.calls.KenwardRogerCall.{number, entries, returned, written}
 use Rattle.records.specs.readers.Archive.{archive_length}
 use Rattle.records.specs.readers.SecondFile.{own_tests}
@@ -48,7 +48,7 @@ SeriesWith P w c =
 
 -- "All statements, the converter's too, now read for each accepted table" (document 02, "Req 06"): P of a table's call, at the limit of specimens w
 abbrev pub EachTable : (List ℕ → List ℕ → List ℕ → Type 0) → ℕ → Type 0
-EachTable P w = (lab : List ℕ) → badTable lab ≡ false → SeriesWith (P lab) w (cutoffsIn lab)
+EachTable P w = (lab : List ℕ) → bad_table lab ≡ false → SeriesWith (P lab) w (cutoffs_in lab)
 
 -- the same answer bytes of the call with a table, 168 of them, but for the marks
 abbrev pub SameAnswers : ℕ → List ℕ → List ℕ → List ℕ → Type 0
@@ -59,11 +59,11 @@ abbrev pub KenwardRogerBorne : Type 0
 KenwardRogerBorne = (w : ℕ) (c : Cutoffs) → SeriesBorne (SameVerdicts w c) w c
 
 abbrev pub KenwardRogerBorneAnswer : Type 0
-KenwardRogerBorneAnswer = (w : ℕ) (lab : List ℕ) → badTable lab ≡ false → SeriesBorne (SameAnswers w lab) w (cutoffsIn lab)
+KenwardRogerBorneAnswer = (w : ℕ) (lab : List ℕ) → bad_table lab ≡ false → SeriesBorne (SameAnswers w lab) w (cutoffs_in lab)
 
 -- THE THIRD DEMAND, for the Kenward–Roger call: in entries, and in its answer bytes; with each accepted table and every limit of specimens: each that a byte can name, and any other, since nothing here turns on it
 abbrev pub KenwardRogerDemand : Type 0
-KenwardRogerDemand = (w : ℕ) → EachTable (λ lab. SameVerdicts w (cutoffsIn lab)) w
+KenwardRogerDemand = (w : ℕ) → EachTable (λ lab. SameVerdicts w (cutoffs_in lab)) w
 
 abbrev pub KenwardRogerAnswer : Type 0
 KenwardRogerAnswer = (w : ℕ) → EachTable (SameAnswers w) w
@@ -80,14 +80,14 @@ ArchiveAnswer = (w : ℕ) → EachTable (SameArchiveAnswers w) w
 
 -- and at the panel, "specimens n 1–24"
 abbrev pub PanelDemand : Type 0
-PanelDemand = EachTable (λ lab. SameVerdicts 24 (cutoffsIn lab)) 24
+PanelDemand = EachTable (λ lab. SameVerdicts 24 (cutoffs_in lab)) 24
 
 abbrev pub PanelAnswer : Type 0
 PanelAnswer = EachTable (SameAnswers 24) 24
 
 -- and of its calls without a table, with document 01's cutoffs: the instance at the built-in table
 abbrev pub BuiltInAnswer : Type 0
-BuiltInAnswer = SeriesWith (SameAnswers 24 built_in_table) 24 documentCutoffs
+BuiltInAnswer = SeriesWith (SameAnswers 24 built_in_table) 24 document_cutoffs
 
 abbrev pub BuiltInArchiveAnswer : Type 0
-BuiltInArchiveAnswer = SeriesWith (SameArchiveAnswers 24 built_in_table) 24 documentCutoffs
+BuiltInArchiveAnswer = SeriesWith (SameArchiveAnswers 24 built_in_table) 24 document_cutoffs

@@ -10,16 +10,16 @@ use lib.ListN.{get_or, replicate, get_or-replicate}
 use lib.Ieee.{Float, nan, binary64, fits}
 use borrow.Author.Tests.{ne_eqb}
 use Rattle.arithmetic.specs.declared.Marked.{Marked}
-use Rattle.arithmetic.specs.Numbers.{plusZero}
+use Rattle.arithmetic.specs.Numbers.{plus_zero}
 use Rattle.arithmetic.specs.Scale.{scale}
-use Rattle.arithmetic.specs.Marks.{given, markedSub, markedMul}
+use Rattle.arithmetic.specs.Marks.{given, marked_sub, marked_mul}
 use Rattle.arithmetic.proofs.PowerOfTwo.{scale-is-mul}
 use Rattle.arithmetic.proofs.MarkLaws.{Bears, sub-operands, mul-operands}
 use Rattle.algebra.specs.Kind.{floats, marks}
 use Rattle.algebra.specs.Product.{at, times_number}
 use Rattle.algebra.proofs.TableLaws.{table_at}
 use Rattle.algebra.proofs.MovingCells.{BearsCells, table-bears, abs-twice}
-use Rattle.algebra.specs.Small.{Rows, givenCells}
+use Rattle.algebra.specs.Small.{Rows, given_cells}
 use Rattle.arithmetic_cutoffs.specs.declared.Cutoffs.{Cutoffs}
 use Rattle.adjustment.specs.Adjusted.{Adjustment, scaled_up}
 use Rattle.tests.specs.Basis.{Basis, divided_cell, divided, contrast_basis}
@@ -31,33 +31,33 @@ use Rattle.converter_run.proofs.MovingBasis.{basis-seen, divided-fits}
 use Rattle.converter_run.proofs.MovingTest.{TestBears, test-bears}
 use Rattle.converter_run.proofs.MovingRun.{entry_seen, coefficient-bears, contrast-bears}
 
-zero-fits : T (fits binary64 plusZero)
+zero-fits : T (fits binary64 plus_zero)
 unfolding fits
 zero-fits = tt
 
 -- ---- the numbers that a test starts from
 module _ {t : ℕ} (p : ℕ) (hp : p ≤ 6) (u : ℤ) (n : nat_abs u ≤ t) where
   sigma2-fits : 0 < p → (phi : Rows) (x : Float) → WrittenCells p p phi → T (fits binary64 x) → BearsCells t p p (scaled_up marks p phi x) → T (fits binary64 (scale u x))
-  unfolding scaled_up times_number givenCells
+  unfolding scaled_up times_number given_cells
   sigma2-fits h phi x w f b =
-      let m : List (List Marked) = givenCells marks 6 6 p p phi in
-      let e : Bears t (markedMul (at marks m 0 0) (given x)) = table-bears 6 6 p p (λ i j. markedMul (at marks m i j) (given x)) hp hp 0 0 h h (b.cell 0 0 h h) in
-      (mul-operands u n (at marks m 0 0) (given x) e (rw (table_at (given plusZero) 6 6 p p (λ i j. given (at floats phi i j)) 0 0 marks.void h h hp hp) (w 0 0 h h)) f).1
+      let m : List (List Marked) = given_cells marks 6 6 p p phi in
+      let e : Bears t (marked_mul (at marks m 0 0) (given x)) = table-bears 6 6 p p (λ i j. marked_mul (at marks m i j) (given x)) hp hp 0 0 h h (b.cell 0 0 h h) in
+      (mul-operands u n (at marks m 0 0) (given x) e (rw (table_at (given plus_zero) 6 6 p p (λ i j. given (at floats phi i j)) 0 0 marks.void h h hp hp) (w 0 0 h h)) f).1
 
   module _ (beta beta_h : List Float) (f : (i : ℕ) → i < p → T (fits binary64 (get_or beta i nan))) (g : (i : ℕ) → i < p → T (fits binary64 (get_or beta_h i nan)))
       (b : BearsCells t p 1 (difference marks p beta beta_h)) where
     difference-fits : (i : ℕ) → i < p → T (fits binary64 (scale u (get_or beta i nan))) × T (fits binary64 (scale u (get_or beta_h i nan)))
     unfolding difference
     difference-fits i h =
-        let e : Bears t (markedSub (given (get_or beta i nan)) (given (get_or beta_h i nan))) =
-        table-bears 6 6 p 1 (λ i j. markedSub (given (get_or beta i nan)) (given (get_or beta_h i nan))) hp (lit≤ tt) i 0 h (lit≤ tt) (b.cell i 0 h (lit≤ tt)) in
+        let e : Bears t (marked_sub (given (get_or beta i nan)) (given (get_or beta_h i nan))) =
+        table-bears 6 6 p 1 (λ i j. marked_sub (given (get_or beta i nan)) (given (get_or beta_h i nan))) hp (lit≤ tt) i 0 h (lit≤ tt) (b.cell i 0 h (lit≤ tt)) in
         sub-operands u n (given (get_or beta i nan)) (given (get_or beta_h i nan)) e (f i h) (g i h)
 
 contrast-fits : {t : ℕ} (rows p : ℕ) → rows ≤ 6 → p ≤ 6 → (l : Rows) → WrittenCells rows p l → Bears t (contrast_basis marks rows p l).seen → (u : ℤ) → nat_abs u ≤ t
     → (i j : ℕ) → i < rows → j < p → T (fits binary64 (scale u (at floats l i j)))
 unfolding divided
 contrast-fits {t} rows p hr hp l w b u n i j h o =
-    let c : BearsCells t rows p (divided marks rows p l) = all_marks-cells rows p (divided marks rows p l) (given plusZero) (rw (basis-seen rows p l) at b) in
+    let c : BearsCells t rows p (divided marks rows p l) = all_marks-cells rows p (divided marks rows p l) (given plus_zero) (rw (basis-seen rows p l) at b) in
     divided-fits p i u n l (λ j q. w i j h q) j o (table-bears 6 6 rows p (divided_cell marks p l) hr hp i j h o (c.cell i j h o))
 
 -- ---- the input of a run that bears t, with 2|k| and the power of each contrast row at most t
@@ -69,11 +69,11 @@ module _ {t : ℕ} (c : Cutoffs) (p N rows : ℕ) (k : ℤ) (m : ℕ → ℤ) (p
   abbrev unit : Basis Marked
   unit = contrast_basis marks 1 p (unit_row p 0)
 
-  first-test : TestBears t c s x.beta (replicate 6 plusZero) unit
+  first-test : TestBears t c s x.beta (replicate 6 plus_zero) unit
   unfolding coefficient_test scaled_by
   first-test =
-      test-bears c s x.beta (replicate 6 plusZero) unit
-      (entry_seen c s x.beta (replicate 6 plusZero) unit (coefficient-bears c p N rows phi a x sizes.coefficients bears 0 sizes.some))
+      test-bears c s x.beta (replicate 6 plus_zero) unit
+      (entry_seen c s x.beta (replicate 6 plus_zero) unit (coefficient-bears c p N rows phi a x sizes.coefficients bears 0 sizes.some))
 
   contrast-test : 0 < rows → TestBears t c s x.beta x.beta_h (contrast_basis marks rows p x.contrast)
   unfolding contrast_test scaled_by
@@ -95,8 +95,8 @@ module _ {t : ℕ} (c : Cutoffs) (p N rows : ℕ) (k : ℤ) (m : ℕ → ℤ) (p
   beta-again : (i : ℕ) → i < p → T (fits binary64 (scale k (get_or x.beta i nan)))
   unfolding scaled_by
   beta-again i h =
-      (difference-fits p sizes.coefficients k near1 x.beta (replicate 6 plusZero) written.beta
-      (λ j o. rw (get_or-replicate 6 j plusZero nan (le_trans o sizes.coefficients)) zero-fits) first-test.d i h).0
+      (difference-fits p sizes.coefficients k near1 x.beta (replicate 6 plus_zero) written.beta
+      (λ j o. rw (get_or-replicate 6 j plus_zero nan (le_trans o sizes.coefficients)) zero-fits) first-test.d i h).0
 
   beta_h-again : 0 < rows → (i : ℕ) → i < p → T (fits binary64 (scale k (get_or x.beta_h i nan)))
   unfolding scaled_by

@@ -13,7 +13,7 @@ use lib.Seq.{get_or-set_same, get_or-set_other}
 use lib.Ieee.{Float, nan, binary64, fits}
 use borrow.Author.Tests.{eqb-false}
 use Rattle.arithmetic.specs.declared.Marked.{Marked}
-use Rattle.arithmetic.specs.Numbers.{plusZero, one}
+use Rattle.arithmetic.specs.Numbers.{plus_zero, one}
 use Rattle.arithmetic.specs.Marks.{MarkBears, given}
 use Rattle.arithmetic.proofs.Tied.{Tied}
 use Rattle.arithmetic.proofs.MarkLaws.{Bears, mark-bears}
@@ -42,8 +42,8 @@ use Rattle.converter_run.proofs.MovingTest.{ScalingBears, test-bears, SameTested
 ps-at : (p N : ℕ) (ps : List Rows) (x : Float) → N ≤ 4 → (r : ℕ) → r < N → get_or (scaled_ps marks p N ps x) r [] ≡ scaled_down marks p (get_or ps r []) x
 unfolding scaled_ps
 ps-at p N ps x hN r h =
-    span-at 0 N (λ r. scaled_down marks p (get_or ps r []) x) (replicate 4 (blank (given plusZero) 6 6)) r [] (omega arith) h
-    (omega (arith, length-replicate 4 (blank (given plusZero) 6 6), hN))
+    span-at 0 N (λ r. scaled_down marks p (get_or ps r []) x) (replicate 4 (blank (given plus_zero) 6 6)) r [] (omega arith) h
+    (omega (arith, length-replicate 4 (blank (given plus_zero) 6 6), hN))
 
 -- ---- a test's mark
 pub entry_seen : {t : ℕ} (c : Cutoffs) (s : Scaled Marked) (beta beta_h : List Float) (b : Basis Marked) → MarkBears t (tested marks c s beta beta_h b).entry.inside → Bears t (test_seen marks c s beta beta_h b)
@@ -62,8 +62,8 @@ pub unit-tied : (p i : ℕ) → p ≤ 6 → (r j : ℕ) → r < 1 → j < p → 
 unfolding unit_row fits
 unit-tied p i hp r j h l =
     tied-still (at floats (unit_row p i) r j)
-    (rw (table_at plusZero 6 6 1 p (λ k j. cond (eqb j i) one plusZero) r j nan h l (omega arith) hp)
-    (cond_both (λ (x : Float). T (fits binary64 x)) (eqb j i) one plusZero tt tt))
+    (rw (table_at plus_zero 6 6 1 p (λ k j. cond (eqb j i) one plus_zero) r j nan h l (omega arith) hp)
+    (cond_both (λ (x : Float). T (fits binary64 x)) (eqb j i) one plus_zero tt tt))
 
 -- ---- one contrast, from the input
 module _ {t : ℕ} (c : Cutoffs) (p N : ℕ) (p1 : 1 ≤ p) (hp : p ≤ 6) (hN : N ≤ 4) (k : ℤ) (n2 : nat_abs (k +ℤ k) ≤ t) (phi : Rows) (a : Adjustment)
@@ -104,14 +104,14 @@ module _ {t : ℕ} (c : Cutoffs) (p N : ℕ) (p1 : 1 ≤ p) (hp : p ≤ 6) (hN :
   pub coefficient-survives : (i : ℕ) → MarkBears t (coefficient_test marks c s beta i).entry.inside → SameTested (coefficient_test marks c s beta i) (coefficient_test marks c s' beta' i)
   unfolding coefficient_test contrast_test scaled_by
   coefficient-survives i e =
-      contrast-survives (replicate 6 plusZero) (replicate 6 plusZero) (λ j h. rw (get_or-replicate 6 j plusZero nan (omega arith)) (tied-nil k)) 1 (omega arith) (omega arith) (λ r. pos 0)
+      contrast-survives (replicate 6 plus_zero) (replicate 6 plus_zero) (λ j h. rw (get_or-replicate 6 j plus_zero nan (omega arith)) (tied-nil k)) 1 (omega arith) (omega arith) (λ r. pos 0)
       (unit_row p i) (unit_row p i) (unit-tied p i hp) e
 
   -- where the mark of one coefficient's test bears t, the scaling does
   scaling-seen : (i : ℕ) → MarkBears t (coefficient_test marks c s beta i).entry.inside → ScalingBears t s (contrast_basis marks 1 p (unit_row p i)).seen
   unfolding coefficient_test scaled_by
   scaling-seen i e =
-      let beta_h : List Float = replicate 6 plusZero in
+      let beta_h : List Float = replicate 6 plus_zero in
       let b : Basis Marked = contrast_basis marks 1 p (unit_row p i) in
       (test-bears c s beta beta_h b (entry_seen c s beta beta_h b e)).scaling
 

@@ -8,7 +8,7 @@ use lib.Ieee.{Float, binary64, mul, div}
 use Rattle.arithmetic.specs.declared.Marked.{Marked}
 use Rattle.arithmetic.specs.Numbers.{is_finite}
 use Rattle.arithmetic.specs.Scale.{scale}
-use Rattle.arithmetic.specs.Marks.{given, markedMul, markedDiv}
+use Rattle.arithmetic.specs.Marks.{given, marked_mul, marked_div}
 use Rattle.arithmetic.proofs.Tied.{Tied}
 use Rattle.arithmetic.proofs.PlainLaws.{finite-scale}
 use Rattle.arithmetic.proofs.MarkLaws.{mul-value, div_value, given-moves}
@@ -19,7 +19,7 @@ use Rattle.algebra.proofs.FoldLaws.{fold-ext}
 use Rattle.algebra.proofs.TableLaws.{table_at}
 use Rattle.algebra.proofs.MovingCells.{BearsCells, MovesCells}
 use Rattle.algebra.proofs.MovingProducts.{times_number-moves, over_number-moves}
-use Rattle.algebra.specs.Small.{Rows, givenCells}
+use Rattle.algebra.specs.Small.{Rows, given_cells}
 use Rattle.adjustment.specs.Adjusted.{Adjustment, matrix_at, scaled_up, scaled_down, not_all_finite, not_all_finite_marked, output_not_finite}
 use Rattle.converter_run.specs.joints.ConvertedInput.{WrittenCells}
 use Rattle.algebra_products.proofs.MovingSmall.{tied-still, cells-by, given-cells}
@@ -39,24 +39,24 @@ finite-agrees u x x' e = rw e.moved (finite-scale u x)
 -- ---- a scaled cell, without its mark
 module _ (p : ℕ) (m : Rows) (x : Float) (i j : ℕ) (hp : p ≤ 6) (h : i < p) (l : j < p) where
   abbrev given-cell : Matrix
-  given-cell = givenCells marks 6 6 p p m
+  given-cell = given_cells marks 6 6 p p m
 
-  given-at : at marks (givenCells marks 6 6 p p m) i j ≡ given (at floats m i j)
-  unfolding givenCells
+  given-at : at marks (given_cells marks 6 6 p p m) i j ≡ given (at floats m i j)
+  unfolding given_cells
   given-at = table_at (zero_of marks) 6 6 p p (λ i j. given (at floats m i j)) i j marks.void h l hp hp
 
   product_at : (at marks (scaled_up marks p m x) i j).value ≡ mul binary64 (at floats m i j) x
   unfolding scaled_up times_number
   product_at =
       ap (λ (y : Marked). y.value)
-      (table_at (zero_of marks) 6 6 p p (λ i j. markedMul (at marks given-cell i j) (given x)) i j marks.void h l hp hp ∙ ap (λ (y : Marked). markedMul y (given x)) given-at)
+      (table_at (zero_of marks) 6 6 p p (λ i j. marked_mul (at marks given-cell i j) (given x)) i j marks.void h l hp hp ∙ ap (λ (y : Marked). marked_mul y (given x)) given-at)
       ∙ mul-value (given (at floats m i j)) (given x)
 
   quotient-at : (at marks (scaled_down marks p m x) i j).value ≡ div binary64 (at floats m i j) x
   unfolding scaled_down over_number
   quotient-at =
       ap (λ (y : Marked). y.value)
-      (table_at (zero_of marks) 6 6 p p (λ i j. markedDiv (at marks given-cell i j) (given x)) i j marks.void h l hp hp ∙ ap (λ (y : Marked). markedDiv y (given x)) given-at)
+      (table_at (zero_of marks) 6 6 p p (λ i j. marked_div (at marks given-cell i j) (given x)) i j marks.void h l hp hp ∙ ap (λ (y : Marked). marked_div y (given x)) given-at)
       ∙ div_value (given (at floats m i j)) (given x)
 
 module _ {t : ℕ} where
@@ -69,20 +69,20 @@ module _ {t : ℕ} where
       (λ j o l y. ap (λ (e : Bool). y || not e) (finite-agrees u (at marks a i j).value (at marks a' i j).value (p.cell i j k l (b.cell i j k l)))))
 
   module _ (p : ℕ) (hp : p ≤ 6) (u : ℤ) (n : nat_abs u ≤ t) (x x' : Float) (e : Tied u x x') where
-    still-cells : (m : Rows) → WrittenCells p p m → MovesCells t (pos 0) p p (givenCells marks 6 6 p p m) (givenCells marks 6 6 p p m)
+    still-cells : (m : Rows) → WrittenCells p p m → MovesCells t (pos 0) p p (given_cells marks 6 6 p p m) (given_cells marks 6 6 p p m)
     still-cells m w = given-cells 6 6 p p hp hp (pos 0) m m (λ i j h l. tied-still (at floats m i j) (w i j h l))
 
     pub scaled_up-moves : (m : Rows) → WrittenCells p p m → MovesCells t u p p (scaled_up marks p m x) (scaled_up marks p m x')
     unfolding scaled_up
     scaled_up-moves m w =
         cells-by (+ℤ_idl u)
-        (times_number-moves 6 6 p p hp hp (pos 0) u (rw +ℤ_idl n) (givenCells marks 6 6 p p m) (givenCells marks 6 6 p p m) (given x) (given x') (still-cells m w) (given-moves u x x' e))
+        (times_number-moves 6 6 p p hp hp (pos 0) u (rw +ℤ_idl n) (given_cells marks 6 6 p p m) (given_cells marks 6 6 p p m) (given x) (given x') (still-cells m w) (given-moves u x x' e))
 
     pub scaled_down-moves : (m : Rows) → WrittenCells p p m → MovesCells t (neg_ℤ u) p p (scaled_down marks p m x) (scaled_down marks p m x')
     unfolding scaled_down
     scaled_down-moves m w =
         cells-by (+ℤ_idl (neg_ℤ u))
-        (over_number-moves 6 6 p p hp hp (pos 0) u (rw (+ℤ_idl, abs_neg) n) (givenCells marks 6 6 p p m) (givenCells marks 6 6 p p m) (given x) (given x') (still-cells m w)
+        (over_number-moves 6 6 p p hp hp (pos 0) u (rw (+ℤ_idl, abs_neg) n) (given_cells marks 6 6 p p m) (given_cells marks 6 6 p p m) (given x) (given x') (still-cells m w)
         (given-moves u x x' e))
 
     -- so do the plain products and quotients, where the marked ones bear the shift

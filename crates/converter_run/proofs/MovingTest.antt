@@ -11,8 +11,8 @@ use lib.ListN.{get_or, set, replicate, length-replicate}
 use lib.Ieee.{Float, nan}
 use borrow.Author.Tests.{eqb-true}
 use Rattle.arithmetic.specs.declared.Marked.{Marked}
-use Rattle.arithmetic.specs.Numbers.{plusZero}
-use Rattle.arithmetic.specs.Marks.{given, markedSub, markedMul}
+use Rattle.arithmetic.specs.Numbers.{plus_zero}
+use Rattle.arithmetic.specs.Marks.{given, marked_sub, marked_mul}
 use Rattle.arithmetic.proofs.Tied.{Tied}
 use Rattle.arithmetic.proofs.MarkLaws.{Bears, Moves, given-moves, also-bears, sub-moves, mul-moves}
 use Rattle.algebra.specs.Fold.{fold}
@@ -24,14 +24,14 @@ use Rattle.algebra.proofs.FoldLaws.{fold-ext, span-at}
 use Rattle.algebra.proofs.MovingCells.{BearsCells, MovesCells, table-moves, moves-by, nil-moves, cond-moves, still-value, half-small}
 use Rattle.algebra.proofs.MovingProducts.{sum-moves, product-moves, transpose-moves}
 use Rattle.algebra.proofs.MovingElimination.{SolvedAlike, solution-moves}
-use Rattle.algebra.specs.Small.{MarkedRows, Rows, givenCells, values, allMarks}
+use Rattle.algebra.specs.Small.{MarkedRows, Rows, given_cells, values, all_marks}
 use Rattle.arithmetic_cutoffs.specs.declared.Cutoffs.{Cutoffs}
 use Rattle.tests.specs.declared.Number.{Number}
 use Rattle.tests.specs.declared.Number.TheVariants.{None}
 use Rattle.tests.specs.Answer.{number_of}
 use Rattle.tests.specs.Basis.{Basis}
-use Rattle.tests.specs.KenwardRoger.{Scaled, Tested, scaling_seen, difference, theta_of, u_of, u_stack, u_values, wald_many, a_rows, x_rows, theta_phi, us, ldRows, vRows, y_rows, wald_marked, wald_number, test_seen, a1, a2, tested}
-use Rattle.tests.specs.Both.{isPositive, squareOne, stackSeen}
+use Rattle.tests.specs.KenwardRoger.{Scaled, Tested, scaling_seen, difference, theta_of, u_of, u_stack, u_values, wald_many, a_rows, x_rows, theta_phi, us, ld_rows, v_rows, y_rows, wald_marked, wald_number, test_seen, a1, a2, tested}
+use Rattle.tests.specs.Both.{is_positive, square_one, stack_seen}
 use Rattle.tests.specs.Verdict.{verdict}
 use Rattle.converter_run.specs.joints.ConvertedInput.{WrittenCells}
 use Rattle.algebra_products.proofs.MovingSmall.{tied-still, cells-by, all_marks-first, all_marks-cells, stack-first, stack-cells, given-cells, sandwich-moves, values_agree}
@@ -55,11 +55,11 @@ pub record ScalingBears (t : ℕ) (s : Scaled Marked) (seen : Marked) : Type 0 w
   pub ps : (r : ℕ) → r < s.matrices → BearsCells t s.p s.p (get_or s.ps r [])
 
 pub scaling-bears : {t : ℕ} (s : Scaled Marked) (seen : Marked) → Bears t (scaling_seen marks s seen) → ScalingBears t s seen
-unfolding scaling_seen stackSeen
+unfolding scaling_seen stack_seen
 scaling-bears {t} s seen h =
     let p : ℕ = s.p in
-    let s1 : Marked = allMarks marks p p s.phi seen in
-    let s2 : Marked = allMarks marks p p s.phi_a s1 in
+    let s1 : Marked = all_marks marks p p s.phi seen in
+    let s2 : Marked = all_marks marks p p s.phi_a s1 in
     let h2 : Bears t s2 = stack-first s.matrices p p s.ps s2 h in
     let h1 : Bears t s1 = all_marks-first p p s.phi_a s1 h2 in
     record {
@@ -75,12 +75,12 @@ pub record TestBears (t : ℕ) (c : Cutoffs) (s : Scaled Marked) (beta beta_h : 
   pub d : BearsCells t s.p 1 (difference marks s.p beta beta_h)
   pub x : BearsCells t b.rank s.p (x_rows marks c s beta beta_h b)
   pub u : (i : ℕ) → i < s.matrices → BearsCells t s.p s.p (get_or (us marks c s beta beta_h b) i [])
-  pub v : BearsCells t b.rank b.rank (vRows marks c s beta beta_h b)
+  pub v : BearsCells t b.rank b.rank (v_rows marks c s beta beta_h b)
   pub y : eqb b.rank 1 ≡ false → BearsCells t b.rank 1 (y_rows marks c s beta beta_h b)
   pub wald : Bears t (wald_marked marks c s beta beta_h b)
 
 pub test-bears : {t : ℕ} (c : Cutoffs) (s : Scaled Marked) (beta beta_h : List Float) (b : Basis Marked) → Bears t (test_seen marks c s beta beta_h b) → TestBears t c s beta beta_h b
-unfolding test_seen stackSeen
+unfolding test_seen stack_seen
 test-bears {t} c s beta beta_h b h =
     record {
       scaling = scaling-bears s b.seen (all_marks-first p 1 d s0 h1);
@@ -111,10 +111,10 @@ test-bears {t} c s beta beta_h b h =
     tp = theta_phi marks c s beta beta_h b
 
     ld : MarkedRows
-    ld = ldRows marks c s beta beta_h b
+    ld = ld_rows marks c s beta beta_h b
 
     v : MarkedRows
-    v = vRows marks c s beta beta_h b
+    v = v_rows marks c s beta beta_h b
 
     y : MarkedRows
     y = y_rows marks c s beta beta_h b
@@ -123,37 +123,37 @@ test-bears {t} c s beta beta_h b h =
     s0 = scaling_seen marks s b.seen
 
     s1 : Marked
-    s1 = allMarks marks p 1 d s0
+    s1 = all_marks marks p 1 d s0
 
     s1a : Marked
-    s1a = allMarks marks q q a s1
+    s1a = all_marks marks q q a s1
 
     s2 : Marked
-    s2 = allMarks marks q p x s1a
+    s2 = all_marks marks q p x s1a
 
     s2a : Marked
-    s2a = allMarks marks p p tp s2
+    s2a = all_marks marks p p tp s2
 
     s3 : Marked
-    s3 = fold 0 s.matrices (λ i z. allMarks marks p p (get_or (us marks c s beta beta_h b) i []) z) s2a
+    s3 = fold 0 s.matrices (λ i z. all_marks marks p p (get_or (us marks c s beta beta_h b) i []) z) s2a
 
     s3a : Marked
-    s3a = allMarks marks q 1 ld s3
+    s3a = all_marks marks q 1 ld s3
 
     s4 : Marked
-    s4 = allMarks marks q q v s3a
+    s4 = all_marks marks q q v s3a
 
     s5 : Marked
-    s5 = cond (eqb q 1) s4 (allMarks marks q 1 y s4)
+    s5 = cond (eqb q 1) s4 (all_marks marks q 1 y s4)
 
     h5 : Bears t s5 × Bears t (wald_marked marks c s beta beta_h b)
     h5 = also-bears s5 (wald_marked marks c s beta beta_h b) h
 
-    first : (e : Bool) → Bears t (cond e s4 (allMarks marks q 1 y s4)) → Bears t s4
+    first : (e : Bool) → Bears t (cond e s4 (all_marks marks q 1 y s4)) → Bears t s4
     first true k = k
     first false k = all_marks-first q 1 y s4 k
 
-    last : eqb q 1 ≡ false → (e : Bool) → eqb q 1 ≡ e → Bears t (cond e s4 (allMarks marks q 1 y s4)) → BearsCells t q 1 y
+    last : eqb q 1 ≡ false → (e : Bool) → eqb q 1 ≡ e → Bears t (cond e s4 (all_marks marks q 1 y s4)) → BearsCells t q 1 y
     last f true g k = absurd (true≢false (sym g ∙ f))
     last f false g k = all_marks-cells q 1 y s4 k
 
@@ -196,7 +196,7 @@ module _ {t : ℕ} (c : Cutoffs) (p N q : ℕ) (hp : p ≤ 6) (p1 : 0 < p) (hN :
   u = k +ℤ k
 
   abbrev l : MarkedRows
-  l = givenCells marks 6 6 q p rows
+  l = given_cells marks 6 6 q p rows
 
   n1 : nat_abs k ≤ t
   n1 = half-small k n2
@@ -211,19 +211,19 @@ module _ {t : ℕ} (c : Cutoffs) (p N q : ℕ) (hp : p ≤ 6) (p1 : 0 < p) (hN :
   unfolding a_rows
   a-moves = sandwich-moves 6 6 q p hq hq hp hp u n2 l phi l phi' l-moves mphi
 
-  v-moves : MovesCells t u q q (vRows marks c s beta beta_h b) (vRows marks c s' beta' betaH' b')
-  unfolding vRows
+  v-moves : MovesCells t u q q (v_rows marks c s beta beta_h b) (v_rows marks c s' beta' betaH' b')
+  unfolding v_rows
   v-moves = sandwich-moves 6 6 q p hq hq hp hp u n2 l phi_a l phiA' l-moves mphiA
 
   d-moves : MovesCells t k p 1 (difference marks p beta beta_h) (difference marks p beta' betaH')
   unfolding difference
   d-moves =
-      table-moves k 6 6 p 1 (λ i j. markedSub (given (get_or beta i nan)) (given (get_or beta_h i nan))) (λ i j. markedSub (given (get_or beta' i nan)) (given (get_or betaH' i nan))) hp (omega arith)
+      table-moves k 6 6 p 1 (λ i j. marked_sub (given (get_or beta i nan)) (given (get_or beta_h i nan))) (λ i j. marked_sub (given (get_or beta' i nan)) (given (get_or betaH' i nan))) hp (omega arith)
       (λ i j h o. sub-moves k n1 (given (get_or beta i nan)) (given (get_or beta_h i nan)) (given (get_or beta' i nan)) (given (get_or betaH' i nan))
       (given-moves k (get_or beta i nan) (get_or beta' i nan) (ebeta i h)) (given-moves k (get_or beta_h i nan) (get_or betaH' i nan) (ebetaH i h)))
 
-  ld-moves : MovesCells t k q 1 (ldRows marks c s beta beta_h b) (ldRows marks c s' beta' betaH' b')
-  unfolding ldRows
+  ld-moves : MovesCells t k q 1 (ld_rows marks c s beta beta_h b) (ld_rows marks c s' beta' betaH' b')
+  unfolding ld_rows
   ld-moves =
       cells-by (+ℤ_idl k)
       (product-moves 6 6 q 1 hq (omega arith) (pos 0) k (rw +ℤ_idl n1) p l (difference marks p beta beta_h) l (difference marks p beta' betaH') l-moves d-moves)
@@ -238,12 +238,12 @@ module _ {t : ℕ} (c : Cutoffs) (p N q : ℕ) (hp : p ≤ 6) (p1 : 0 < p) (hN :
         (solution-moves 6 12 6 q p hq (omega arith) hp p1 t u (pos 0) n2 (omega arith) less (a_rows marks c s beta beta_h b) l (a_rows marks c s' beta' betaH' b') l a-moves l-moves bears.x)
 
     y-alike : eqb q 1 ≡ false
-        → SolvedAlike t (k -ℤ u) 6 12 6 q 1 (vRows marks c s beta beta_h b) (ldRows marks c s beta beta_h b) (vRows marks c s' beta' betaH' b') (ldRows marks c s' beta' betaH' b')
+        → SolvedAlike t (k -ℤ u) 6 12 6 q 1 (v_rows marks c s beta beta_h b) (ld_rows marks c s beta beta_h b) (v_rows marks c s' beta' betaH' b') (ld_rows marks c s' beta' betaH' b')
     unfolding y_rows
     y-alike e =
         let less : nat_abs (k -ℤ u) ≤ t = rw (back-by-one k, abs_neg) n1 in
-        solution-moves 6 12 6 q 1 hq (omega arith) (omega arith) (omega arith) t u k n2 n1 less (vRows marks c s beta beta_h b) (ldRows marks c s beta beta_h b)
-        (vRows marks c s' beta' betaH' b') (ldRows marks c s' beta' betaH' b') v-moves ld-moves (bears.y e)
+        solution-moves 6 12 6 q 1 hq (omega arith) (omega arith) (omega arith) t u k n2 n1 less (v_rows marks c s beta beta_h b) (ld_rows marks c s beta beta_h b)
+        (v_rows marks c s' beta' betaH' b') (ld_rows marks c s' beta' betaH' b') v-moves ld-moves (bears.y e)
 
     x-moves : MovesCells t (neg_ℤ u) q p (x_rows marks c s beta beta_h b) (x_rows marks c s' beta' betaH' b')
     unfolding x_rows
@@ -267,8 +267,8 @@ module _ {t : ℕ} (c : Cutoffs) (p N q : ℕ) (hp : p ≤ 6) (p1 : 0 < p) (hN :
     u-at : (tp : MarkedRows) (ps : List MarkedRows) (phi : MarkedRows) (i : ℕ) → i < N → get_or (u_stack marks N p tp ps phi) i [] ≡ u_of marks p tp (get_or ps i []) phi
     unfolding u_stack
     u-at tp ps phi i h =
-        span-at 0 N (λ i. u_of marks p tp (get_or ps i []) phi) (replicate 4 (blank (given plusZero) 6 6)) i [] (omega arith) h
-        (omega (arith, length-replicate 4 (blank (given plusZero) 6 6), hN))
+        span-at 0 N (λ i. u_of marks p tp (get_or ps i []) phi) (replicate 4 (blank (given plus_zero) 6 6)) i [] (omega arith) h
+        (omega (arith, length-replicate 4 (blank (given plus_zero) 6 6), hN))
 
     u-moves : (i : ℕ) → i < N → MovesCells t (pos 0) p p (get_or (us marks c s beta beta_h b) i []) (get_or (us marks c s' beta' betaH' b') i [])
     unfolding us u_of
@@ -287,57 +287,57 @@ module _ {t : ℕ} (c : Cutoffs) (p N q : ℕ) (hp : p ≤ 6) (p1 : 0 < p) (hN :
     unfolding u_values
     u-agree =
         fold-ext 0 N (λ i ys. set ys i (values marks 6 6 p p (get_or (us marks c s' beta' betaH' b') i []))) (λ i ys. set ys i (values marks 6 6 p p (get_or (us marks c s beta beta_h b) i [])))
-        (replicate 4 (blank plusZero 6 6))
+        (replicate 4 (blank plus_zero 6 6))
         (λ i h o ys. ap (λ (m : Rows). set ys i m)
         (values_agree 6 6 p p (get_or (us marks c s beta beta_h b) i []) (get_or (us marks c s' beta' betaH' b') i []) (u-moves i o) (bears.u i o)))
 
     -- Wald does not move
     many-moves : eqb q 1 ≡ false
-        → Moves t (pos 0) (wald_many marks q (ldRows marks c s beta beta_h b) (y_rows marks c s beta beta_h b)) (wald_many marks q (ldRows marks c s' beta' betaH' b') (y_rows marks c s' beta' betaH' b'))
+        → Moves t (pos 0) (wald_many marks q (ld_rows marks c s beta beta_h b) (y_rows marks c s beta beta_h b)) (wald_many marks q (ld_rows marks c s' beta' betaH' b') (y_rows marks c s' beta' betaH' b'))
     unfolding wald_many y_rows
     many-moves e =
-        let ld : MarkedRows = ldRows marks c s beta beta_h b in
-        let ld' : MarkedRows = ldRows marks c s' beta' betaH' b' in
+        let ld : MarkedRows = ld_rows marks c s beta beta_h b in
+        let ld' : MarkedRows = ld_rows marks c s' beta' betaH' b' in
         let y : MarkedRows = y_rows marks c s beta beta_h b in
         let y' : MarkedRows = y_rows marks c s' beta' betaH' b' in
-        sum-moves (pos 0) (omega arith) q (λ i. markedMul (at marks ld i 0) (at marks y i 0)) (λ i. markedMul (at marks ld' i 0) (at marks y' i 0))
-        (λ i h. moves-by (markedMul (at marks ld i 0) (at marks y i 0)) (markedMul (at marks ld' i 0) (at marks y' i 0)) (none_left k)
+        sum-moves (pos 0) (omega arith) q (λ i. marked_mul (at marks ld i 0) (at marks y i 0)) (λ i. marked_mul (at marks ld' i 0) (at marks y' i 0))
+        (λ i h. moves-by (marked_mul (at marks ld i 0) (at marks y i 0)) (marked_mul (at marks ld' i 0) (at marks y' i 0)) (none_left k)
         (mul-moves k (k -ℤ u) (rw (none_left k) (omega arith)) (at marks ld i 0) (at marks y i 0) (at marks ld' i 0) (at marks y' i 0)
         (ld-moves.cell i 0 h (omega arith)) ((y-alike e).cells.cell i 0 h (omega arith))))
 
-    given-agrees : eqb q 1 ≡ true → isPositive (at marks (vRows marks c s' beta' betaH' b') 0 0).value ≡ isPositive (at marks (vRows marks c s beta beta_h b) 0 0).value
+    given-agrees : eqb q 1 ≡ true → is_positive (at marks (v_rows marks c s' beta' betaH' b') 0 0).value ≡ is_positive (at marks (v_rows marks c s beta beta_h b) 0 0).value
     given-agrees e =
         let h : 0 < q = omega (arith, eqb-true q 1 e) in
-        positive-agrees u (at marks (vRows marks c s beta beta_h b) 0 0).value (at marks (vRows marks c s' beta' betaH' b') 0 0).value (v-moves.cell 0 0 h h (bears.v.cell 0 0 h h))
+        positive-agrees u (at marks (v_rows marks c s beta beta_h b) 0 0).value (at marks (v_rows marks c s' beta' betaH' b') 0 0).value (v-moves.cell 0 0 h h (bears.v.cell 0 0 h h))
 
     wald-moves : Moves t (pos 0) (wald_marked marks c s beta beta_h b) (wald_marked marks c s' beta' betaH' b')
     unfolding wald_marked
     wald-moves = go (eqb q 1) refl
       where
         v : Marked
-        v = at marks (vRows marks c s beta beta_h b) 0 0
+        v = at marks (v_rows marks c s beta beta_h b) 0 0
 
         v' : Marked
-        v' = at marks (vRows marks c s' beta' betaH' b') 0 0
+        v' = at marks (v_rows marks c s' beta' betaH' b') 0 0
 
         ld : Marked
-        ld = at marks (ldRows marks c s beta beta_h b) 0 0
+        ld = at marks (ld_rows marks c s beta beta_h b) 0 0
 
         ld' : Marked
-        ld' = at marks (ldRows marks c s' beta' betaH' b') 0 0
+        ld' = at marks (ld_rows marks c s' beta' betaH' b') 0 0
 
         many : Marked
-        many = wald_many marks q (ldRows marks c s beta beta_h b) (y_rows marks c s beta beta_h b)
+        many = wald_many marks q (ld_rows marks c s beta beta_h b) (y_rows marks c s beta beta_h b)
 
         many' : Marked
-        many' = wald_many marks q (ldRows marks c s' beta' betaH' b') (y_rows marks c s' beta' betaH' b')
+        many' = wald_many marks q (ld_rows marks c s' beta' betaH' b') (y_rows marks c s' beta' betaH' b')
 
         go : (e : Bool) → eqb q 1 ≡ e
-            → Moves t (pos 0) (cond e (cond (isPositive v.value) (squareOne marks ld v) (given plusZero)) many) (cond e (cond (isPositive v'.value) (squareOne marks ld' v') (given plusZero)) many')
+            → Moves t (pos 0) (cond e (cond (is_positive v.value) (square_one marks ld v) (given plus_zero)) many) (cond e (cond (is_positive v'.value) (square_one marks ld' v') (given plus_zero)) many')
         go true e =
             let h : 0 < q = omega (arith, eqb-true q 1 e) in
             rw (given-agrees e)
-            (cond-moves (isPositive v.value) (squareOne marks ld v) (given plusZero) (squareOne marks ld' v') (given plusZero)
+            (cond-moves (is_positive v.value) (square_one marks ld v) (given plus_zero) (square_one marks ld' v') (given plus_zero)
             (square_one-moves k ld v ld' v' (ld-moves.cell 0 0 h (omega arith)) (v-moves.cell 0 0 h h)) (nil-moves (pos 0)))
         go false e = many-moves e
 
@@ -352,13 +352,13 @@ module _ {t : ℕ} (c : Cutoffs) (p N q : ℕ) (hp : p ≤ 6) (p1 : 0 < p) (hN :
         x' = (wald_marked marks c s' beta' betaH' b').value
 
         v : Marked
-        v = at marks (vRows marks c s beta beta_h b) 0 0
+        v = at marks (v_rows marks c s beta beta_h b) 0 0
 
         v' : Marked
-        v' = at marks (vRows marks c s' beta' betaH' b') 0 0
+        v' = at marks (v_rows marks c s' beta' betaH' b') 0 0
 
         go : (e : Bool) → eqb q 1 ≡ e → x' ≡ x
-            → ◌≡◌ {A = Number} (cond (e && not (isPositive v'.value)) None (number_of x')) (cond (e && not (isPositive v.value)) None (number_of x))
+            → ◌≡◌ {A = Number} (cond (e && not (is_positive v'.value)) None (number_of x')) (cond (e && not (is_positive v.value)) None (number_of x))
         go true e h = rw (given-agrees e, h)
         go false e h = rw h
 
@@ -368,10 +368,10 @@ module _ {t : ℕ} (c : Cutoffs) (p N q : ℕ) (hp : p ≤ 6) (p1 : 0 < p) (hN :
     refused-agrees = rw x-alike.refusals (ap (λ (z : Bool). elimination.refused marks 6 12 q p (a_rows marks c s beta beta_h b) l || z) (go (eqb q 1) refl))
       where
         r : Bool
-        r = elimination.refused marks 6 12 q 1 (vRows marks c s beta beta_h b) (ldRows marks c s beta beta_h b)
+        r = elimination.refused marks 6 12 q 1 (v_rows marks c s beta beta_h b) (ld_rows marks c s beta beta_h b)
 
         r' : Bool
-        r' = elimination.refused marks 6 12 q 1 (vRows marks c s' beta' betaH' b') (ldRows marks c s' beta' betaH' b')
+        r' = elimination.refused marks 6 12 q 1 (v_rows marks c s' beta' betaH' b') (ld_rows marks c s' beta' betaH' b')
 
         go : (e : Bool) → eqb q 1 ≡ e → cond e false r' ≡ cond e false r
         go true e = refl

@@ -10,7 +10,7 @@ use lib.IntN.{ℤ, nat_abs, ◌+ℤ◌}
 use lib.ListN.{get_or}
 use lib.Ieee.{Float, nan, binary64, fits}
 use borrow.Author.Tests.{eqb-true, not-false}
-use Rattle.arithmetic.specs.Numbers.{plusZero}
+use Rattle.arithmetic.specs.Numbers.{plus_zero}
 use Rattle.arithmetic.specs.Scale.{scale}
 use Rattle.arithmetic.specs.Marks.{MarkBears}
 use Rattle.algebra.specs.Reasons.{first}
@@ -26,8 +26,8 @@ use Rattle.tests.specs.Answer.{no_entry}
 use Rattle.tests.specs.KenwardRoger.{Run, scaled_by}
 use Rattle.tests.specs.Verdict.{verdict, verdicts, RunBears, RunSurvives}
 use Rattle.records.specs.format.Kinds.{limits}
-use Rattle.records.specs.format.File.{lengthReasons, formReasons}
-use Rattle.records.specs.format.Order.{orderReasons}
+use Rattle.records.specs.format.File.{length_reasons, form_reasons}
+use Rattle.records.specs.format.Order.{order_reasons}
 use Rattle.records.specs.readers.Archive as archive
 use Rattle.records.specs.readers.Archive.{Archive, archive_of}
 use Rattle.records.specs.readers.SecondFile as second
@@ -88,7 +88,7 @@ module _ (c : Cutoffs) (s u : List ℕ) where
     archive-taken = first-front (archive.reasons s) later_reasons e
 
     second-taken : second.refusal (archive.coefficients s) u ≡ 0
-    unfolding from_archive_number from_archive_reasons archive.refusal archive.reasons archive.valueReasons archive.scaled_reasons second.refusal lengthReasons orderReasons formReasons
+    unfolding from_archive_number from_archive_reasons archive.refusal archive.reasons archive.value_reasons archive.scaled_reasons second.refusal length_reasons order_reasons form_reasons
     second-taken =
         first-front (second.reasons (archive.coefficients s) u) (archive_test_reasons c s u)
         (sym (first_next (archive.reasons s) later_reasons refl archive-taken) ∙ e)
@@ -126,7 +126,7 @@ module _ {t : ℕ} (c : Cutoffs) (s u : List ℕ) (k : ℤ) (m : ℕ → ℤ) (n
   formed = well_formed (second.reader p) u (accepted-formed (second.reader p) u (second-taken c s u e))
 
   p-is : second.coefficients u ≡ archive.coefficients s
-  unfolding second.refusal second.reasons second.formed_for second.valueReasons
+  unfolding second.refusal second.reasons second.formed_for second.value_reasons
   p-is =
       let q = second.reader p in
       let none = first-none (q.own u) refl (accepted-own q u (second-taken c s u e)) 0 (lit≤ tt) in
@@ -146,12 +146,12 @@ module _ {t : ℕ} (c : Cutoffs) (s u : List ℕ) (k : ℤ) (m : ℕ → ℤ) (n
   sizes = record { some = sized.some_coefficients; coefficients = sized.coefficients_below; matrices = sized.parameters_below; contrast = hr }
 
   abbrev square : ℕ → ℕ → Rows
-  square kind n = table plusZero 6 6 p p (archive.cell_value s kind n)
+  square kind n = table plus_zero 6 6 p p (archive.cell_value s kind n)
 
   square-written : (kind n : ℕ) → WrittenCells p p (square kind n)
   square-written kind n i j h l =
       let b = sized.coefficients_below in
-      rw (table_at plusZero 6 6 p p (archive.cell_value s kind n) i j nan h l b b) (cell-fits (archive.kinds s) s kind n i j)
+      rw (table_at plus_zero 6 6 p p (archive.cell_value s kind n) i j nan h l b b) (cell-fits (archive.kinds s) s kind n i j)
 
   units : WrittenUnits p N a.phi (adjustment_in a)
   unfolding archive_of

@@ -12,7 +12,7 @@ use Rattle.arithmetic.specs.Marks.{most_borne}
 use Rattle.arithmetic.proofs.MarkLaws.{inside-bears}
 use Rattle.arithmetic_cutoffs.specs.declared.Cutoffs.{Cutoffs}
 use Rattle.records.specs.format.Layout.{answer_bytes}
-use Rattle.records.specs.readers.CutoffTable.{badTable, cutoffsIn, built_in_table}
+use Rattle.records.specs.readers.CutoffTable.{bad_table, cutoffs_in, built_in_table}
 use Rattle.records.specs.calls.Call.{call_written}
 use Rattle.records.specs.calls.ArchiveCall.{from_archive_number, from_archive_entries, testing_call, testing_returned}
 use Rattle.records.proofs.calls.CallLaws.{files-decide}
@@ -38,24 +38,24 @@ within-from-archive c s u k m near nears e inside = borne-from-archive c 64 s u 
 -- times 4 ^ k, each P in response units divided by 4 ^ k, β and β_H times 2 ^ k and each contrast row times its own 2 ^ (m r), both are accepted again, and rank, F and df of every entry
 -- are the same bits, or none where they were none.
 pub converter-from-archive : FromArchiveDemand
-converter-from-archive lab ok = within-from-archive (cutoffsIn lab)
+converter-from-archive lab ok = within-from-archive (cutoffs_in lab)
 
 -- ---- in answer bytes: files with the same verdicts have the same bytes but for the marks
-module _ (lab : List ℕ) (ok : badTable lab ≡ false) where
+module _ (lab : List ℕ) (ok : bad_table lab ≡ false) where
   -- an accepted table, two accepted files and bytes of the stated length: the call returns 0
-  pair-returns : (s u : List ℕ) → from_archive_number (cutoffsIn lab) s u ≡ 0 → (answer : List ℕ) → length answer ≡ 168 → testing_returned lab s u answer ≡ 0
+  pair-returns : (s u : List ℕ) → from_archive_number (cutoffs_in lab) s u ≡ 0 → (answer : List ℕ) → length answer ≡ 168 → testing_returned lab s u answer ≡ 0
   unfolding from_archive_number
   pair-returns s u e answer h = files-decide (testing_call s u) lab answer refl h ok ∙ e
 
-  pair-answer : (s u s' u' : List ℕ) → from_archive_number (cutoffsIn lab) s u ≡ 0 → SamePairVerdicts (cutoffsIn lab) s u s' u' → SamePairAnswers lab s u s' u'
+  pair-answer : (s u s' u' : List ℕ) → from_archive_number (cutoffs_in lab) s u ≡ 0 → SamePairVerdicts (cutoffs_in lab) s u s' u' → SamePairAnswers lab s u s' u'
   unfolding call_written
   pair-answer s u s' u' e v =
-      same_answer 168 (testing_returned lab s u) (testing_returned lab s' u') (answer_bytes (from_archive_entries (cutoffsIn lab) s u)) (answer_bytes (from_archive_entries (cutoffsIn lab) s' u'))
-      (pair-returns s u e) (pair-returns s' u' v.accepted) (answer-same (from_archive_entries (cutoffsIn lab) s u) (from_archive_entries (cutoffsIn lab) s' u') v.verdicts)
+      same_answer 168 (testing_returned lab s u) (testing_returned lab s' u') (answer_bytes (from_archive_entries (cutoffs_in lab) s u)) (answer_bytes (from_archive_entries (cutoffs_in lab) s' u'))
+      (pair-returns s u e) (pair-returns s' u' v.accepted) (answer-same (from_archive_entries (cutoffs_in lab) s u) (from_archive_entries (cutoffs_in lab) s' u') v.verdicts)
 
 pub borne-answer-from-archive : FromArchiveBorneAnswer
 borne-answer-from-archive lab ok t s u k m near nears e bears =
-    pair-answer lab ok s u (converted (archive_change k) s) (converted (kenward_roger_change k m) u) e (borne-from-archive (cutoffsIn lab) t s u k m near nears e bears)
+    pair-answer lab ok s u (converted (archive_change k) s) (converted (kenward_roger_change k m) u) e (borne-from-archive (cutoffs_in lab) t s u k m near nears e bears)
 
 -- Each accepted table, and every archive and second file that the test accepts with it and with all entries inside: lent any 168 bytes, it returns 0 for the converted two as well, and
 -- writes every byte that it writes for the two themselves, but byte 19 of each entry, the mark.

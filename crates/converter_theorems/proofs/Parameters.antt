@@ -6,7 +6,7 @@ use mathlib.Core.List.{List, []}
 use lib.Dec.{T}
 use lib.ListN.{get_or, replicate, length-replicate}
 use lib.Ieee.{Float, nan, binary64, fits}
-use Rattle.arithmetic.specs.Numbers.{plusZero}
+use Rattle.arithmetic.specs.Numbers.{plus_zero}
 use Rattle.algebra.specs.Table.{blank, table}
 use Rattle.algebra.specs.Kind.{floats}
 use Rattle.algebra.specs.Product.{at}
@@ -46,30 +46,30 @@ module _ (s : List ℕ) (z : InputSizes (inputs s)) where
 
   pub l-at : (i j : ℕ) → i < contrast_rows s → j < coefficients s → at floats (inputs s).l i j ≡ cell_value s 9 0 i j
   unfolding inputs
-  l-at i j h o = table_at plusZero 6 6 (contrast_rows s) (coefficients s) (cell_value s 9 0) i j nan h o hq hp
+  l-at i j h o = table_at plus_zero 6 6 (contrast_rows s) (coefficients s) (cell_value s 9 0) i j nan h o hq hp
 
   pub beta-at : (i : ℕ) → i < coefficients s → get_or (inputs s).beta i nan ≡ cell_value s 8 0 i 0
   unfolding inputs
-  beta-at i h = row_at plusZero 6 (coefficients s) (λ i. cell_value s 8 0 i 0) i nan h hp
+  beta-at i h = row_at plus_zero 6 (coefficients s) (λ i. cell_value s 8 0 i 0) i nan h hp
 
   pub beta_h-at : (i : ℕ) → i < coefficients s → get_or (inputs s).beta_h i nan ≡ cell_value s 10 0 i 0
   unfolding inputs
-  beta_h-at i h = row_at plusZero 6 (coefficients s) (λ i. cell_value s 10 0 i 0) i nan h hp
+  beta_h-at i h = row_at plus_zero 6 (coefficients s) (λ i. cell_value s 10 0 i 0) i nan h hp
 
   pub v-at : (i j : ℕ) → i < coefficients s → j < coefficients s → at floats (inputs s).v i j ≡ cell_value s 30 0 i j
   unfolding inputs
-  v-at i j h o = table_at plusZero 6 6 (coefficients s) (coefficients s) (cell_value s 30 0) i j nan h o hp hp
+  v-at i j h o = table_at plus_zero 6 6 (coefficients s) (coefficients s) (cell_value s 30 0) i j nan h o hp hp
 
   pub js-at : (r i j : ℕ) → r < parameters s → i < coefficients s → j < coefficients s → at floats (get_or (inputs s).js r []) i j ≡ cell_value s 31 r i j
   unfolding inputs jacobians
   js-at r i j l h o =
-      rw (span-at 0 (parameters s) (λ i. table plusZero 6 6 (coefficients s) (coefficients s) (cell_value s 31 i)) (replicate 4 (blank plusZero 6 6)) r [] (omega arith) l
-      (omega (arith, hn, length-replicate 4 (blank plusZero 6 6))))
-      (table_at plusZero 6 6 (coefficients s) (coefficients s) (cell_value s 31 r) i j nan h o hp hp)
+      rw (span-at 0 (parameters s) (λ i. table plus_zero 6 6 (coefficients s) (coefficients s) (cell_value s 31 i)) (replicate 4 (blank plus_zero 6 6)) r [] (omega arith) l
+      (omega (arith, hn, length-replicate 4 (blank plus_zero 6 6))))
+      (table_at plus_zero 6 6 (coefficients s) (coefficients s) (cell_value s 31 r) i j nan h o hp hp)
 
   pub a_at : (i j : ℕ) → i < parameters s → j < parameters s → at floats (inputs s).a i j ≡ cell_value s 32 0 i j
   unfolding inputs
-  a_at i j h o = table_at plusZero 6 6 (parameters s) (parameters s) (cell_value s 32 0) i j nan h o (omega (arith, hn)) (omega (arith, hn))
+  a_at i j h o = table_at plus_zero 6 6 (parameters s) (parameters s) (cell_value s 32 0) i j nan h o (omega (arith, hn)) (omega (arith, hn))
 
   -- each is an f64 number
   fine : {x : Float} (k n r c : ℕ) → x ≡ cell_value s k n r c → T (fits binary64 x)

@@ -15,20 +15,20 @@ use Rattle.algebra.specs.Kind.{floats, marks}
 use Rattle.algebra.specs.Product.{at}
 use Rattle.algebra.proofs.MovingCells.{abs-twice}
 use Rattle.arithmetic_cutoffs.specs.declared.Cutoffs.{Cutoffs}
-use Rattle.arithmetic_cutoffs.specs.Cutoffs.{documentCutoffs}
+use Rattle.arithmetic_cutoffs.specs.Cutoffs.{document_cutoffs}
 use Rattle.tests.specs.declared.Number.{Number}
 use Rattle.tests.specs.declared.Entry.{Entry}
 use Rattle.algebra.specs.Reasons.{first}
-use Rattle.records.specs.format.Kinds.{kindAt, width, satterthwaiteKinds}
+use Rattle.records.specs.format.Kinds.{kind_at, width, satterthwaite_kinds}
 use Rattle.records.specs.format.File.{present}
-use Rattle.tests.specs.Satterthwaite.{startSeen, satterthwaite as test}
+use Rattle.tests.specs.Satterthwaite.{start_seen, satterthwaite as test}
 use Rattle.tests.proofs.SatterthwaiteSurvives.{InputSizes, ConvertedInputs, SameOutcome, satterthwaite-survives}
 use Rattle.records.specs.readers.Parameters.{coefficients, contrast_rows, parameters, sizes, kinds, reasons, refusal, cell_value, inputs}
 use Rattle.records.specs.calls.SatterthwaiteCall.{outcome, test_reasons, all_reasons, number, entry}
 use Rattle.tests.specs.Verdict.{verdict}
 use Rattle.algebra.proofs.ReasonLaws.{first-front}
 use Rattle.records.proofs.readers.AcceptedParameters.{AcceptedParameters, accepted-parameters}
-use Rattle.converter.specs.Converted.{satterthwaiteShift, satterthwaiteChange, converted}
+use Rattle.converter.specs.Converted.{satterthwaite_shift, satterthwaite_change, converted}
 use Rattle.records.proofs.format.Slots.{Inside}
 use Rattle.converter.specs.ReadAlike.{Exact}
 use Rattle.converter.proofs.Among.{among}
@@ -59,27 +59,27 @@ none n h = omega arith
 module _ (k : ℤ) (s : List ℕ) (c : AcceptedParameters s) (h : InputExact k s) where
   -- cell (n, r, j) of a kind, scaled by what the change does to it, is an f64 number
   abbrev CellsAgain : ℕ → Type 0
-  CellsAgain kind = (n r j : ℕ) → Inside (kindAt (kinds s) kind) n r j → Again (satterthwaiteShift k kind n r j) (cell_value s kind n r j)
+  CellsAgain kind = (n r j : ℕ) → Inside (kind_at (kinds s) kind) n r j → Again (satterthwaite_shift k kind n r j) (cell_value s kind n r j)
 
   estimates-again : CellsAgain 8
-  unfolding kindAt satterthwaiteKinds width sizes satterthwaiteShift
+  unfolding kind_at satterthwaite_kinds width sizes satterthwaite_shift
   estimates-again n r j i = rw (none n i.number, none j i.column) (h.estimates r i.row)
 
   hypotheses-again : CellsAgain 10
-  unfolding kindAt satterthwaiteKinds width sizes satterthwaiteShift
+  unfolding kind_at satterthwaite_kinds width sizes satterthwaite_shift
   hypotheses-again n r j i = rw (none n i.number, none j i.column) (h.hypotheses r (guarded (present s 10) r (coefficients s) i.row))
 
   variance-again : CellsAgain 30
-  unfolding kindAt satterthwaiteKinds width sizes satterthwaiteShift
+  unfolding kind_at satterthwaite_kinds width sizes satterthwaite_shift
   variance-again n r j i = rw (none n i.number) (h.variance r j i.row i.column)
 
   jacobian-again : CellsAgain 31
-  unfolding kindAt satterthwaiteKinds width sizes satterthwaiteShift
+  unfolding kind_at satterthwaite_kinds width sizes satterthwaite_shift
   jacobian-again n r j i = h.jacobian n r j i.number i.row i.column
 
-  input-exact : Exact (satterthwaiteChange k) s
+  input-exact : Exact (satterthwaite_change k) s
   input-exact =
-      exact-cells (satterthwaiteChange k) (kinds s) s c.formed.once c.formed.within (parameters-numbered k (sizes s))
+      exact-cells (satterthwaite_change k) (kinds s) s c.formed.once c.formed.within (parameters-numbered k (sizes s))
       (λ kind n r j e. among 8 10 30 31 CellsAgain estimates-again hypotheses-again variance-again jacobian-again kind e n r j)
 
 -- ---- the call's parts
@@ -100,7 +100,7 @@ module _ (c : Cutoffs) (s : List ℕ) where
 -- ---- a file that is accepted with an entry that bears t, and a k that t covers
 module _ {t : ℕ} (c : Cutoffs) (rotation : T (fits binary64 c.rotation)) (s : List ℕ) (k : ℤ) (near : 4 * nat_abs k ≤ t) (e : number c s ≡ 0) (bears : MarkBears t (entry c s).inside) where
   abbrev s' : List ℕ
-  s' = converted (satterthwaiteChange k) s
+  s' = converted (satterthwaite_change k) s
 
   taken : AcceptedParameters s
   taken = accepted-parameters s (not-refused c s e)
@@ -111,7 +111,7 @@ module _ {t : ℕ} (c : Cutoffs) (rotation : T (fits binary64 c.rotation)) (s : 
   test-bears : MarkBears t (test marks c (inputs s)).entry.inside
   test-bears = subst (λ (x : Entry). MarkBears t x.inside) (entry-is c s e) bears
 
-  start : Bears t (startSeen marks c (inputs s))
+  start : Bears t (start_seen marks c (inputs s))
   start = start-bears c (inputs s) z test-bears
 
   once : nat_abs k ≤ t
@@ -129,7 +129,7 @@ module _ {t : ℕ} (c : Cutoffs) (rotation : T (fits binary64 c.rotation)) (s : 
     jacobian = λ r i j l h o. subst (Again (k +ℤ k)) (js-at s z r i j l h o) (js-again c (inputs s) z start (inputs-written s z) (k +ℤ k) twice r i j l h o);
   }
 
-  exact : Exact (satterthwaiteChange k) s
+  exact : Exact (satterthwaite_change k) s
   exact = input-exact k s taken numbers-exact
 
   -- the refusals before any computing stay, and so the converted file's sizes are within the limits
@@ -149,12 +149,12 @@ module _ {t : ℕ} (c : Cutoffs) (rotation : T (fits binary64 c.rotation)) (s : 
   of-n : {i : ℕ} → i < parameters s → i < parameters s'
   of-n {i} l = subst (λ (n : ℕ). i < n) (sym (n-same k s)) l
 
-  moved : (kind n r j : ℕ) → (satterthwaiteChange k).rewrites kind ≡ true → cell_value s' kind n r j ≡ scale (satterthwaiteShift k kind n r j) (cell_value s kind n r j)
+  moved : (kind n r j : ℕ) → (satterthwaite_change k).rewrites kind ≡ true → cell_value s' kind n r j ≡ scale (satterthwaite_shift k kind n r j) (cell_value s kind n r j)
   moved = scales k s exact taken.formed.within
 
   -- the test's input is the file's, scaled exactly
   scaled-input : ConvertedInputs k (inputs s) (inputs s')
-  unfolding inputs satterthwaiteShift
+  unfolding inputs satterthwaite_shift
   scaled-input = record {
     p = p-same k s;
     q = q-same k s;
@@ -197,7 +197,7 @@ module _ {t : ℕ} (c : Cutoffs) (rotation : T (fits binary64 c.rotation)) (s : 
       ap (λ (n : Number). record { f = n; df = y.df; rank = y.rank }) f ∙ ap (λ (n : Number). record { f = x.f; df = n; rank = y.rank }) d
       ∙ ap (λ (n : ℕ). record { f = x.f; df = x.df; rank = n }) r
 
-  pub parameters-same : SameVerdict c s (converted (satterthwaiteChange k) s)
+  pub parameters-same : SameVerdict c s (converted (satterthwaite_change k) s)
   parameters-same = record {
     accepted = number-after;
     same = ap verdict (entry-is c s' number-after)
@@ -206,6 +206,6 @@ module _ {t : ℕ} (c : Cutoffs) (rotation : T (fits binary64 c.rotation)) (s : 
   }
 
 -- document 01's cutoff of Jacobi's rotation test is an f64 number
-pub document-rotation : T (fits binary64 documentCutoffs.rotation)
-unfolding documentCutoffs fits
+pub document-rotation : T (fits binary64 document_cutoffs.rotation)
+unfolding document_cutoffs fits
 document-rotation = tt

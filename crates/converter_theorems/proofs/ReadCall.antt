@@ -6,7 +6,7 @@ use mathlib.Core.List.{List, map}
 use lib.IntN.{ℤ, nat_abs}
 use lib.ListN.{get_or}
 use Rattle.records.specs.readers.CutoffTable.{built_in_table}
-use Rattle.arithmetic_cutoffs.specs.Cutoffs.{documentCutoffs}
+use Rattle.arithmetic_cutoffs.specs.Cutoffs.{document_cutoffs}
 use Rattle.algebra.specs.Small.{Rows}
 use Rattle.adjustment.specs.Covariance.{Design, matrices}
 use Rattle.adjustment.specs.Adjusted.{Adjustment, adjustment, adjustment_refusal}
@@ -33,37 +33,37 @@ pub record Reads (s : List ℕ) (d : Design) (f : Rows) (rows : ℕ) (x : Input)
 
 -- what the adjustment and the run make of it
 pub record Runs (d : Design) (f : Rows) (rows : ℕ) (x : Input) (a : Adjustment) (es : List Entry) : Type 0 where
-  pub refusal : adjustment_refusal documentCutoffs d f x.sigma2 ≡ 0
-  pub adjusted : adjustment documentCutoffs d f ≡ a
-  pub run : run_on documentCutoffs d.p (matrices d) rows f a x ≡ record { refused = false; entries = es }
+  pub refusal : adjustment_refusal document_cutoffs d f x.sigma2 ≡ 0
+  pub adjusted : adjustment document_cutoffs d f ≡ a
+  pub run : run_on document_cutoffs d.p (matrices d) rows f a x ≡ record { refused = false; entries = es }
 
 module _ {s : List ℕ} {d : Design} {f : Rows} {rows : ℕ} {x : Input} {a : Adjustment} {es : List Entry} (reads : Reads s d f rows x) (runs : Runs d f rows x a es) where
-  read-run : run documentCutoffs s ≡ record { refused = false; entries = es }
+  read-run : run document_cutoffs s ≡ record { refused = false; entries = es }
   read-run =
-      run_is documentCutoffs s
-      ∙ ap (λ (d : Design). whole documentCutoffs d (phi s) (contrast_rows s) (input_of s)) reads.design
-      ∙ ap (λ (f : Rows). whole documentCutoffs d f (contrast_rows s) (input_of s)) reads.phi
-      ∙ ap (λ (n : ℕ). whole documentCutoffs d f n (input_of s)) reads.contrast
-      ∙ ap (λ (x : Input). whole documentCutoffs d f rows x) reads.input
-      ∙ ap (λ (a : Adjustment). run_on documentCutoffs d.p (matrices d) rows f a x) runs.adjusted
+      run_is document_cutoffs s
+      ∙ ap (λ (d : Design). whole document_cutoffs d (phi s) (contrast_rows s) (input_of s)) reads.design
+      ∙ ap (λ (f : Rows). whole document_cutoffs d f (contrast_rows s) (input_of s)) reads.phi
+      ∙ ap (λ (n : ℕ). whole document_cutoffs d f n (input_of s)) reads.contrast
+      ∙ ap (λ (x : Input). whole document_cutoffs d f rows x) reads.input
+      ∙ ap (λ (a : Adjustment). run_on document_cutoffs d.p (matrices d) rows f a x) runs.adjusted
       ∙ runs.run
 
-  pub read-accepted : number 24 documentCutoffs s ≡ 0
+  pub read-accepted : number 24 document_cutoffs s ≡ 0
   read-accepted =
-      number_is documentCutoffs s 24
-      ∙ ap (λ (n : ℕ). first (listed (reasons 24 s) n (run documentCutoffs s).refused))
-      (ap (λ (d : Design). adjustment_refusal documentCutoffs d (phi s) (sigma2 s)) reads.design
-      ∙ ap (λ (f : Rows). adjustment_refusal documentCutoffs d f (sigma2 s)) reads.phi
-      ∙ ap (λ (x : Input). adjustment_refusal documentCutoffs d f x.sigma2) reads.input
+      number_is document_cutoffs s 24
+      ∙ ap (λ (n : ℕ). first (listed (reasons 24 s) n (run document_cutoffs s).refused))
+      (ap (λ (d : Design). adjustment_refusal document_cutoffs d (phi s) (sigma2 s)) reads.design
+      ∙ ap (λ (f : Rows). adjustment_refusal document_cutoffs d f (sigma2 s)) reads.phi
+      ∙ ap (λ (x : Input). adjustment_refusal document_cutoffs d f x.sigma2) reads.input
       ∙ runs.refusal)
       ∙ ap (λ (r : Run). first (listed (reasons 24 s) 0 r.refused)) read-run
       ∙ reads.passes
 
-  pub read-entries : entries 24 documentCutoffs s ≡ es
-  read-entries = entries-are documentCutoffs s 24 read-accepted ∙ ap (λ (r : Run). r.entries) read-run
+  pub read-entries : entries 24 document_cutoffs s ≡ es
+  read-entries = entries-are document_cutoffs s 24 read-accepted ∙ ap (λ (r : Run). r.entries) read-run
 
   -- the entries in use are inside
-  pub read-inside : (p : ℕ) → coefficients s ≡ p → ((i : ℕ) → i < p → (get_or es i no_entry).inside ≡ true) → (get_or es 6 no_entry).inside ≡ true → AllInside 24 documentCutoffs s
+  pub read-inside : (p : ℕ) → coefficients s ≡ p → ((i : ℕ) → i < p → (get_or es i no_entry).inside ≡ true) → (get_or es 6 no_entry).inside ≡ true → AllInside 24 document_cutoffs s
   read-inside p e each last = record {
     coefficient = λ i h. ap (λ (es : List Entry). (get_or es i no_entry).inside) read-entries ∙ each i (subst (λ (n : ℕ). i < n) e h);
     contrast = λ h. ap (λ (es : List Entry). (get_or es 6 no_entry).inside) read-entries ∙ last;
@@ -72,20 +72,20 @@ module _ {s : List ℕ} {d : Design} {f : Rows} {rows : ℕ} {x : Input} {a : Ad
 -- DEMAND 3 IS NOT EMPTY: its premises hold of the file s, which has the verdicts vs; the converted file is s', another file, accepted with the same verdicts, and its answer has every byte
 -- but the marks
 pub record Witness (s : List ℕ) (k : ℤ) (m : ℕ → ℤ) (s' : List ℕ) (vs : List Verdict) : Type 0 where
-  pub accepted : number 24 documentCutoffs s ≡ 0
-  pub inside : AllInside 24 documentCutoffs s
-  pub verdicts : map verdict (entries 24 documentCutoffs s) ≡ vs
+  pub accepted : number 24 document_cutoffs s ≡ 0
+  pub inside : AllInside 24 document_cutoffs s
+  pub verdicts : map verdict (entries 24 document_cutoffs s) ≡ vs
   pub other : converted (kenward_roger_change k m) s ≡ s'
-  pub accepted_again : number 24 documentCutoffs s' ≡ 0
-  pub same_verdicts : map verdict (entries 24 documentCutoffs s') ≡ vs
+  pub accepted_again : number 24 document_cutoffs s' ≡ 0
+  pub same_verdicts : map verdict (entries 24 document_cutoffs s') ≡ vs
   pub same_answer : SameAnswers 24 built_in_table s s'
 
 pub witness : (s : List ℕ) (k : ℤ) (m : ℕ → ℤ) (s' : List ℕ) (vs : List Verdict)
-    → nat_abs k ≤ 32 → ((r : ℕ) → nat_abs (m r) ≤ 32) → number 24 documentCutoffs s ≡ 0 → AllInside 24 documentCutoffs s → map verdict (entries 24 documentCutoffs s) ≡ vs
+    → nat_abs k ≤ 32 → ((r : ℕ) → nat_abs (m r) ≤ 32) → number 24 document_cutoffs s ≡ 0 → AllInside 24 document_cutoffs s → map verdict (entries 24 document_cutoffs s) ≡ vs
     → converted (kenward_roger_change k m) s ≡ s' → Witness s k m s' vs
 witness s k m s' vs near nears e inside v other =
-    let same : SameVerdicts 24 documentCutoffs s s' =
-    subst (λ (t : List ℕ). SameVerdicts 24 documentCutoffs s t) other (within-kenward-roger 24 documentCutoffs s k m near (λ r h. nears r) e inside) in
+    let same : SameVerdicts 24 document_cutoffs s s' =
+    subst (λ (t : List ℕ). SameVerdicts 24 document_cutoffs s t) other (within-kenward-roger 24 document_cutoffs s k m near (λ r h. nears r) e inside) in
     record {
       accepted = e;
       inside = inside;

@@ -13,7 +13,7 @@ use lib.Ieee.{fin, lt, to_bits}
 use Rattle.tests.specs.declared.Entry.{Entry}
 use Rattle.tests.specs.declared.Number.{Number}
 use Rattle.tests.specs.declared.Number.TheVariants.{Is}
-use Rattle.arithmetic_cutoffs.specs.Cutoffs.{documentCutoffs}
+use Rattle.arithmetic_cutoffs.specs.Cutoffs.{document_cutoffs}
 use Rattle.tests.specs.Answer.{no_entry}
 use Rattle.records.specs.calls.KenwardRogerCall.{number, entries}
 use Rattle.records.specs.format.Bytes.{bytes_of}
@@ -46,11 +46,11 @@ pull-alone i l = subst (λ (j : ℕ). OneSeries (get_or (pull_file ∷ []) j [])
     whole = refl
 
 -- its lines, its F, and the worst of it alone
-lines-text : series_lines documentCutoffs pull_file ≡ codes "coef 0 rank 1 F 4022000000000000 df 3ff0000000000000 inside\ntest rank 1 F 4022000000000000 df 3ff0000000000000 inside\n"
+lines-text : series_lines document_cutoffs pull_file ≡ codes "coef 0 rank 1 F 4022000000000000 df 3ff0000000000000 inside\ntest rank 1 F 4022000000000000 df 3ff0000000000000 inside\n"
 unfolding series_lines
 lines-text = lot.pulltest
 
-f-nine : contrast_f documentCutoffs pull_file ≡ Is (fin false 9 (pos 0))
+f-nine : contrast_f document_cutoffs pull_file ≡ Is (fin false 9 (pos 0))
 unfolding contrast_f
 f-nine = ap (λ (es : List Entry). (get_or es 6 no_entry).f) pull-entries
 
@@ -58,11 +58,11 @@ nine-text : codes "worst " ++ (number_text (Is (fin false 9 (pos 0))) ++ codes "
 unfolding codes number_text hexadecimal digit to_bits
 nine-text = refl
 
-worst-text : worst_line documentCutoffs (pull_file ∷ []) ≡ codes "worst 4022000000000000\n"
+worst-text : worst_line document_cutoffs (pull_file ∷ []) ≡ codes "worst 4022000000000000\n"
 unfolding worst_line fs_of worst_after worse
 worst-text = ap (λ (n : Number). codes "worst " ++ (number_text n ++ codes "\n")) f-nine ∙ nine-text
 
-first-text : closed_texts documentCutoffs (pull_file ∷ [])
+first-text : closed_texts document_cutoffs (pull_file ∷ [])
     ≡ codes "coef 0 rank 1 F 4022000000000000 df 3ff0000000000000 inside\ntest rank 1 F 4022000000000000 df 3ff0000000000000 inside\n" ++ codes "worst 4022000000000000\n"
 unfolding closed_texts texts_to closed_text
 first-text = rw (lines-text, pull-accepted, worst-text)
@@ -72,15 +72,15 @@ unfolding left_text refusal_text decimal digit codes bytes_of
 left-text = refl
 
 -- THE SEASON'S TEXT
-pub season-example : season_text documentCutoffs (season_bytes (pull_file ∷ []) pull_file)
+pub season-example : season_text document_cutoffs (season_bytes (pull_file ∷ []) pull_file)
     ≡ (codes "coef 0 rank 1 F 4022000000000000 df 3ff0000000000000 inside\ntest rank 1 F 4022000000000000 df 3ff0000000000000 inside\n" ++ codes "worst 4022000000000000\n") ++ codes "refused 2\n"
-season-example = (season-prints documentCutoffs).text (pull_file ∷ []) pull_file pull-alone pull-unclosed ∙ rw (first-text, left-text)
+season-example = (season-prints document_cutoffs).text (pull_file ∷ []) pull_file pull-alone pull-unclosed ∙ rw (first-text, left-text)
 
 -- ---- a season of two series: the example, and a series t with F 2.25
 record LaterSeries (t : List ℕ) : Type 0 where
   one : OneSeries t
-  accepted : number 24 documentCutoffs t ≡ 0
-  judged : entries 24 documentCutoffs t ≡ later_entries
+  accepted : number 24 document_cutoffs t ≡ 0
+  judged : entries 24 document_cutoffs t ≡ later_entries
 
 -- as it is without a change of converter, and as the change makes it
 later-before : LaterSeries later_file
@@ -115,50 +115,50 @@ module _ (t : List ℕ) (later : LaterSeries t) where
   two-series : series_in (season_of_two t) ≡ pull_file ∷ t ∷ []
   two-series = season-parted.same_series (pull_file ∷ t ∷ []) [] two-alone nothing_left
 
-  later-lines : series_lines documentCutoffs t ≡ codes "coef 0 rank 1 F 4002000000000000 df 3ff0000000000000 inside\ntest rank 1 F 4002000000000000 df 3ff0000000000000 inside\n"
+  later-lines : series_lines document_cutoffs t ≡ codes "coef 0 rank 1 F 4002000000000000 df 3ff0000000000000 inside\ntest rank 1 F 4002000000000000 df 3ff0000000000000 inside\n"
   unfolding series_lines
   later-lines = ap₂ text_of later.accepted later.judged ∙ quarter-text
 
-  f-quarter : contrast_f documentCutoffs t ≡ Is (fin false 9 (negsuc 1))
+  f-quarter : contrast_f document_cutoffs t ≡ Is (fin false 9 (negsuc 1))
   unfolding contrast_f
   f-quarter = ap (λ (es : List Entry). (get_or es 6 no_entry).f) later.judged
 
-  worst-of-two : worst_line documentCutoffs (pull_file ∷ t ∷ []) ≡ codes "worst 4022000000000000\n"
+  worst-of-two : worst_line document_cutoffs (pull_file ∷ t ∷ []) ≡ codes "worst 4022000000000000\n"
   unfolding worst_line fs_of worst_after worse lt
   worst-of-two = rw (f-nine, f-quarter) nine-text
 
-  two-text : season_text documentCutoffs (season_of_two t) ≡ two_text
+  two-text : season_text document_cutoffs (season_of_two t) ≡ two_text
   unfolding closed_texts texts_to closed_text left_text
   two-text =
-      (season-prints documentCutoffs).text (pull_file ∷ t ∷ []) [] two-alone nothing_left
+      (season-prints document_cutoffs).text (pull_file ∷ t ∷ []) [] two-alone nothing_left
       ∙ rw (lines-text, pull-accepted, worst-text, later-lines, later.accepted, worst-of-two) (append-nil two_text)
 
 -- ---- the first series keeps its bytes; the second is accepted with all entries inside, and its own k and m are from -32 to 32
 series-of-two : (i : ℕ) → series_at (season_of_two later_file) i ≡ get_or (pull_file ∷ later_file ∷ []) i []
 series-of-two i = ap (λ (ts : List (List ℕ)). get_or ts i []) (two-series later_file later-before)
 
-two-kept : (j : ℕ) → j < length (series_in (season_of_two later_file)) → SeriesKept documentCutoffs later_power later_rows (season_of_two later_file) j
+two-kept : (j : ℕ) → j < length (series_in (season_of_two later_file)) → SeriesKept document_cutoffs later_power later_rows (season_of_two later_file) j
 two-kept zero l = inr (ap (λ (s : List ℕ). series_at s 0) season-computed ∙ ap (λ (ts : List (List ℕ)). get_or ts 0 []) (two-series later_shifted later-after) ∙ sym (series-of-two 0))
 two-kept (suc zero) l =
     inl (record {
       near = lit≤ tt;
       nears = λ r h. lit≤ tt;
-      accepted = ap (number 24 documentCutoffs) (series-of-two 1) ∙ later-accepted;
-      inside = subst (AllInside 24 documentCutoffs) (sym (series-of-two 1)) later-inside;
+      accepted = ap (number 24 document_cutoffs) (series-of-two 1) ∙ later-accepted;
+      inside = subst (AllInside 24 document_cutoffs) (sym (series-of-two 1)) later-inside;
     })
 two-kept (suc (suc j)) l = let e = ap length (two-series later_file later-before) in absurd (omega arith)
 
 -- A SEASON WITH A CHANGE AT ITS SECOND SERIES: the new file, the text of both files, which is the same whole, and that the season meets the theorem's premise
 pub record SeasonChanged : Type 0 where
   pub bytes : converted_season after_first (season_of_two later_file) ≡ season_of_two later_shifted
-  pub text : season_text documentCutoffs (season_of_two later_file) ≡ two_text
-  pub text_again : season_text documentCutoffs (converted_season after_first (season_of_two later_file)) ≡ two_text
-  pub kept : (j : ℕ) → j < length (series_in (season_of_two later_file)) → SeriesKept documentCutoffs later_power later_rows (season_of_two later_file) j
+  pub text : season_text document_cutoffs (season_of_two later_file) ≡ two_text
+  pub text_again : season_text document_cutoffs (converted_season after_first (season_of_two later_file)) ≡ two_text
+  pub kept : (j : ℕ) → j < length (series_in (season_of_two later_file)) → SeriesKept document_cutoffs later_power later_rows (season_of_two later_file) j
 
 pub season-changed : SeasonChanged
 season-changed = record {
   bytes = season-computed;
   text = two-text later_file later-before;
-  text_again = ap (season_text documentCutoffs) season-computed ∙ two-text later_shifted later-after;
+  text_again = ap (season_text document_cutoffs) season-computed ∙ two-text later_shifted later-after;
   kept = two-kept;
 }

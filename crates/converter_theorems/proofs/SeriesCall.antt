@@ -20,10 +20,10 @@ use Rattle.tests.specs.declared.Entry.{Entry}
 use Rattle.tests.specs.Answer.{no_entry}
 use Rattle.tests.specs.KenwardRoger.{Run}
 use Rattle.algebra.specs.Reasons.{first}
-use Rattle.records.specs.format.File.{lengthReasons, formReasons}
-use Rattle.records.specs.format.Order.{orderReasons}
+use Rattle.records.specs.format.File.{length_reasons, form_reasons}
+use Rattle.records.specs.format.Order.{order_reasons}
 use Rattle.records.specs.readers.Shortened.{shortened}
-use Rattle.records.specs.readers.Series.{coefficients, contrast_rows, as_sent, design, phi, sigma2, beta, beta_h, contrast, block_reasons, size_reasons, valueReasons, reasons, refusal}
+use Rattle.records.specs.readers.Series.{coefficients, contrast_rows, as_sent, design, phi, sigma2, beta, beta_h, contrast, block_reasons, size_reasons, value_reasons, reasons, refusal}
 use Rattle.records.specs.calls.KenwardRogerCall.{adjusted, scaled, run, number, entries}
 use Rattle.tests.specs.Verdict.{verdict, verdicts, RunBears}
 use Rattle.converter_run.specs.joints.ConvertedInput.{Input, run_on, ConvertedInput, Multiplied, RunSizes, WrittenCells, Written, ScalingMoves, SeriesSurvives}
@@ -68,7 +68,7 @@ module _ (c : Cutoffs) (s : List ℕ) where
 
   module _ (w : ℕ) where
     pub number_is : number w c s ≡ first (listed (reasons w s) (adjustment_refusal c (design s) (phi s) (sigma2 s)) (run c s).refused)
-    unfolding refusal reasons lengthReasons orderReasons formReasons block_reasons size_reasons valueReasons first
+    unfolding refusal reasons length_reasons order_reasons form_reasons block_reasons size_reasons value_reasons first
     number_is =
         let n : ℕ = adjustment_refusal c (design s) (phi s) (sigma2 s) in
         call-number c s w

@@ -10,8 +10,8 @@ use lib.ListN.{length, replicate}
 use lib.Ieee.{binary64, fits}
 use Rattle.arithmetic.specs.Marks.{most_borne}
 use Rattle.arithmetic.proofs.MarkLaws.{inside-bears}
-use Rattle.records.specs.format.Layout.{entryBytes, answer_bytes}
-use Rattle.records.specs.readers.CutoffTable.{badTable, cutoffsIn, built_in_table}
+use Rattle.records.specs.format.Layout.{entry_bytes, answer_bytes}
+use Rattle.records.specs.readers.CutoffTable.{bad_table, cutoffs_in, built_in_table}
 use Rattle.records.specs.calls.Call.{call_written}
 use Rattle.records.specs.calls.KenwardRogerCall as kenward_roger
 use Rattle.records.specs.calls.SatterthwaiteCall as satterthwaite
@@ -21,7 +21,7 @@ use Rattle.records.specs.calls.ArchiveCall.{series_archive, series_refusal, arch
 use Rattle.records.proofs.calls.CallLaws.{files-decide}
 use Rattle.records.proofs.readers.CutoffLaws.{rotation-fits, built-in-accepted, built-in-numbers}
 use Rattle.records.proofs.promises.ArchiveKeeps.{answered-archived, archive-keeps}
-use Rattle.converter.specs.Converted.{kenward_roger_change, satterthwaiteChange, converted}
+use Rattle.converter.specs.Converted.{kenward_roger_change, satterthwaite_change, converted}
 use Rattle.converter.specs.SeriesDemand.{AllInside, AllBear, SeriesWith, KenwardRogerBorne, KenwardRogerBorneAnswer, KenwardRogerDemand, KenwardRogerAnswer, ArchiveAnswer, PanelDemand, PanelAnswer, BuiltInAnswer, BuiltInArchiveAnswer, SameVerdicts, SameAnswers, SameArchiveAnswers}
 use Rattle.converter.specs.ParametersDemand.{ParametersWith, SameEntryBytes, SatterthwaiteBorne, SatterthwaiteBorneAnswer, SatterthwaiteDemand, SatterthwaiteAnswer, BuiltInEntryAnswer, SameVerdict}
 use Rattle.converter.proofs.AnswerBytes.{entry-same, answer-same, same_answer}
@@ -52,7 +52,7 @@ within-satterthwaite c rotation s k near e inside = borne-satterthwaite c rotati
 -- Each accepted table, every limit of specimens, and every file that the Kenward–Roger call accepts with them and with all entries inside: with sigma2 times 4 ^ k, β and β_H times 2 ^ k and each contrast row times its own
 -- 2 ^ (m r), the call accepts the file again, and rank, F and df of every entry are the same bits, or none where they were none.
 pub converter-kenward-roger : KenwardRogerDemand
-converter-kenward-roger w lab ok = within-kenward-roger w (cutoffsIn lab)
+converter-kenward-roger w lab ok = within-kenward-roger w (cutoffs_in lab)
 
 -- at the panel, with at most 24 specimens
 pub converter-panel : PanelDemand
@@ -61,12 +61,12 @@ converter-panel = converter-kenward-roger 24
 -- Each accepted table, and every file that the Satterthwaite call accepts with it and with its entry inside: with v and each Jacobian times 4 ^ k, β and β_H times 2 ^ k, the call accepts the file again, and rank, F and df
 -- are the same bits, or none where they were none.
 pub converter-satterthwaite : SatterthwaiteDemand
-converter-satterthwaite lab ok = within-satterthwaite (cutoffsIn lab) (rotation-fits lab)
+converter-satterthwaite lab ok = within-satterthwaite (cutoffs_in lab) (rotation-fits lab)
 
 -- ---- in answer bytes: files with the same verdicts have the same bytes but for the marks
-module _ (lab : List ℕ) (ok : badTable lab ≡ false) where
+module _ (lab : List ℕ) (ok : bad_table lab ≡ false) where
   abbrev own : Cutoffs
-  own = cutoffsIn lab
+  own = cutoffs_in lab
 
   -- an accepted table, an accepted file and bytes of the stated length: the call returns 0
   series-returns : (w : ℕ) (s : List ℕ) → kenward_roger.number w own s ≡ 0 → (answer : List ℕ) → length answer ≡ 168 → kenward_roger.returned w lab s answer ≡ 0
@@ -75,7 +75,7 @@ module _ (lab : List ℕ) (ok : badTable lab ≡ false) where
 
   pub parameters-returns : (s : List ℕ) → satterthwaite.number own s ≡ 0 → (answer : List ℕ) → length answer ≡ 24 → satterthwaite.returned lab s answer ≡ 0
   unfolding satterthwaite.number
-  parameters-returns s e answer h = files-decide (satterthwaite.testCall s) lab answer refl h ok ∙ e
+  parameters-returns s e answer h = files-decide (satterthwaite.test_call s) lab answer refl h ok ∙ e
 
   series-answer : (w : ℕ) (s s' : List ℕ) → kenward_roger.number w own s ≡ 0 → SameVerdicts w own s s' → SameAnswers w lab s s'
   unfolding call_written
@@ -86,16 +86,16 @@ module _ (lab : List ℕ) (ok : badTable lab ≡ false) where
   parameters-answer : (s s' : List ℕ) → satterthwaite.number own s ≡ 0 → SameVerdict own s s' → SameEntryBytes lab s s'
   unfolding call_written
   parameters-answer s s' e v =
-      same_answer 24 (satterthwaite.returned lab s) (satterthwaite.returned lab s') (entryBytes (satterthwaite.entry own s)) (entryBytes (satterthwaite.entry own s')) (parameters-returns s e)
+      same_answer 24 (satterthwaite.returned lab s) (satterthwaite.returned lab s') (entry_bytes (satterthwaite.entry own s)) (entry_bytes (satterthwaite.entry own s')) (parameters-returns s e)
       (parameters-returns s' v.accepted) (entry-same (satterthwaite.entry own s) (satterthwaite.entry own s') v.same)
 
 pub borne-answer-kenward-roger : KenwardRogerBorneAnswer
 borne-answer-kenward-roger w lab ok t s k m near nears e bears =
-    series-answer lab ok w s (converted (kenward_roger_change k m) s) e (borne-kenward-roger w (cutoffsIn lab) t s k m near nears e bears)
+    series-answer lab ok w s (converted (kenward_roger_change k m) s) e (borne-kenward-roger w (cutoffs_in lab) t s k m near nears e bears)
 
 pub borne-answer-satterthwaite : SatterthwaiteBorneAnswer
 borne-answer-satterthwaite lab ok t s k near e bears =
-    parameters-answer lab ok s (converted (satterthwaiteChange k) s) e (borne-satterthwaite (cutoffsIn lab) (rotation-fits lab) t s k near e bears)
+    parameters-answer lab ok s (converted (satterthwaite_change k) s) e (borne-satterthwaite (cutoffs_in lab) (rotation-fits lab) t s k near e bears)
 
 -- Each accepted table, and every file that the Kenward–Roger call accepts with it and with all entries inside: lent any 168 bytes, it returns 0 for the converted file too, and writes every byte that it writes for the
 -- file itself, but byte 19 of each entry, the mark.
@@ -104,26 +104,26 @@ answer-kenward-roger w lab ok s k m near nears e inside =
     series-answer lab ok w s (converted (kenward_roger_change k m) s) e (converter-kenward-roger w lab ok s k m near nears e inside)
 
 -- a series that the call accepts is archived, in lent bytes of the stated length
-archived-left : (lab : List ℕ) → badTable lab ≡ false → (w : ℕ) (s : List ℕ) → kenward_roger.number w (cutoffsIn lab) s ≡ 0 → (lent : List ℕ) → length lent ≡ archive_length → archiving_refusal w lab s lent ≡ 0
+archived-left : (lab : List ℕ) → bad_table lab ≡ false → (w : ℕ) (s : List ℕ) → kenward_roger.number w (cutoffs_in lab) s ≡ 0 → (lent : List ℕ) → length lent ≡ archive_length → archiving_refusal w lab s lent ≡ 0
 unfolding series_refusal
-archived-left lab ok w s e lent h = files-decide (archiving_call w s) lab lent refl h ok ∙ answered-archived w (cutoffsIn lab) s e
+archived-left lab ok w s e lent h = files-decide (archiving_call w s) lab lent refl h ok ∙ answered-archived w (cutoffs_in lab) s e
 
 -- the test from a series' archive with the series' own tests: both are accepted where the series is
-own-accepted : (lab : List ℕ) → badTable lab ≡ false → (w : ℕ) (s : List ℕ) → kenward_roger.number w (cutoffsIn lab) s ≡ 0
-    → from_archive_number (cutoffsIn lab) (archive_bytes (series_archive (cutoffsIn lab) s)) (own_tests s) ≡ 0
+own-accepted : (lab : List ℕ) → bad_table lab ≡ false → (w : ℕ) (s : List ℕ) → kenward_roger.number w (cutoffs_in lab) s ≡ 0
+    → from_archive_number (cutoffs_in lab) (archive_bytes (series_archive (cutoffs_in lab) s)) (own_tests s) ≡ 0
 unfolding from_archive_number
 own-accepted lab ok w s e =
-    let file = archive_bytes (series_archive (cutoffsIn lab) s) in
+    let file = archive_bytes (series_archive (cutoffs_in lab) s) in
     let answer : List ℕ = replicate 168 0 in
     sym (files-decide (testing_call file (own_tests s)) lab answer refl refl ok)
-    ∙ archive-keeps.archived_number w lab s answer (answered-archived w (cutoffsIn lab) s e)
+    ∙ archive-keeps.archived_number w lab s answer (answered-archived w (cutoffs_in lab) s e)
     ∙ series-returns lab ok w s e answer refl
 
 -- So does a test from its archive, as the writer left it, with its own records of kinds 8 to 10 and the same table: the converted series' archive and own tests are what the changes make of the series' own, and what holds of
 -- every archive and second file holds of these.
 pub answer-archive : ArchiveAnswer
 answer-archive w lab ok s k m near nears e inside =
-    let c = cutoffsIn lab in
+    let c = cutoffs_in lab in
     let s' = converted (kenward_roger_change k m) s in
     let n = own-accepted lab ok w s e in
     let own = own-archive-converted w c 64 s k m (omega arith) (λ r h. le_trans (nears r h) (lit≤ tt)) e (inside-bear w c s (lit≤ tt) inside) in
@@ -139,7 +139,7 @@ answer-panel = answer-kenward-roger 24
 -- Each accepted table, and every file that the Satterthwaite call accepts with it and with its entry inside, lent any 24 bytes, likewise.
 pub answer-satterthwaite : SatterthwaiteAnswer
 answer-satterthwaite lab ok s k near e inside =
-    parameters-answer lab ok s (converted (satterthwaiteChange k) s) e (converter-satterthwaite lab ok s k near e inside)
+    parameters-answer lab ok s (converted (satterthwaite_change k) s) e (converter-satterthwaite lab ok s k near e inside)
 
 -- ---- THE CALLS WITHOUT A TABLE are the instances at the built-in one, whose numbers are document 01's
 pub built-in-answer : BuiltInAnswer

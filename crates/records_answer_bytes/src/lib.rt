@@ -4,7 +4,7 @@
 ghost use Rattle.std.specs.Prelude.{◌≡◌, ◌+◌, ◌≤◌, length};
 ghost use Rattle.std.proofs.lemmas.List.Edits.{sets};
 ghost use Rattle.tests.specs.Answer.{is_given};
-ghost use Rattle.records.specs.format.Layout.{bits_of, flag, entryBytes, answer_bytes, answer_length, entry_length};
+ghost use Rattle.records.specs.format.Layout.{bits_of, flag, entry_bytes, answer_bytes, answer_length, entry_length};
 
 use arithmetic::plain::to_bits;
 use records::ENTRY_LENGTH;
@@ -40,7 +40,7 @@ fn flag_of(b: bool) -> u8
 // An entry's 24 bytes, put from a place on.
 pub fn put_entry(a: &mut [u8], at: usize, e: Entry)
     requires { at + entry_length ≤ length a.old }
-    ensures { a.new ≡ sets a.old at (entryBytes e) }
+    ensures { a.new ≡ sets a.old at (entry_bytes e) }
 {
     let f = e.f;
     let df = e.df;

@@ -11,7 +11,7 @@ use Rattle.algebra.specs.Small.{Rows}
 use Rattle.adjustment.specs.Adjusted.{Stack}
 use Rattle.records.specs.declared.Kind.{Kind}
 use Rattle.records.specs.format.Scan.{total}
-use Rattle.records.specs.format.Kinds.{width, Table, kindAt, kind_numbers, by_row_and_column, by_count, archive_kinds}
+use Rattle.records.specs.format.Kinds.{width, Table, kind_at, kind_numbers, by_row_and_column, by_count, archive_kinds}
 use Rattle.records.specs.format.Cells.{slots, first_slot}
 use Rattle.records.specs.format.Written.{sequence, kind_file, file_of}
 use Rattle.records.specs.readers.Archive.{Archive, sizes_at, archived, archive_content, archive_bytes}
@@ -33,7 +33,7 @@ module _ (p N : ℕ) (few : p ≤ 6) (fewer : N ≤ 4) where
     pub row : width z.row ≤ 6
     pub column : width z.column ≤ 6
 
-  pub narrow : (k : ℕ) → Narrow (kindAt (archive_kinds (sizes_at p N)) k)
+  pub narrow : (k : ℕ) → Narrow (kind_at (archive_kinds (sizes_at p N)) k)
   unfolding archive_kinds sizes_at width
   narrow k =
       let square : Narrow (by_row_and_column p p) = record { number = omega arith; row = few; column = few } in
@@ -43,11 +43,11 @@ module _ (p N : ℕ) (few : p ≤ 6) (fewer : N ≤ 4) where
       (record { number = omega arith; row = omega arith; column = omega arith })
 
   -- kind k ends within the 7184 bytes
-  pub kind-room : (k : ℕ) → k < kind_numbers → 16 * first_slot (archive_kinds (sizes_at p N)) k + 16 * slots (kindAt (archive_kinds (sizes_at p N)) k) ≤ 7184
+  pub kind-room : (k : ℕ) → k < kind_numbers → 16 * first_slot (archive_kinds (sizes_at p N)) k + 16 * slots (kind_at (archive_kinds (sizes_at p N)) k) ≤ 7184
   unfolding first_slot
   kind-room k l =
-      let a = total-more k (λ j. slots (kindAt archive_sized j)) in
-      let b = total-le (k + 1) kind_numbers (λ j. slots (kindAt archive_sized j)) (omega arith) in
+      let a = total-more k (λ j. slots (kind_at archive_sized j)) in
+      let b = total-le (k + 1) kind_numbers (λ j. slots (kind_at archive_sized j)) (omega arith) in
       let d = archive-slots p N few fewer in
       omega arith
 
@@ -60,7 +60,7 @@ module _ (p N : ℕ) (phi phi_a : Rows) (ps : Stack) (w : Rows) (sigma2 : Float)
   front k = sequence k (kind_file (archive_kinds (sizes_at p N)) (archive_content parts))
 
   -- what is put of a kind is what the file has of it: a number does not look at the sizes
-  kind-bytes : (k : ℕ) → matrices_bytes (archive_from 0 0 phi phi_a ps w sigma2) (kindAt (archive_kinds (sizes_at p N)) k) k ≡ kind_file (archive_kinds (sizes_at p N)) (archive_content parts) k
+  kind-bytes : (k : ℕ) → matrices_bytes (archive_from 0 0 phi phi_a ps w sigma2) (kind_at (archive_kinds (sizes_at p N)) k) k ≡ kind_file (archive_kinds (sizes_at p N)) (archive_content parts) k
   unfolding matrices_bytes sheet_bytes line_bytes cell_bytes kind_file archive_content archived
   kind-bytes k = refl
 
@@ -73,14 +73,14 @@ module _ (p N : ℕ) (phi phi_a : Rows) (ps : Stack) (w : Rows) (sigma2 : Float)
   unfolding sequence first_slot total
   front-none out₀ = record { place = refl; stands = refl }
 
-  pub front-more : (out₀ out end : List ℕ) (k at next : ℕ) (z : Kind) → Front out₀ out k at → z ≡ kindAt (archive_kinds (sizes_at p N)) k → next ≡ at + 16 * slots z
+  pub front-more : (out₀ out end : List ℕ) (k at next : ℕ) (z : Kind) → Front out₀ out k at → z ≡ kind_at (archive_kinds (sizes_at p N)) k → next ≡ at + 16 * slots z
       → end ≡ sets out at (matrices_bytes (archive_from 0 0 phi phi_a ps w sigma2) z k) → Front out₀ end (k + 1) next
   unfolding first_slot
   front-more out₀ out end k at next z b ez en ee =
       let t = archive_kinds (sizes_at p N) in
       let l : length (front k) ≡ 16 * first_slot t k = length_front t (archive_content parts) k in
-      let a = total-more k (λ j. slots (kindAt t j)) in
-      let e : slots z ≡ slots (kindAt t k) = ap slots ez in
+      let a = total-more k (λ j. slots (kind_at t j)) in
+      let e : slots z ≡ slots (kind_at t k) = ap slots ez in
       let q : at ≡ 0 + length (front k) = let h = b.place in omega arith in
       let x : end ≡ sets out at (kind_file t (archive_content parts) k) = ee ∙ ap (λ (y : Kind). sets out at (matrices_bytes (archive_from 0 0 phi phi_a ps w sigma2) y k)) ez ∙ ap (sets out at) (kind-bytes k) in
       record { place = let h = b.place in omega arith; stands = pieces-next out₀ out end 0 k at (kind_file t (archive_content parts)) b.stands q x ∙ ap (λ (j : ℕ). sets out₀ 0 (front j)) (sym (add-one k)) }

@@ -11,9 +11,9 @@ use Rattle.records.specs.declared.Field.{Field}
 use Rattle.records.specs.declared.Field.TheVariants.{Index, Number, Unused}
 use Rattle.records.specs.declared.Kind.{Kind}
 use Rattle.records.specs.format.Bytes.{bytes_of}
-use Rattle.records.specs.format.Kinds.{width, indexOf}
+use Rattle.records.specs.format.Kinds.{width, index_of}
 use Rattle.records.specs.format.Cells.{slots}
-use Rattle.records.specs.format.Written.{recordOf, field_of, cell_record, sequence}
+use Rattle.records.specs.format.Written.{record_of, field_of, cell_record, sequence}
 use Rattle.records.specs.readers.Archive.{Archive, archived, archive_content}
 use Rattle.records_archive_bytes.specs.joints.Parts.{cell_bytes, line_bytes, sheet_bytes}
 use Rattle.records.proofs.format.WrittenLaws.{sequence-length-of}
@@ -30,12 +30,12 @@ small_count n h =
 
 -- the head, then the value
 pub record-stored : (out mid end : List ℕ) (at k r c n b r' c' n' : ℕ) → n < 256 → r' ≡ r → c' ≡ c → n' ≡ n
-    → mid ≡ sets out at (k ∷ r' ∷ c' ∷ 0 ∷ n' ∷ 0 ∷ 0 ∷ 0 ∷ []) → end ≡ sets mid (at + 8) (bytes_of 8 b) → end ≡ sets out at (recordOf k r c n b)
+    → mid ≡ sets out at (k ∷ r' ∷ c' ∷ 0 ∷ n' ∷ 0 ∷ 0 ∷ 0 ∷ []) → end ≡ sets mid (at + 8) (bytes_of 8 b) → end ≡ sets out at (record_of k r c n b)
 record-stored out mid end at k r c n b r' c' n' h er ec en em ee =
     let head : List ℕ = k ∷ r ∷ c ∷ 0 ∷ n ∷ 0 ∷ 0 ∷ 0 ∷ [] in
     let m : mid ≡ sets out at (k ∷ r ∷ c ∷ 0 ∷ n ∷ 0 ∷ 0 ∷ 0 ∷ []) = rw (← er, ← ec, ← en) em in
     let x : sets (sets out at head) (at + 8) (bytes_of 8 b) ≡ sets out at (head ++ bytes_of 8 b) = sets-append out at head (bytes_of 8 b) in
-    let y : recordOf k r c n b ≡ head ++ bytes_of 8 b = rw (small_count n h) in
+    let y : record_of k r c n b ≡ head ++ bytes_of 8 b = rw (small_count n h) in
     ee ∙ ap (λ (l : List ℕ). sets l (at + 8) (bytes_of 8 b)) m ∙ x ∙ ap (sets out at) (sym y)
 
 -- ---- pieces of one length, one after another
@@ -71,20 +71,20 @@ pieces-next out mid end at j place f em ep ee =
 
 -- ---- the record of a cell
 -- an index is as small as the number that it is read from; a field that is written for it holds it
-pub index-small : (g : Field) (x b : ℕ) → x < b → indexOf g x < b
-unfolding indexOf
+pub index-small : (g : Field) (x b : ℕ) → x < b → index_of g x < b
+unfolding index_of
 index-small (Index limit) x b l = l
 index-small Number x b l = omega arith
 index-small Unused x b l = omega arith
 
-field-index-of : (g : Field) (x : ℕ) → field_of g x 0 ≡ indexOf g x
-unfolding indexOf field_of
+field-index-of : (g : Field) (x : ℕ) → field_of g x 0 ≡ index_of g x
+unfolding index_of field_of
 field-index-of (Index limit) x = refl
 field-index-of Number x = refl
 field-index-of Unused x = refl
 
-pub cell-stored : (out end : List ℕ) (a : Archive) (z : Kind) (at k n r c r' c' n' b : ℕ) (x : Float) → r' ≡ indexOf z.row r → c' ≡ indexOf z.column c → n' ≡ indexOf z.count n → x ≡ archived a k n r c → b ≡ to_bits binary64 x
-    → end ≡ sets out at (recordOf k r' c' n' b) → end ≡ sets out at (cell_bytes a z k n r c)
+pub cell-stored : (out end : List ℕ) (a : Archive) (z : Kind) (at k n r c r' c' n' b : ℕ) (x : Float) → r' ≡ index_of z.row r → c' ≡ index_of z.column c → n' ≡ index_of z.count n → x ≡ archived a k n r c → b ≡ to_bits binary64 x
+    → end ≡ sets out at (record_of k r' c' n' b) → end ≡ sets out at (cell_bytes a z k n r c)
 unfolding cell_bytes cell_record archive_content
 cell-stored out end a z at k n r c r' c' n' b x er ec en ex eb ee =
     rw (field-index-of z.row r, field-index-of z.column c, field-index-of z.count n, ← er, ← ec, ← en, ← ex, ← eb) ee

@@ -5,7 +5,7 @@ ghost use Rattle.std.specs.Prelude.{◌≡◌, ◌+◌, ◌*◌, ◌<◌, ◌≤
 ghost use Rattle.std.proofs.lemmas.List.Edits.{sets};
 ghost use Rattle.records.specs.format.Kinds.{width};
 ghost use Rattle.records.specs.format.Cells.{slots};
-ghost use Rattle.records.specs.format.Written.{recordOf};
+ghost use Rattle.records.specs.format.Written.{record_of};
 ghost use Rattle.records.specs.readers.Archive.{sizes_at, archived, archive_bytes, archive_length};
 ghost use Rattle.records_archive_bytes.specs.joints.Parts.{archive_from, cell_bytes, line_bytes, sheet_bytes, matrices_bytes};
 
@@ -49,7 +49,7 @@ pub fn put_record(
     bits: u64,
 )
     requires { (at + 16 ≤ length out.old) × (row < 256) × (column < 256) × (count < 256) }
-    ensures { out.new ≡ sets out.old at (recordOf kind row column count bits) }
+    ensures { out.new ≡ sets out.old at (record_of kind row column count bits) }
 {
     put8(
         out,

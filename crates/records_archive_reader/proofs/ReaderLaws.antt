@@ -8,7 +8,7 @@ use mathlib.Core.List.{List, [], ◌++◌}
 use lib.Dec.{eqb, lit<, lit≤}
 use lib.ListN.{length, get_or, replicate, length-replicate}
 use lib.Ieee.{Float, nan, binary64, mul, div, le}
-use Rattle.arithmetic.specs.Numbers.{plusZero}
+use Rattle.arithmetic.specs.Numbers.{plus_zero}
 use Rattle.algebra.specs.Kind.{floats}
 use Rattle.algebra.specs.Product.{at}
 use Rattle.algebra.specs.Table.{table, blank}
@@ -20,11 +20,11 @@ use Rattle.adjustment.specs.Adjusted.{matrix_at, stack}
 use Rattle.records.specs.declared.Kind.{Kind}
 use Rattle.records.specs.declared.Sizes.{Sizes}
 use Rattle.records.specs.format.Scan.{any}
-use Rattle.records.specs.format.Kinds.{width, Table, kindAt, kind_numbers, kinds_of, archive_kinds, archive_table}
+use Rattle.records.specs.format.Kinds.{width, Table, kind_at, kind_numbers, kinds_of, archive_kinds, archive_table}
 use Rattle.records.specs.format.Cells.{slots, first_slot, slot_count, offset, slot}
-use Rattle.records.specs.format.File.{count, beyond, notFinite}
+use Rattle.records.specs.format.File.{count, beyond, not_finite}
 use Rattle.records.specs.readers.Reader.{formed_number}
-use Rattle.records.specs.readers.Archive.{reader, sizes_at, archived, coefficients, parameters, sizes, kinds, cell_value, archive_of, misscaled, valueReasons, scaled_reasons, reasons, refusal}
+use Rattle.records.specs.readers.Archive.{reader, sizes_at, archived, coefficients, parameters, sizes, kinds, cell_value, archive_of, misscaled, value_reasons, scaled_reasons, reasons, refusal}
 use Rattle.records.proofs.format.ScanLaws.{any_same}
 use Rattle.records.proofs.format.Slots.{Inside, any_cells}
 use Rattle.records.proofs.readers.ReaderLaws.{own-decides, accepted-formed}
@@ -43,41 +43,41 @@ module _ (z : Sizes) where
 
   -- a kind of as many rows and columns as there are coefficients, and of one for each parameter
   abbrev LikePhi : ℕ → Type 0
-  LikePhi k = Flat (kindAt t k) z.coefficients z.coefficients
+  LikePhi k = Flat (kind_at t k) z.coefficients z.coefficients
 
   abbrev LikePs : ℕ → Type 0
-  LikePs k = Stack (kindAt t k) z.parameters z.coefficients z.coefficients
+  LikePs k = Stack (kind_at t k) z.parameters z.coefficients z.coefficients
 
   scaled-phi-flat : LikePhi 11
-  unfolding kindAt archive_kinds width
+  unfolding kind_at archive_kinds width
   scaled-phi-flat = record { number = refl; row = refl; column = refl }
 
   scaled-phi-a-flat : LikePhi 12
-  unfolding kindAt archive_kinds width
+  unfolding kind_at archive_kinds width
   scaled-phi-a-flat = record { number = refl; row = refl; column = refl }
 
   scaled-ps-stack : LikePs 13
-  unfolding kindAt archive_kinds width
+  unfolding kind_at archive_kinds width
   scaled-ps-stack = record { number = refl; row = refl; column = refl }
 
-  w-flat : Flat (kindAt t 14) z.parameters z.parameters
-  unfolding kindAt archive_kinds width
+  w-flat : Flat (kind_at t 14) z.parameters z.parameters
+  unfolding kind_at archive_kinds width
   w-flat = record { number = refl; row = refl; column = refl }
 
   phi-flat : LikePhi 15
-  unfolding kindAt archive_kinds width
+  unfolding kind_at archive_kinds width
   phi-flat = record { number = refl; row = refl; column = refl }
 
   phi-a-flat : LikePhi 16
-  unfolding kindAt archive_kinds width
+  unfolding kind_at archive_kinds width
   phi-a-flat = record { number = refl; row = refl; column = refl }
 
   ps-stack : LikePs 17
-  unfolding kindAt archive_kinds width
+  unfolding kind_at archive_kinds width
   ps-stack = record { number = refl; row = refl; column = refl }
 
-  variance-flat : Flat (kindAt t 18) 1 1
-  unfolding kindAt archive_kinds width
+  variance-flat : Flat (kind_at t 18) 1 1
+  unfolding kind_at archive_kinds width
   variance-flat = record { number = refl; row = refl; column = refl }
 
   -- ---- where they start, and that they stand on a sheet of L numbers
@@ -87,7 +87,7 @@ module _ (z : Sizes) where
       square-on k l f = kind_fits t fs e L room k l z.coefficients z.coefficients f
 
       squares-on : (k : ℕ) → k < kind_numbers → LikePs k → get_or fs k 0 + z.parameters * (z.coefficients * z.coefficients) ≤ L
-      squares-on k l f = kind-on t fs e L room k l (z.parameters * (z.coefficients * z.coefficients)) (stack-slots (kindAt t k) z.parameters z.coefficients z.coefficients f)
+      squares-on k l f = kind-on t fs e L room k l (z.parameters * (z.coefficients * z.coefficients)) (stack-slots (kind_at t k) z.parameters z.coefficients z.coefficients f)
 
       pub w_fits : get_or fs 14 0 + z.parameters * z.parameters ≤ L
       w_fits = kind_fits t fs e L room 14 (lit< tt) z.parameters z.parameters w-flat
@@ -114,7 +114,7 @@ module _ (z : Sizes) where
     unfolding misscaled_in
     misscaled-cases xs = rw (kind-starts t fs e 11 (lit< tt), kind-starts t fs e 12 (lit< tt), kind-starts t fs e 13 (lit< tt), kind-starts t fs e 15 (lit< tt), kind-starts t fs e 16 (lit< tt), kind-starts t fs e 17 (lit< tt), kind-starts t fs e 18 (lit< tt))
 
-    pub number-cases : (xs : List Float) → numbers_refusal z xs ≡ cond (le (get_or xs (get_or fs 18 0) nan) plusZero) 5 (cond (misscaled_in z xs) 2 0)
+    pub number-cases : (xs : List Float) → numbers_refusal z xs ≡ cond (le (get_or xs (get_or fs 18 0) nan) plus_zero) 5 (cond (misscaled_in z xs) 2 0)
     unfolding numbers_refusal
     number-cases xs = rw (kind-starts t fs e 18 (lit< tt))
 
@@ -145,7 +145,7 @@ module _ (s : List ℕ) (within : any (count s) (beyond (kinds s) s) ≡ false) 
   sheet = sheet_after L (kinds s) s (count s)
 
   -- the number in a cell's slot
-  slot-value : (k n r c : ℕ) → Inside (kindAt (kinds s) k) n r c → get_or sheet (first_slot (kinds s) k + offset (kindAt (kinds s) k) n r c) nan ≡ cell_value s k n r c
+  slot-value : (k n r c : ℕ) → Inside (kind_at (kinds s) k) n r c → get_or sheet (first_slot (kinds s) k + offset (kind_at (kinds s) k) n r c) nan ≡ cell_value s k n r c
   unfolding slot
   slot-value k n r c i = cell-value Archived (sizes s) s within L room k n r c nan i
 
@@ -166,28 +166,28 @@ module _ (s : List ℕ) (within : any (count s) (beyond (kinds s) s) ≡ false) 
       }
 
   -- a scaled kind k beside its residual one j, slot after slot: f makes the scaled number of the residual one
-  scaled_read : (k j : ℕ) (f : Float → Float) → kindAt (kinds s) j ≡ kindAt (kinds s) k
-      → ((n r c : ℕ) → Inside (kindAt (kinds s) k) n r c → archived (archive_of s) k n r c ≡ f (cell_value s j n r c))
-      → any (slots (kindAt (kinds s) k)) (λ i. differs (get_or sheet (first_slot (kinds s) k + i) nan) (f (get_or sheet (first_slot (kinds s) j + i) nan))) ≡ misscaled s k
+  scaled_read : (k j : ℕ) (f : Float → Float) → kind_at (kinds s) j ≡ kind_at (kinds s) k
+      → ((n r c : ℕ) → Inside (kind_at (kinds s) k) n r c → archived (archive_of s) k n r c ≡ f (cell_value s j n r c))
+      → any (slots (kind_at (kinds s) k)) (λ i. differs (get_or sheet (first_slot (kinds s) k + i) nan) (f (get_or sheet (first_slot (kinds s) j + i) nan))) ≡ misscaled s k
   unfolding misscaled differs
   scaled_read k j f e h =
-      let y : Kind = kindAt (kinds s) k in
+      let y : Kind = kind_at (kinds s) k in
       any_cells y (λ i. differs (get_or sheet (first_slot (kinds s) k + i) nan) (f (get_or sheet (first_slot (kinds s) j + i) nan)))
       ∙ any_same (width y.count) _ _ (λ n l. any_same (width y.row) _ _ (λ r m. any_same (width y.column) _ _ (λ c o. here n r c (record { number = l; row = m; column = o }))))
     where
-      there : (n r c : ℕ) → Inside (kindAt (kinds s) k) n r c → get_or sheet (first_slot (kinds s) j + offset (kindAt (kinds s) k) n r c) nan ≡ cell_value s j n r c
+      there : (n r c : ℕ) → Inside (kind_at (kinds s) k) n r c → get_or sheet (first_slot (kinds s) j + offset (kind_at (kinds s) k) n r c) nan ≡ cell_value s j n r c
       there n r c i = subst (λ (y : Kind). Inside y n r c → get_or sheet (first_slot (kinds s) j + offset y n r c) nan ≡ cell_value s j n r c) e (slot-value j n r c) i
 
-      here : (n r c : ℕ) → Inside (kindAt (kinds s) k) n r c
-          → differs (get_or sheet (first_slot (kinds s) k + offset (kindAt (kinds s) k) n r c) nan) (f (get_or sheet (first_slot (kinds s) j + offset (kindAt (kinds s) k) n r c) nan))
+      here : (n r c : ℕ) → Inside (kind_at (kinds s) k) n r c
+          → differs (get_or sheet (first_slot (kinds s) k + offset (kind_at (kinds s) k) n r c) nan) (f (get_or sheet (first_slot (kinds s) j + offset (kind_at (kinds s) k) n r c) nan))
           ≡ differs (cell_value s k n r c) (archived (archive_of s) k n r c)
       here n r c i = ap₂ differs (slot-value k n r c i) (ap f (there n r c i) ∙ sym (h n r c i))
 
   -- ---- within the limits: the scaled records of Φ, of Φ_A and of the Ps
   module _ (few : (coefficients s ≤ 6) × (parameters s ≤ 4)) where
     -- a cell of the table of kind j, where kind k has its cells
-    phi-cell : (k j n r c : ℕ) → Flat (kindAt (kinds s) k) (coefficients s) (coefficients s) → Inside (kindAt (kinds s) k) n r c
-        → at floats (table plusZero 6 6 (coefficients s) (coefficients s) (cell_value s j 0)) r c ≡ cell_value s j n r c
+    phi-cell : (k j n r c : ℕ) → Flat (kind_at (kinds s) k) (coefficients s) (coefficients s) → Inside (kind_at (kinds s) k) n r c
+        → at floats (table plus_zero 6 6 (coefficients s) (coefficients s) (cell_value s j 0)) r c ≡ cell_value s j n r c
     phi-cell k j n r c f i =
         let a = f.number in
         let b = i.number in
@@ -196,39 +196,39 @@ module _ (s : List ℕ) (within : any (count s) (beyond (kinds s) s) ≡ false) 
         let ec = f.column in
         let ic = i.column in
         let e : 0 ≡ n = omega arith in
-        table_at plusZero 6 6 (coefficients s) (coefficients s) (cell_value s j 0) r c nan (omega arith) (omega arith) few.0 few.0 ∙ ap (λ (m : ℕ). cell_value s j m r c) e
+        table_at plus_zero 6 6 (coefficients s) (coefficients s) (cell_value s j 0) r c nan (omega arith) (omega arith) few.0 few.0 ∙ ap (λ (m : ℕ). cell_value s j m r c) e
 
-    ps-cell : (n r c : ℕ) → Inside (kindAt (kinds s) 13) n r c → at floats (matrix_at (archive_of s).ps n) r c ≡ cell_value s 17 n r c
-    unfolding archive_of stack kindAt archive_kinds width sizes sizes_at
+    ps-cell : (n r c : ℕ) → Inside (kind_at (kinds s) 13) n r c → at floats (matrix_at (archive_of s).ps n) r c ≡ cell_value s 17 n r c
+    unfolding archive_of stack kind_at archive_kinds width sizes sizes_at
     ps-cell n r c i =
-        let f : ℕ → Rows = λ m. table plusZero 6 6 (coefficients s) (coefficients s) (cell_value s 17 m) in
-        let h = length-replicate 4 (blank plusZero 6 6) in
+        let f : ℕ → Rows = λ m. table plus_zero 6 6 (coefficients s) (coefficients s) (cell_value s 17 m) in
+        let h = length-replicate 4 (blank plus_zero 6 6) in
         let l = few.1 in
-        ap (λ (m : Rows). at floats m r c) (span-at 0 (parameters s) f (replicate 4 (blank plusZero 6 6)) n [] (omega arith) i.number (omega arith))
-        ∙ table_at plusZero 6 6 (coefficients s) (coefficients s) (cell_value s 17 n) r c nan i.row i.column few.0 few.0
+        ap (λ (m : Rows). at floats m r c) (span-at 0 (parameters s) f (replicate 4 (blank plus_zero 6 6)) n [] (omega arith) i.number (omega arith))
+        ∙ table_at plus_zero 6 6 (coefficients s) (coefficients s) (cell_value s 17 n) r c nan i.row i.column few.0 few.0
 
     -- a scaled table of kind k, whose residual one is of kind j: of Φ and of Φ_A; and the scaled Ps
-    times-read : (k j : ℕ) → Flat (kindAt (kinds s) k) (coefficients s) (coefficients s) → kindAt (kinds s) j ≡ kindAt (kinds s) k
-        → ((n r c : ℕ) → archived (archive_of s) k n r c ≡ mul binary64 (at floats (table plusZero 6 6 (coefficients s) (coefficients s) (cell_value s j 0)) r c) (archive_of s).sigma2)
+    times-read : (k j : ℕ) → Flat (kind_at (kinds s) k) (coefficients s) (coefficients s) → kind_at (kinds s) j ≡ kind_at (kinds s) k
+        → ((n r c : ℕ) → archived (archive_of s) k n r c ≡ mul binary64 (at floats (table plus_zero 6 6 (coefficients s) (coefficients s) (cell_value s j 0)) r c) (archive_of s).sigma2)
         → not_scaled false sheet (first_slot (kinds s) k) (first_slot (kinds s) j) (coefficients s * coefficients s) (archive_of s).sigma2 ≡ misscaled s k
     unfolding not_scaled in_units
     times-read k j f e h =
-        ap (λ (m : ℕ). not_scaled false sheet (first_slot (kinds s) k) (first_slot (kinds s) j) m (archive_of s).sigma2) (sym (flat-slots (kindAt (kinds s) k) (coefficients s) (coefficients s) f))
+        ap (λ (m : ℕ). not_scaled false sheet (first_slot (kinds s) k) (first_slot (kinds s) j) m (archive_of s).sigma2) (sym (flat-slots (kind_at (kinds s) k) (coefficients s) (coefficients s) f))
         ∙ scaled_read k j (λ x. mul binary64 x (archive_of s).sigma2) e (λ n r c i. h n r c ∙ ap (λ (x : Float). mul binary64 x (archive_of s).sigma2) (phi-cell k j n r c f i))
 
     ps-read : not_scaled true sheet (first_slot (kinds s) 13) (first_slot (kinds s) 17) (parameters s * (coefficients s * coefficients s)) (archive_of s).sigma2 ≡ misscaled s 13
-    unfolding not_scaled in_units archived kindAt archive_kinds sizes sizes_at
+    unfolding not_scaled in_units archived kind_at archive_kinds sizes sizes_at
     ps-read =
-        ap (λ (m : ℕ). not_scaled true sheet (first_slot (kinds s) 13) (first_slot (kinds s) 17) m (archive_of s).sigma2) (sym (stack-slots (kindAt (kinds s) 13) (parameters s) (coefficients s) (coefficients s) (scaled-ps-stack (sizes s))))
+        ap (λ (m : ℕ). not_scaled true sheet (first_slot (kinds s) 13) (first_slot (kinds s) 17) m (archive_of s).sigma2) (sym (stack-slots (kind_at (kinds s) 13) (parameters s) (coefficients s) (coefficients s) (scaled-ps-stack (sizes s))))
         ∙ scaled_read 13 17 (λ x. div binary64 x (archive_of s).sigma2) refl (λ n r c i. ap (λ (x : Float). div binary64 x (archive_of s).sigma2) (ps-cell n r c i))
 
     misscaled-read : misscaled_in (sizes s) sheet ≡ (misscaled s 11 || misscaled s 12 || misscaled s 13)
-    unfolding misscaled_in sizes sizes_at archived archive_of kindAt archive_kinds
+    unfolding misscaled_in sizes sizes_at archived archive_of kind_at archive_kinds
     misscaled-read = rw (variance-read, times-read 11 15 (scaled-phi-flat (sizes s)) refl (λ n r c. refl), times-read 12 16 (scaled-phi-a-flat (sizes s)) refl (λ n r c. refl), ps-read)
 
-    numbers-judged : numbers_refusal (sizes s) sheet ≡ cond (le (archive_of s).sigma2 plusZero) 5 (first (scaled_reasons s))
+    numbers-judged : numbers_refusal (sizes s) sheet ≡ cond (le (archive_of s).sigma2 plus_zero) 5 (first (scaled_reasons s))
     unfolding numbers_refusal scaled_reasons first
-    numbers-judged = rw (variance-read, misscaled-read) (ap (λ (x : ℕ). cond (le (archive_of s).sigma2 plusZero) 5 x) (one_number (misscaled s 11) (misscaled s 12) (misscaled s 13) 2))
+    numbers-judged = rw (variance-read, misscaled-read) (ap (λ (x : ℕ). cond (le (archive_of s).sigma2 plus_zero) 5 x) (one_number (misscaled s 11) (misscaled s 12) (misscaled s 13) 2))
 
 -- ---- an archive that is not refused: its sizes; z are those at hand
 pub archive-sizes-taken : (s : List ℕ) (z : Sizes) → refusal s ≡ 0 → z ≡ sizes s → FormedSizes Archived 1 s z
@@ -241,17 +241,17 @@ gives-archive s h L room xs e = subst (GivesArchive s) (sym e) (sheet-gives-arch
 
 -- ---- the number of an archive of good form, by who gives it
 module _ (s : List ℕ) (formed : formed_number reader s ≡ 0) where
-  own-reasons : refusal s ≡ first (valueReasons s ++ scaled_reasons s)
+  own-reasons : refusal s ≡ first (value_reasons s ++ scaled_reasons s)
   unfolding refusal reasons
   own-reasons = own-decides reader s formed
 
-  pub value-refused : any (count s) (notFinite s) ≡ true → 4 ≡ refusal s
-  unfolding valueReasons first
+  pub value-refused : any (count s) (not_finite s) ≡ true → 4 ≡ refusal s
+  unfolding value_reasons first
   value-refused h = sym (own-reasons ∙ rw h)
 
-  pub numbers-refused : any (count s) (notFinite s) ≡ false → (L : ℕ) (z : Sizes) (xs : List Float) (n : ℕ) → slot_count archive_table ≤ L → z ≡ sizes s → xs ≡ sheet_after L (kinds_of Archived z) s (count s)
+  pub numbers-refused : any (count s) (not_finite s) ≡ false → (L : ℕ) (z : Sizes) (xs : List Float) (n : ℕ) → slot_count archive_table ≤ L → z ≡ sizes s → xs ≡ sheet_after L (kinds_of Archived z) s (count s)
       → n ≡ numbers_refusal z xs → n ≡ refusal s
-  unfolding sizes sizes_at valueReasons first
+  unfolding sizes sizes_at value_reasons first
   numbers-refused v L z xs n l ez ex en =
       let a = formed-sizes Archived 1 (omega arith) (omega arith) s (sizes s) formed refl in
       let f = a.fit in

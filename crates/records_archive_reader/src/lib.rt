@@ -2,7 +2,7 @@
 #![tactic(auto)]
 
 ghost use Rattle.std.specs.Prelude.{◌≡◌, false, ◌+◌, ◌≤◌, length, replicate};
-ghost use Rattle.arithmetic.specs.Numbers.{plusZero};
+ghost use Rattle.arithmetic.specs.Numbers.{plus_zero};
 ghost use Rattle.records.specs.format.Kinds.{archive_kinds, archive_table};
 ghost use Rattle.records.specs.format.Cells.{slot_count};
 ghost use Rattle.records.specs.format.File.{count};
@@ -109,7 +109,7 @@ fn numbers_refusal(z: Sizes, firsts: &[usize; 34], sheet: &[f64]) -> u32
 // limits allow.
 pub fn refusal(s: &[u8], flags: &mut [bool], sheet: &mut [f64]) -> u32
     requires flags_value { (flags.old ≡ replicate (length flags.old) false) × (slot_count archive_table ≤ length flags.old) }
-    requires sheet_value { (sheet.old ≡ replicate (length sheet.old) plusZero) × (slot_count archive_table ≤ length sheet.old) }
+    requires sheet_value { (sheet.old ≡ replicate (length sheet.old) plus_zero) × (slot_count archive_table ≤ length sheet.old) }
     ensures value { result ≡ refusal s.now }
     ensures sheet_after { result ≡ 0 → sheet.new ≡ sheet_after (length sheet.old) (kinds s.now) s.now (count s.now) }
 {

@@ -13,8 +13,8 @@ use Rattle.algebra.proofs.ReasonLaws.{first-append}
 use Rattle.tests.specs.declared.Entry.{Entry}
 use Rattle.tests.specs.Answer.{no_entry}
 use Rattle.tests.specs.Entries.{run_refusal, run_entries}
-use Rattle.records.specs.format.File.{lengthReasons, formReasons}
-use Rattle.records.specs.format.Order.{orderReasons}
+use Rattle.records.specs.format.File.{length_reasons, form_reasons}
+use Rattle.records.specs.format.Order.{order_reasons}
 use Rattle.records.specs.readers.Archive as archive
 use Rattle.records.specs.readers.SecondFile as second
 use Rattle.records.specs.calls.ArchiveCall.{archive_run, archive_test_reasons, from_archive_reasons, from_archive_number, from_archive_entries}
@@ -25,12 +25,12 @@ module _ (c : Cutoffs) (s t : List ℕ) where
   second_number = second.refusal (archive.coefficients s) t
 
   after-archive : first (second.reasons (archive.coefficients s) t ++ archive_test_reasons c s t) ≡ cond (eqb second_number 0) (cond (archive_run c s t).refused 10 0) second_number
-  unfolding archive_test_reasons second.refusal second.reasons second.formed_for second.valueReasons lengthReasons orderReasons formReasons first
+  unfolding archive_test_reasons second.refusal second.reasons second.formed_for second.value_reasons length_reasons order_reasons form_reasons first
   after-archive = first-append (second.reasons (archive.coefficients s) t) (archive_test_reasons c s t) refl
 
   -- the number, from the archive's, the second file's and the run's
   archive-number-is : from_archive_number c s t ≡ cond (eqb (archive.refusal s) 0) (cond (eqb second_number 0) (cond (archive_run c s t).refused 10 0) second_number) (archive.refusal s)
-  unfolding from_archive_number from_archive_reasons archive.refusal archive.reasons archive.valueReasons archive.scaled_reasons lengthReasons orderReasons formReasons
+  unfolding from_archive_number from_archive_reasons archive.refusal archive.reasons archive.value_reasons archive.scaled_reasons length_reasons order_reasons form_reasons
   archive-number-is =
       first-append (archive.reasons s) (second.reasons (archive.coefficients s) t ++ archive_test_reasons c s t) refl
       ∙ ap (λ (n : ℕ). cond (eqb (first (archive.reasons s)) 0) n (first (archive.reasons s))) after-archive

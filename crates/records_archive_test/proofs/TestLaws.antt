@@ -14,7 +14,7 @@ use Rattle.algebra.specs.Small.{Rows}
 use Rattle.tests.specs.KenwardRoger.{Scaled, run_of}
 use Rattle.tests_run.specs.joints.Units.{response_units}
 use Rattle.records.specs.declared.Sizes.{Sizes}
-use Rattle.records.specs.format.Kinds.{width, kindAt, kinds_of, kind_numbers, archive_kinds, archive_table, test_kinds, test_table, limits}
+use Rattle.records.specs.format.Kinds.{width, kind_at, kinds_of, kind_numbers, archive_kinds, archive_table, test_kinds, test_table, limits}
 use Rattle.records.specs.format.Cells.{first_slot, slot_count}
 use Rattle.records.specs.format.File.{count, present}
 use Rattle.records.specs.readers.Archive as archive
@@ -41,12 +41,12 @@ tests-sheet = let e = slot-count 1 Second in omega arith
 
 -- ---- what the sizes leave the second file's other kinds
 module _ (z : Sizes) where
-  beta-flat : Flat (kindAt (kinds_of Second z) 8) z.coefficients 1
-  unfolding kindAt test_kinds width
+  beta-flat : Flat (kind_at (kinds_of Second z) 8) z.coefficients 1
+  unfolding kind_at test_kinds width
   beta-flat = record { number = refl; row = refl; column = refl }
 
-  hypothesis-flat : Flat (kindAt (kinds_of Second z) 10) (cond z.hypothesis z.coefficients 0) 1
-  unfolding kindAt test_kinds width
+  hypothesis-flat : Flat (kind_at (kinds_of Second z) 10) (cond z.hypothesis z.coefficients 0) 1
+  unfolding kind_at test_kinds width
   hypothesis-flat = record { number = refl; row = refl; column = refl }
 
 -- ---- what the sheet xs of a second file gives. "(β_H is then 0)": where the file has none, or no contrast, no record names a cell of it
@@ -82,7 +82,7 @@ module _ (p : ℕ) (t : List ℕ) (xs : List Float) (h : SecondOnSheet p t xs) w
     of-beta = sym (same-coefficients t z ez) ∙ as_many p t h.taken
 
     module _ (fs : List ℕ) (ef : fs ≡ first_slots (kinds_of Second z)) where
-      on-sheet-of : (k r c : ℕ) → k < kind_numbers → Flat (kindAt (kinds_of Second z) k) r c → get_or fs k 0 + r * c ≤ length xs
+      on-sheet-of : (k r c : ℕ) → k < kind_numbers → Flat (kind_at (kinds_of Second z) k) r c → get_or fs k 0 + r * c ≤ length xs
       on-sheet-of k r c l f = let a = tests-sizes.fit in let b = h.room in kind_fits (kinds_of Second z) fs ef (length xs) (omega arith) k l r c f
 
       pub estimates-fit : get_or fs 8 0 + p ≤ length xs

@@ -15,11 +15,11 @@ use Rattle.algebra.specs.Reasons.{first}
 use Rattle.algebra.proofs.ReasonLaws.{first-append}
 use Rattle.adjustment.specs.Covariance.{matrices}
 use Rattle.adjustment.specs.Adjusted.{Stack, adjustment_reasons, adjustment_refusal}
-use Rattle.records.specs.format.File.{lengthReasons, formReasons}
-use Rattle.records.specs.format.Order.{orderReasons}
-use Rattle.records.specs.readers.Series.{coefficients, block_reasons, size_reasons, valueReasons, reasons, refusal, design, phi, sigma2}
+use Rattle.records.specs.format.File.{length_reasons, form_reasons}
+use Rattle.records.specs.format.Order.{order_reasons}
+use Rattle.records.specs.readers.Series.{coefficients, block_reasons, size_reasons, value_reasons, reasons, refusal, design, phi, sigma2}
 use Rattle.records.specs.calls.KenwardRogerCall.{adjusted}
-use Rattle.records.specs.readers.CutoffTable.{badTable, cutoffsIn}
+use Rattle.records.specs.readers.CutoffTable.{bad_table, cutoffs_in}
 use Rattle.records.specs.format.Kinds.{archive_kinds}
 use Rattle.records.specs.readers.Archive.{sizes_at, archive_content, archive_bytes}
 use Rattle.records.specs.calls.ArchiveCall.{series_archive, series_reasons, series_refusal, archiving_call, told, archiving_returned, archiving_written}
@@ -46,7 +46,7 @@ archive-short p N m phi_a w ps x n few fewer e =
 -- ---- the number
 module _ (w : ℕ) (c : Cutoffs) (s : List ℕ) where
   series-number-is : series_refusal w c s ≡ cond (eqb (refusal w s) 0) (file_adjustment_refusal c s) (refusal w s)
-  unfolding series_refusal series_reasons refusal reasons lengthReasons orderReasons formReasons block_reasons size_reasons valueReasons adjustment_refusal
+  unfolding series_refusal series_reasons refusal reasons length_reasons order_reasons form_reasons block_reasons size_reasons value_reasons adjustment_refusal
   series-number-is = first-append (reasons w s) (adjustment_reasons c (design s) (phi s) (sigma2 s)) refl
 
   -- what is told of the series, and what the lent bytes hold then
@@ -89,10 +89,10 @@ module _ (lab s lent : List ℕ) where
   pub other-lent : (length lent ≡ 7184 → ⊥) → (1 ≡ archiving_returned 24 lab s lent) × (lent ≡ archiving_written 24 lab s lent)
   other-lent h = tells 1 lent (λ e. omega arith) (other_length call lab lent h)
 
-  pub refused-table : length lent ≡ 7184 → badTable lab ≡ true → (14 ≡ archiving_returned 24 lab s lent) × (lent ≡ archiving_written 24 lab s lent)
+  pub refused-table : length lent ≡ 7184 → bad_table lab ≡ true → (14 ≡ archiving_returned 24 lab s lent) × (lent ≡ archiving_written 24 lab s lent)
   refused-table l bad = tells 14 lent (λ e. omega arith) (other-table call lab lent refl l bad)
 
-  pub own-call : length lent ≡ 7184 → badTable lab ≡ false → (c : Cutoffs) → c ≡ cutoffsIn lab → (n : ℕ) (bytes : List ℕ) → n ≡ series_told 24 c s → bytes ≡ series_put 24 c s lent
+  pub own-call : length lent ≡ 7184 → bad_table lab ≡ false → (c : Cutoffs) → c ≡ cutoffs_in lab → (n : ℕ) (bytes : List ℕ) → n ≡ series_told 24 c s → bytes ≡ series_put 24 c s lent
       → (n ≡ archiving_returned 24 lab s lent) × (bytes ≡ archiving_written 24 lab s lent)
   unfolding told series_refusal
   own-call l ok c e n bytes q b =

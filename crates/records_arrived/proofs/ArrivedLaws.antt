@@ -15,8 +15,8 @@ use Rattle.tests.specs.Answer.{no_entry}
 use Rattle.algebra.specs.Reasons.{first}
 use Rattle.algebra.proofs.ReasonLaws.{passed}
 use Rattle.records.specs.format.Bytes.{byte}
-use Rattle.records.specs.format.File.{count, lengthReasons}
-use Rattle.records.specs.format.Order.{falls, orderReasons}
+use Rattle.records.specs.format.File.{count, length_reasons}
+use Rattle.records.specs.format.Order.{falls, order_reasons}
 use Rattle.records.specs.readers.Series.{reasons, refusal}
 use Rattle.records.specs.calls.KenwardRogerCall.{number, entries}
 use Rattle.records.specs.declared.Shape.TheVariants.{Series}
@@ -33,12 +33,12 @@ use Rattle.records_arrived.specs.joints.ArrivedCall.{kept_file, unkept_number, a
 -- ---- three files of which nothing need be kept
 -- one that is cut
 cut-refusal : (s : List ℕ) → eqb (length s % 16) 0 ≡ false → refusal 24 s ≡ 2
-unfolding refusal reasons lengthReasons first
+unfolding refusal reasons length_reasons first
 cut-refusal s h = rw h
 
 -- one that falls
 fallen-refusal : (s : List ℕ) → eqb (length s % 16) 0 ≡ true → falls s ≡ true → refusal 24 s ≡ 12
-unfolding refusal reasons lengthReasons orderReasons first
+unfolding refusal reasons length_reasons order_reasons first
 fallen-refusal s h f = rw (h, f)
 
 -- one of more records than the panel's limits allow cells

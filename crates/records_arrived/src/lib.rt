@@ -2,7 +2,7 @@
 #![tactic(auto)]
 
 ghost use Rattle.std.specs.Prelude.{◌≡◌, ◌*◌, ◌≤◌, length};
-ghost use Rattle.arithmetic_cutoffs.specs.Cutoffs.{documentCutoffs};
+ghost use Rattle.arithmetic_cutoffs.specs.Cutoffs.{document_cutoffs};
 ghost use Rattle.records.specs.text.Text.{text_of};
 ghost use Rattle.records_arrived.specs.joints.ArrivedCall.{unkept_number, arrived_number, arrived_entries};
 ghost use Rattle.records_answer_text.specs.joints.Cursor.{Put, text_room};
@@ -33,8 +33,8 @@ fn unkept_number(a: Arrival) -> u32
 // Its number and its entries, by what is kept.
 pub fn judge_arrived(a: Arrival, kept: &[u8], told: &mut u32) -> [Entry; 7]
     requires { 16 * a.records ≤ length kept.now }
-    ensures value { result ≡ arrived_entries documentCutoffs a kept.now }
-    ensures told_after { told.new ≡ arrived_number documentCutoffs a kept.now }
+    ensures value { result ≡ arrived_entries document_cutoffs a kept.now }
+    ensures told_after { told.new ≡ arrived_number document_cutoffs a kept.now }
 {
     let number = unkept_number(a);
     if number != 0 {
@@ -56,7 +56,7 @@ pub fn judge_arrived(a: Arrival, kept: &[u8], told: &mut u32) -> [Entry; 7]
 // Its text from the front of `out`, whose other bytes stay, and the text's length.
 pub fn text_arrived(a: Arrival, kept: &[u8], out: &mut [u8; TEXT_ROOM]) -> usize
     requires { 16 * a.records ≤ length kept.now }
-    ensures { Put text_room out.old 0 (text_of (arrived_number documentCutoffs a kept.now) (arrived_entries documentCutoffs a kept.now)) out.new result }
+    ensures { Put text_room out.old 0 (text_of (arrived_number document_cutoffs a kept.now) (arrived_entries document_cutoffs a kept.now)) out.new result }
 {
     let mut number: u32 = 0;
     let es = judge_arrived(a, kept, &mut number);

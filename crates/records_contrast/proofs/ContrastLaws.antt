@@ -10,7 +10,7 @@ use lib.Ieee.{Float, nan}
 use Rattle.arithmetic.specs.Numbers.{is_zero}
 use Rattle.records.specs.declared.Sizes.{Sizes}
 use Rattle.records.specs.format.Scan.{any}
-use Rattle.records.specs.format.Kinds.{kindAt, kinds_of}
+use Rattle.records.specs.format.Kinds.{kind_at, kinds_of}
 use Rattle.records.specs.format.Cells.{first_slot, slot_count}
 use Rattle.records.specs.format.File.{count, beyond, cell}
 use Rattle.records.proofs.format.ScanLaws.{any_same}
@@ -21,7 +21,7 @@ use Rattle.records_contrast.specs.joints.Contrast.{nonzeros, zero_contrast_in}
 use Rattle.records.specs.declared.Shape.{Shape}
 
 -- call is the file's number, z its sizes
-module _ (file : Shape) (z : Sizes) (s : List ℕ) (within : any (count s) (beyond (kinds_of file z) s) ≡ false) (N : ℕ) (room : slot_count (kinds_of file z) ≤ N) (flat : Flat (kindAt (kinds_of file z) 9) z.contrasts z.coefficients) where
+module _ (file : Shape) (z : Sizes) (s : List ℕ) (within : any (count s) (beyond (kinds_of file z) s) ≡ false) (N : ℕ) (room : slot_count (kinds_of file z) ≤ N) (flat : Flat (kind_at (kinds_of file z) 9) z.contrasts z.coefficients) where
   abbrev sheet : List Float
   sheet = sheet_after N (kinds_of file z) s (count s)
 

@@ -3,14 +3,14 @@
 
 ghost use Rattle.std.specs.Prelude.{◌≡◌, ◌<◌, length};
 ghost use Rattle.records.specs.format.File.{count};
-ghost use Rattle.records.specs.readers.CutoffTable.{floorOf, badCutoff, badTable, cutoffsIn};
+ghost use Rattle.records.specs.readers.CutoffTable.{floor_of, bad_cutoff, bad_table, cutoffs_in};
 
 use arithmetic_cutoffs::Cutoffs;
 use records_file::value_at;
 
 // What the value of row i has to exceed: 2 for the cap, the last, and 0 for the others.
 fn floor_of(i: usize) -> f64
-    ensures { result ≡ floorOf i }
+    ensures { result ≡ floor_of i }
 {
     if i == 8 { 2.0 } else { 0.0 }
 }
@@ -18,7 +18,7 @@ fn floor_of(i: usize) -> f64
 // Record i is not row i of a table, with a finite value above its floor.
 fn bad_cutoff(table: &[u8], i: usize) -> bool
     requires { i < count table.now }
-    ensures { result ≡ badCutoff table.now i }
+    ensures { result ≡ bad_cutoff table.now i }
 {
     if records_file::kind_of(table, i) != 20 {
         return true;
@@ -44,7 +44,7 @@ fn bad_cutoff(table: &[u8], i: usize) -> bool
 
 // The table is not 144 bytes long, or one of its nine records is bad: refusal 14.
 pub fn bad_table(table: &[u8]) -> bool
-    ensures { result ≡ badTable table.now }
+    ensures { result ≡ bad_table table.now }
 {
     if table.len() != 144 {
         return true;
@@ -62,7 +62,7 @@ pub fn bad_table(table: &[u8]) -> bool
 // The nine numbers of a table of that length.
 pub fn cutoffs_in(table: &[u8]) -> Cutoffs
     requires { length table.now ≡ 144 }
-    ensures { result ≡ cutoffsIn table.now }
+    ensures { result ≡ cutoffs_in table.now }
 {
     Cutoffs {
         moment: value_at(table, 0),

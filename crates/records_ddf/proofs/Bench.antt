@@ -7,35 +7,35 @@ use native.Mathlib.Omega.{arith}
 use lib.ListN.{replicate}
 use lib.IntN.{pos, negsuc}
 use lib.Ieee.{Float, fin, of_bits, to_bits, round, add, sub, mul, div, neg, lt, eq, le, of_int}
-use Rattle.arithmetic.specs.Numbers.{plusZero, one, magnitude, is_zero, is_finite, sign, ofCount}
-use Rattle.arithmetic.specs.SquareRoot.{squareRoot, wholeRoot}
-use Rattle.arithmetic.specs.Marks.{in_range, stepMark, lostProduct, lostQuotient, markedAdd, markedSub, markedMul, markedDiv, markedRoot, markedMagnitude, also}
+use Rattle.arithmetic.specs.Numbers.{plus_zero, one, magnitude, is_zero, is_finite, sign, of_count}
+use Rattle.arithmetic.specs.SquareRoot.{square_root, whole_root}
+use Rattle.arithmetic.specs.Marks.{in_range, step_mark, lost_product, lost_quotient, marked_add, marked_sub, marked_mul, marked_div, marked_root, marked_magnitude, also}
 use Rattle.algebra.specs.Kind.{marks}
 use Rattle.algebra.specs.Fold.{fold}
 use Rattle.algebra.specs.Table.{row, blank, table}
-use Rattle.algebra.specs.Product.{sum, cell, product, transpose, sumCells, identity, minusCells}
-use Rattle.algebra.specs.Jacobi.{ratio, tangent, cosine, sine, turnedFirst, turnedSecond, turnRow, turnColumns, rotatedCell, rotated, squared, bound, rotateTested, rotate, rowTo, sweepTo, sweepsTo, mirrored, jacobi}
-use Rattle.algebra.specs.Small.{sandwich, givenCells, allMarks}
-use Rattle.arithmetic_cutoffs.specs.Cutoffs.{decimal, documentCutoffs}
+use Rattle.algebra.specs.Product.{sum, cell, product, transpose, sum_cells, identity, minus_cells}
+use Rattle.algebra.specs.Jacobi.{ratio, tangent, cosine, sine, turned_first, turned_second, turn_row, turn_columns, rotated_cell, rotated, squared, bound, rotate_tested, rotate, row_to, sweep_to, sweeps_to, mirrored, jacobi}
+use Rattle.algebra.specs.Small.{sandwich, given_cells, all_marks}
+use Rattle.arithmetic_cutoffs.specs.Cutoffs.{decimal, document_cutoffs}
 use Rattle.tests.specs.declared.Number.TheVariants.{Is}
 use Rattle.tests.specs.declared.Entry.{Entry}
 use Rattle.tests.specs.Answer.{number_of, no_entry}
-use Rattle.tests.specs.Order.{comesBefore, place_in, index_at}
-use Rattle.tests.specs.VarianceDf.{relativeGradient, gradientValues, relativeVariance, dfOfRelative, varianceDf, gradientSeen}
-use Rattle.tests.specs.Both.{isPositive, squareOne, stackSeen}
-use Rattle.tests.specs.PooledDf.{tolerance, allWithin, anyLow, expected, pooled, getFstatDdf}
-use Rattle.tests.specs.Satterthwaite.{column, contrastOf, transformed, transformedAll, gradientOne, eigenvalues, notPositive, variancesOf, directionsOf, projected, squaresOver, jxAll, gradientAt, capped, componentDf, componentDfs, anyNone, severalDf, componentsSeen, Inputs, Outcome, ldRows, vRows, jStack, rotatedV, variances, directions, jxStack, fOne, fSeveral, dfOne, dfSeveral, startSeen, seenOne, seenSeveral, oneRow, severalRows, satterthwaite}
-use Rattle.records.specs.format.Layout.{bits_of, entryBytes}
+use Rattle.tests.specs.Order.{comes_before, place_in, index_at}
+use Rattle.tests.specs.VarianceDf.{relative_gradient, gradient_values, relative_variance, df_of_relative, variance_df, gradient_seen}
+use Rattle.tests.specs.Both.{is_positive, square_one, stack_seen}
+use Rattle.tests.specs.PooledDf.{tolerance, all_within, any_low, expected, pooled, get_fstat_ddf}
+use Rattle.tests.specs.Satterthwaite.{column, contrast_of, transformed, transformed_all, gradient_one, eigenvalues, not_positive, variances_of, directions_of, projected, squares_over, jx_all, gradient_at, capped, component_df, component_dfs, any_none, several_df, components_seen, Inputs, Outcome, ld_rows, v_rows, j_stack, rotated_v, variances, directions, jx_stack, f_one, f_several, df_one, df_several, start_seen, seen_one, seen_several, one_row, several_rows, satterthwaite}
+use Rattle.records.specs.format.Layout.{bits_of, entry_bytes}
 use Rattle.records.specs.format.Bytes.{word, long, bytes_of}
 use Rattle.algebra.specs.Reasons.{first}
 use Rattle.records.specs.format.Scan.{any, most, last}
-use Rattle.records.specs.format.Kinds.{kindAt, holds, width, indexOf, valueHolds, satterthwaiteKinds, limits}
-use Rattle.records.specs.format.File.{out_of, badRecord, isCell, again, has, cell as fileCell, rows, columns, beyond, missing, notFinite, lengthReasons, formReasons}
-use Rattle.records.specs.format.Written.{recordOf}
-use Rattle.records.specs.format.Order.{numbersMatrix, matrixOf, standsBefore, falls, orderReasons}
-use Rattle.records.specs.readers.Parameters.{sizes, valueReasons, reasons, refusal, jacobians, inputs}
+use Rattle.records.specs.format.Kinds.{kind_at, holds, width, index_of, value_holds, satterthwaite_kinds, limits}
+use Rattle.records.specs.format.File.{out_of, bad_record, is_cell, again, has, cell as fileCell, rows, columns, beyond, missing, not_finite, length_reasons, form_reasons}
+use Rattle.records.specs.format.Written.{record_of}
+use Rattle.records.specs.format.Order.{numbers_matrix, matrix_of, stands_before, falls, order_reasons}
+use Rattle.records.specs.readers.Parameters.{sizes, value_reasons, reasons, refusal, jacobians, inputs}
 use Rattle.records.specs.calls.Call.{call_written}
-use Rattle.records.specs.calls.SatterthwaiteCall.{testCall, outcome, number, entry, returned, written}
+use Rattle.records.specs.calls.SatterthwaiteCall.{test_call, outcome, number, entry, returned, written}
 use Rattle.records.specs.readers.CutoffTable.{built_in_table}
 use Rattle.records.proofs.readers.CutoffLaws.{built-in-numbers, built-in-returned}
 use Rattle.records_ddf.proofs.Judged.{judged-taken, judged-late}
@@ -51,7 +51,7 @@ half_bits = 0x3fe0000000000000
 
 -- the cells (r,0) and (r,1) of a kind, of matrix n; and of (0,0), (0,1), (1,0) and (1,1)
 abbrev cells_of_row : ℕ → ℕ → ℕ → ℕ → ℕ → List ℕ
-cells_of_row k n r a b = recordOf k r 0 n a ++ recordOf k r 1 n b
+cells_of_row k n r a b = record_of k r 0 n a ++ record_of k r 1 n b
 
 abbrev square : ℕ → ℕ → ℕ → ℕ → ℕ → ℕ → List ℕ
 square k n a b c d = cells_of_row k n 0 a b ++ cells_of_row k n 1 c d
@@ -59,12 +59,12 @@ square k n a b c d = cells_of_row k n 0 a b ++ cells_of_row k n 1 c d
 -- β (4,1), L identity, then this hypothesis; v = diag of two numbers, then these Jacobians and this A
 abbrev pub file_of : List ℕ → ℕ → ℕ → List ℕ → List ℕ
 file_of hypothesis x y parameters =
-    recordOf 8 0 0 0 four_bits
-    ++ (recordOf 8 1 0 0 one_bits ++ (square 9 0 one_bits 0 0 one_bits ++ (hypothesis ++ (square 30 0 x 0 0 y ++ parameters))))
+    record_of 8 0 0 0 four_bits
+    ++ (record_of 8 1 0 0 one_bits ++ (square 9 0 one_bits 0 0 one_bits ++ (hypothesis ++ (square 30 0 x 0 0 y ++ parameters))))
 
 -- one Jacobian equal to v, A of one cell
 abbrev pub one_parameter : ℕ → ℕ → ℕ → List ℕ
-one_parameter x y a = square 31 0 x 0 0 y ++ recordOf 32 0 0 0 a
+one_parameter x y a = square 31 0 x 0 0 y ++ record_of 32 0 0 0 a
 
 -- v = diag(4,1), A 0.5
 abbrev pub file_i : List ℕ
@@ -82,13 +82,13 @@ abbrev half : Float
 half = fin false 1 (negsuc 0)
 
 abbrev zeros : List Float
-zeros = plusZero ∷ plusZero ∷ plusZero ∷ plusZero ∷ plusZero ∷ plusZero ∷ []
+zeros = plus_zero ∷ plus_zero ∷ plus_zero ∷ plus_zero ∷ plus_zero ∷ plus_zero ∷ []
 
 abbrev two : Float → Float → List Float
-two a b = a ∷ b ∷ plusZero ∷ plusZero ∷ plusZero ∷ plusZero ∷ []
+two a b = a ∷ b ∷ plus_zero ∷ plus_zero ∷ plus_zero ∷ plus_zero ∷ []
 
 abbrev diagonal : Float → Float → List (List Float)
-diagonal a b = two a plusZero ∷ two plusZero b ∷ zeros ∷ zeros ∷ zeros ∷ zeros ∷ []
+diagonal a b = two a plus_zero ∷ two plus_zero b ∷ zeros ∷ zeros ∷ zeros ∷ zeros ∷ []
 
 abbrev pub sent : Float → Float → Inputs
 sent x y = record {
@@ -99,75 +99,75 @@ sent x y = record {
   beta = two four one;
   beta_h = zeros;
   v = diagonal x y;
-  js = diagonal x y ∷ diagonal plusZero plusZero ∷ diagonal plusZero plusZero ∷ diagonal plusZero plusZero ∷ [];
-  a = diagonal half plusZero;
+  js = diagonal x y ∷ diagonal plus_zero plus_zero ∷ diagonal plus_zero plus_zero ∷ diagonal plus_zero plus_zero ∷ [];
+  a = diagonal half plus_zero;
 }
 
 abbrev pub answered : Entry
 answered = record { f = Is (fin false 5 (negsuc 0)); df = Is four; rank = 2; inside = true }
 
 -- the file is read
-pub file-sends : (inputs file_i ≡ sent four one) × (inputs file_eleven ≡ sent one plusZero)
-unfolding inputs jacobians sizes rows columns most fileCell last isCell kindAt indexOf satterthwaiteKinds word long bytes_of of_bits table blank row fold
+pub file-sends : (inputs file_i ≡ sent four one) × (inputs file_eleven ≡ sent one plus_zero)
+unfolding inputs jacobians sizes rows columns most fileCell last is_cell kind_at index_of satterthwaite_kinds word long bytes_of of_bits table blank row fold
 file-sends = (refl, refl)
 
 pub file-taken : (refusal file_i ≡ 0) × (refusal file_eleven ≡ 0)
-unfolding refusal reasons lengthReasons orderReasons falls standsBefore matrixOf numbersMatrix formReasons valueReasons first sizes out_of badRecord isCell again has fileCell rows columns beyond missing notFinite kindAt holds width indexOf valueHolds satterthwaiteKinds limits any most last word long bytes_of is_finite is_zero of_bits le eq
+unfolding refusal reasons length_reasons order_reasons falls stands_before matrix_of numbers_matrix form_reasons value_reasons first sizes out_of bad_record is_cell again has fileCell rows columns beyond missing not_finite kind_at holds width index_of value_holds satterthwaite_kinds limits any most last word long bytes_of is_finite is_zero of_bits le eq
 file-taken = (refl, refl)
 
 -- the test
-pub tested : (satterthwaite marks documentCutoffs (sent four one) ≡ record { refused = false; entry = answered }) × ((satterthwaite marks documentCutoffs (sent one plusZero)).refused ≡ true)
-unfolding satterthwaite severalRows oneRow seenSeveral seenOne startSeen dfSeveral dfOne fSeveral fOne jxStack directions variances rotatedV jStack vRows ldRows stackSeen componentsSeen severalDf anyNone componentDfs componentDf capped gradientAt jxAll squaresOver projected directionsOf variancesOf notPositive eigenvalues gradientOne squareOne transformedAll transformed contrastOf column getFstatDdf pooled expected anyLow allWithin tolerance gradientSeen varianceDf dfOfRelative relativeVariance gradientValues relativeGradient isPositive index_at place_in comesBefore number_of documentCutoffs decimal allMarks givenCells sandwich jacobi mirrored sweepsTo sweepTo rowTo rotate rotateTested bound squared rotated rotatedCell turnColumns turnRow turnedSecond turnedFirst sine cosine tangent ratio identity minusCells sumCells transpose product cell sum table blank row fold markedMagnitude markedRoot markedDiv markedMul markedSub markedAdd also lostQuotient lostProduct stepMark in_range squareRoot wholeRoot ofCount is_finite is_zero magnitude sign round add sub mul div neg lt eq le of_int lib.Ieee.is_nan
+pub tested : (satterthwaite marks document_cutoffs (sent four one) ≡ record { refused = false; entry = answered }) × ((satterthwaite marks document_cutoffs (sent one plus_zero)).refused ≡ true)
+unfolding satterthwaite several_rows one_row seen_several seen_one start_seen df_several df_one f_several f_one jx_stack directions variances rotated_v j_stack v_rows ld_rows stack_seen components_seen several_df any_none component_dfs component_df capped gradient_at jx_all squares_over projected directions_of variances_of not_positive eigenvalues gradient_one square_one transformed_all transformed contrast_of column get_fstat_ddf pooled expected any_low all_within tolerance gradient_seen variance_df df_of_relative relative_variance gradient_values relative_gradient is_positive index_at place_in comes_before number_of document_cutoffs decimal all_marks given_cells sandwich jacobi mirrored sweeps_to sweep_to row_to rotate rotate_tested bound squared rotated rotated_cell turn_columns turn_row turned_second turned_first sine cosine tangent ratio identity minus_cells sum_cells transpose product cell sum table blank row fold marked_magnitude marked_root marked_div marked_mul marked_sub marked_add also lost_quotient lost_product step_mark in_range square_root whole_root of_count is_finite is_zero magnitude sign round add sub mul div neg lt eq le of_int lib.Ieee.is_nan
 tested = (refl, refl)
 
-tested-file : outcome documentCutoffs file_i ≡ record { refused = false; entry = answered }
+tested-file : outcome document_cutoffs file_i ≡ record { refused = false; entry = answered }
 unfolding outcome
-tested-file = ap (satterthwaite marks documentCutoffs) file-sends.0 ∙ tested.0
+tested-file = ap (satterthwaite marks document_cutoffs) file-sends.0 ∙ tested.0
 
 -- the call, whole: number 0, and in the 24 lent bytes F 2.5, df 4, rank 2, both given, inside
 pub record Example : Type 0 where
-  pub number-i : number documentCutoffs file_i ≡ 0
-  pub entry-i : entry documentCutoffs file_i ≡ answered
+  pub number-i : number document_cutoffs file_i ≡ 0
+  pub entry-i : entry document_cutoffs file_i ≡ answered
   pub returned-i : returned built_in_table file_i (replicate 24 255) ≡ 0
   pub written-i : written built_in_table file_i (replicate 24 255) ≡ 0 ∷ 0 ∷ 0 ∷ 0 ∷ 0 ∷ 0 ∷ 4 ∷ 0x40 ∷ 0 ∷ 0 ∷ 0 ∷ 0 ∷ 0 ∷ 0 ∷ 0x10 ∷ 0x40 ∷ 2 ∷ 1 ∷ 1 ∷ 1 ∷ 0 ∷ 0 ∷ 0 ∷ 0 ∷ []
 
 pub example-i : Example
-unfolding number call_written entryBytes bits_of bytes_of to_bits
+unfolding number call_written entry_bytes bits_of bytes_of to_bits
 example-i =
-    let j = judged-taken documentCutoffs file_i answered file-taken.0 (ap (λ (o : Outcome). o.refused) tested-file) (sym (ap (λ (o : Outcome). o.entry) tested-file)) in
-    let n : number documentCutoffs file_i ≡ 0 = sym j.1 in
-    let r : returned built_in_table file_i (replicate 24 255) ≡ 0 = built-in-returned (testCall file_i) (replicate 24 255) ∙ n in
+    let j = judged-taken document_cutoffs file_i answered file-taken.0 (ap (λ (o : Outcome). o.refused) tested-file) (sym (ap (λ (o : Outcome). o.entry) tested-file)) in
+    let n : number document_cutoffs file_i ≡ 0 = sym j.1 in
+    let r : returned built_in_table file_i (replicate 24 255) ≡ 0 = built-in-returned (test_call file_i) (replicate 24 255) ∙ n in
     record { number-i = n; entry-i = sym j.0; returned-i = r; written-i = rw (r, built-in-numbers, sym j.0) }
 
 -- ---- and what is refused
-eleven-file : (outcome documentCutoffs file_eleven).refused ≡ true
+eleven-file : (outcome document_cutoffs file_eleven).refused ≡ true
 unfolding outcome
-eleven-file = ap (λ (i : Inputs). (satterthwaite marks documentCutoffs i).refused) file-sends.1 ∙ tested.1
+eleven-file = ap (λ (i : Inputs). (satterthwaite marks document_cutoffs i).refused) file-sends.1 ∙ tested.1
 
 pub record Refused : Type 0 where
   -- 1: 23 lent bytes
   pub short : returned built_in_table file_i (replicate 23 0) ≡ 1
   -- 2: no records; X, a kind of the other call; β_H of one row where there are two coefficients; two parameters and one Jacobian
   pub empty : refusal [] ≡ 2
-  pub other_call : refusal (recordOf 1 0 0 0 one_bits ++ file_i) ≡ 2
-  pub partly : refusal (file_of (recordOf 10 0 0 0 one_bits) four_bits one_bits (one_parameter four_bits one_bits half_bits)) ≡ 2
-  pub one_jacobian : refusal (file_i ++ (recordOf 32 0 1 0 0 ++ cells_of_row 32 0 1 0 one_bits)) ≡ 2
+  pub other_call : refusal (record_of 1 0 0 0 one_bits ++ file_i) ≡ 2
+  pub partly : refusal (file_of (record_of 10 0 0 0 one_bits) four_bits one_bits (one_parameter four_bits one_bits half_bits)) ≡ 2
+  pub one_jacobian : refusal (file_i ++ (record_of 32 0 1 0 0 ++ cells_of_row 32 0 1 0 one_bits)) ≡ 2
   -- 12: A twice; two Jacobians row by row, which are taken one after the other
-  pub twice : refusal (file_i ++ recordOf 32 0 0 0 half_bits) ≡ 12
+  pub twice : refusal (file_i ++ record_of 32 0 0 0 half_bits) ≡ 12
   pub by_row : refusal (file_of [] four_bits one_bits (cells_of_row 31 0 0 one_bits 0 ++ (cells_of_row 31 1 0 one_bits 0 ++ (cells_of_row 31 0 1 0 one_bits ++ (cells_of_row 31 1 1 0 one_bits ++ square 32 0 one_bits 0 0 one_bits))))) ≡ 12
   pub by_count : refusal (file_of [] four_bits one_bits (square 31 0 one_bits 0 0 one_bits ++ (square 31 1 one_bits 0 0 one_bits ++ square 32 0 one_bits 0 0 one_bits))) ≡ 0
   -- 12 after the length's 2 and before the form's
-  pub after_length : refusal (file_i ++ (recordOf 8 0 0 0 one_bits ++ (0 ∷ []))) ≡ 2
-  pub before_form : refusal (file_i ++ recordOf 1 0 0 0 one_bits) ≡ 12
+  pub after_length : refusal (file_i ++ (record_of 8 0 0 0 one_bits ++ (0 ∷ []))) ≡ 2
+  pub before_form : refusal (file_i ++ record_of 1 0 0 0 one_bits) ≡ 12
   -- 4: A infinite
   pub infinite : refusal (file_of [] four_bits one_bits (one_parameter four_bits one_bits 0x7ff0000000000000)) ≡ 4
   -- 11: V = diag(1,0), L identity
-  pub eleven : number documentCutoffs file_eleven ≡ 11
+  pub eleven : number document_cutoffs file_eleven ≡ 11
 
 pub refused : Refused
-unfolding refusal reasons lengthReasons orderReasons falls standsBefore matrixOf numbersMatrix formReasons valueReasons first sizes out_of badRecord isCell again has fileCell rows columns beyond missing notFinite kindAt holds width indexOf valueHolds satterthwaiteKinds limits any most last word long bytes_of is_finite is_zero of_bits le eq
+unfolding refusal reasons length_reasons order_reasons falls stands_before matrix_of numbers_matrix form_reasons value_reasons first sizes out_of bad_record is_cell again has fileCell rows columns beyond missing not_finite kind_at holds width index_of value_holds satterthwaite_kinds limits any most last word long bytes_of is_finite is_zero of_bits le eq
 refused = record {
-  short = built-in-returned (testCall file_i) (replicate 23 0);
+  short = built-in-returned (test_call file_i) (replicate 23 0);
   empty = refl;
   other_call = refl;
   partly = refl;
@@ -178,5 +178,5 @@ refused = record {
   after_length = refl;
   before_form = refl;
   infinite = refl;
-  eleven = sym (judged-late documentCutoffs file_eleven no_entry file-taken.1 eleven-file refl).1;
+  eleven = sym (judged-late document_cutoffs file_eleven no_entry file-taken.1 eleven-file refl).1;
 }

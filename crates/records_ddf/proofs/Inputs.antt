@@ -15,7 +15,7 @@ use Rattle.tests.specs.Satterthwaite.{Inputs, satterthwaite as test}
 use Rattle.tests_ddf.specs.joints.Parts.{inputs_of}
 use Rattle.records.specs.declared.Sizes.{Sizes}
 use Rattle.records.specs.format.Scan.{any}
-use Rattle.records.specs.format.Kinds.{width, Table, kindAt, kinds_of, kind_numbers, satterthwaiteKinds}
+use Rattle.records.specs.format.Kinds.{width, Table, kind_at, kinds_of, kind_numbers, satterthwaite_kinds}
 use Rattle.records.specs.format.Cells.{slots, first_slot, slot_count}
 use Rattle.records.specs.format.File.{count, beyond}
 use Rattle.records.specs.readers.Parameters.{coefficients, contrast_rows, parameters, sizes, kinds, jacobians, inputs}
@@ -44,30 +44,30 @@ pub record OnSheet (z : Sizes) (fs : List ℕ) (L : ℕ) : Type 0 where
 -- ---- what the sizes leave each kind
 module _ (z : Sizes) where
   abbrev t : Table
-  t = satterthwaiteKinds z
+  t = satterthwaite_kinds z
 
-  estimates-flat : Flat (kindAt t 8) z.coefficients 1
-  unfolding kindAt satterthwaiteKinds width
+  estimates-flat : Flat (kind_at t 8) z.coefficients 1
+  unfolding kind_at satterthwaite_kinds width
   estimates-flat = record { number = refl; row = refl; column = refl }
 
-  contrast-flat : Flat (kindAt t 9) z.contrasts z.coefficients
-  unfolding kindAt satterthwaiteKinds width
+  contrast-flat : Flat (kind_at t 9) z.contrasts z.coefficients
+  unfolding kind_at satterthwaite_kinds width
   contrast-flat = record { number = refl; row = refl; column = refl }
 
-  hypotheses-flat : Flat (kindAt t 10) (cond z.hypothesis z.coefficients 0) 1
-  unfolding kindAt satterthwaiteKinds width
+  hypotheses-flat : Flat (kind_at t 10) (cond z.hypothesis z.coefficients 0) 1
+  unfolding kind_at satterthwaite_kinds width
   hypotheses-flat = record { number = refl; row = refl; column = refl }
 
-  variance-flat : Flat (kindAt t 30) z.coefficients z.coefficients
-  unfolding kindAt satterthwaiteKinds width
+  variance-flat : Flat (kind_at t 30) z.coefficients z.coefficients
+  unfolding kind_at satterthwaite_kinds width
   variance-flat = record { number = refl; row = refl; column = refl }
 
-  jacobians-stack : Stack (kindAt t 31) z.parameters z.coefficients z.coefficients
-  unfolding kindAt satterthwaiteKinds width
+  jacobians-stack : Stack (kind_at t 31) z.parameters z.coefficients z.coefficients
+  unfolding kind_at satterthwaite_kinds width
   jacobians-stack = record { number = refl; row = refl; column = refl }
 
-  parameters-flat : Flat (kindAt t 32) z.parameters z.parameters
-  unfolding kindAt satterthwaiteKinds width
+  parameters-flat : Flat (kind_at t 32) z.parameters z.parameters
+  unfolding kind_at satterthwaite_kinds width
   parameters-flat = record { number = refl; row = refl; column = refl }
 
   -- ---- where they start, and that they stand on the sheet
@@ -75,11 +75,11 @@ module _ (z : Sizes) where
   starts fs e k l = ap (λ (y : List ℕ). get_or y k 0) e ∙ firsts_at t k (omega arith)
 
   module _ (fs : List ℕ) (e : fs ≡ first_slots t) (L : ℕ) (room : slot_count t ≤ L) where
-    kind-on : (k m : ℕ) → k < kind_numbers → slots (kindAt t k) ≡ m → get_or fs k 0 + m ≤ L
+    kind-on : (k m : ℕ) → k < kind_numbers → slots (kind_at t k) ≡ m → get_or fs k 0 + m ≤ L
     kind-on k m l q = let a = starts fs e k l in let b = ends-within t k l in omega arith
 
-    table_on : (k r c : ℕ) → k < kind_numbers → Flat (kindAt t k) r c → get_or fs k 0 + r * c ≤ L
-    table_on k r c l f = kind-on k (r * c) l (flat-slots (kindAt t k) r c f)
+    table_on : (k r c : ℕ) → k < kind_numbers → Flat (kind_at t k) r c → get_or fs k 0 + r * c ≤ L
+    table_on k r c l f = kind-on k (r * c) l (flat-slots (kind_at t k) r c f)
 
     pub on-sheet : OnSheet z fs L
     on-sheet =
@@ -91,7 +91,7 @@ module _ (z : Sizes) where
           hypotheses = omega arith;
           fewer = cond-le z.hypothesis z.coefficients z.coefficients (omega arith);
           variance = table_on 30 z.coefficients z.coefficients (lit< tt) variance-flat;
-          jacobians = kind-on 31 (z.parameters * (z.coefficients * z.coefficients)) (lit< tt) (stack-slots (kindAt t 31) z.parameters z.coefficients z.coefficients jacobians-stack);
+          jacobians = kind-on 31 (z.parameters * (z.coefficients * z.coefficients)) (lit< tt) (stack-slots (kind_at t 31) z.parameters z.coefficients z.coefficients jacobians-stack);
           parameters = table_on 32 z.parameters z.parameters (lit< tt) parameters-flat;
         }
 

@@ -13,12 +13,12 @@ use Rattle.algebra.specs.Reasons.{first}
 use Rattle.tests.specs.declared.Entry.{Entry}
 use Rattle.tests.specs.Answer.{no_entry}
 use Rattle.records.specs.declared.Sizes.{Sizes}
-use Rattle.records.specs.format.Layout.{entryBytes}
+use Rattle.records.specs.format.Layout.{entry_bytes}
 use Rattle.records.specs.format.Scan.{any}
-use Rattle.records.specs.format.File.{count, notFinite}
+use Rattle.records.specs.format.File.{count, not_finite}
 use Rattle.records.specs.readers.Reader.{formed_number}
-use Rattle.records.specs.readers.Parameters.{reader, contrast_rows, sizes, valueReasons, reasons, refusal}
-use Rattle.records.specs.readers.CutoffTable.{badTable, cutoffsIn}
+use Rattle.records.specs.readers.Parameters.{reader, contrast_rows, sizes, value_reasons, reasons, refusal}
+use Rattle.records.specs.readers.CutoffTable.{bad_table, cutoffs_in}
 use Rattle.records.specs.calls.SatterthwaiteCall.{outcome, number, entry}
 use Rattle.records.proofs.readers.ReaderLaws.{own-decides, accepted-formed}
 use Rattle.records.proofs.calls.CallLaws.{satterthwaite-number-is}
@@ -29,12 +29,12 @@ use Rattle.records.specs.declared.Shape.TheVariants.{Test}
 
 -- ---- the refusals before anything is computed: of a file of good form, its values
 module _ (s : List ℕ) (formed : formed_number reader s ≡ 0) where
-  pub value-refused : any (count s) (notFinite s) ≡ true → 4 ≡ refusal s
-  unfolding refusal reasons valueReasons first
+  pub value-refused : any (count s) (not_finite s) ≡ true → 4 ≡ refusal s
+  unfolding refusal reasons value_reasons first
   value-refused h = sym (own-decides reader s formed ∙ rw h)
 
-  pub reader-accepts : any (count s) (notFinite s) ≡ false → 0 ≡ refusal s
-  unfolding refusal reasons valueReasons first
+  pub reader-accepts : any (count s) (not_finite s) ≡ false → 0 ≡ refusal s
+  unfolding refusal reasons value_reasons first
   reader-accepts h = sym (own-decides reader s formed ∙ rw h)
 
 -- ---- a file that is not refused: its sizes; z are those at hand
@@ -69,5 +69,5 @@ module _ (c : Cutoffs) (s : List ℕ) where
       (p ∙ sym (entry_of 0 x), sym x)
 
 -- an entry put into 24 bytes is all of them
-pub entry-fills : (a : List ℕ) (e f : Entry) → length a ≡ 24 → e ≡ f → sets a 0 (entryBytes e) ≡ entryBytes f
-entry-fills a e f l q = sets-all a (entryBytes e) (length-entry e ∙ sym l) ∙ ap entryBytes q
+pub entry-fills : (a : List ℕ) (e f : Entry) → length a ≡ 24 → e ≡ f → sets a 0 (entry_bytes e) ≡ entry_bytes f
+entry-fills a e f l q = sets-all a (entry_bytes e) (length-entry e ∙ sym l) ∙ ap entry_bytes q

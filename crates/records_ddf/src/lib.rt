@@ -2,11 +2,11 @@
 #![tactic(auto)]
 
 ghost use Rattle.std.specs.Prelude.{◌≡◌, false, cond, eqb, ◌≤◌, length, replicate};
-ghost use Rattle.arithmetic.specs.Numbers.{plusZero};
+ghost use Rattle.arithmetic.specs.Numbers.{plus_zero};
 ghost use Rattle.tests.specs.Satterthwaite.{satterthwaite as test_of};
-ghost use Rattle.records.specs.format.Kinds.{satterthwaiteKinds, satterthwaite};
+ghost use Rattle.records.specs.format.Kinds.{satterthwaite_kinds, satterthwaite};
 ghost use Rattle.records.specs.format.Cells.{slot_count};
-ghost use Rattle.records.specs.format.Layout.{entryBytes, entry_length};
+ghost use Rattle.records.specs.format.Layout.{entry_bytes, entry_length};
 ghost use Rattle.records.specs.readers.CutoffTable.{built_in_table};
 ghost use Rattle.records.specs.format.File.{count};
 ghost use Rattle.records.specs.readers.Parameters.{kinds, refusal};
@@ -30,7 +30,7 @@ use tests_entries::no_entry;
 // slot for every cell that the limits allow.
 fn refusal(s: &[u8], flags: &mut [bool], sheet: &mut [f64]) -> u32
     requires flags_value { (flags.old ≡ replicate (length flags.old) false) × (slot_count satterthwaite ≤ length flags.old) }
-    requires sheet_value { (sheet.old ≡ replicate (length sheet.old) plusZero) × (slot_count satterthwaite ≤ length sheet.old) }
+    requires sheet_value { (sheet.old ≡ replicate (length sheet.old) plus_zero) × (slot_count satterthwaite ≤ length sheet.old) }
     ensures value { result ≡ refusal s.now }
     ensures sheet_after { result ≡ 0 → sheet.new ≡ sheet_after (length sheet.old) (kinds s.now) s.now (count s.now) }
 {
@@ -50,7 +50,7 @@ fn refusal(s: &[u8], flags: &mut [bool], sheet: &mut [f64]) -> u32
 // The test of what the sheet says.
 fn test(c: Cutoffs, sheet: &[f64], firsts: &[usize; 34], z: Sizes, refused: &mut bool) -> Entry
     requires coefficients_bound { (z.coefficients ≤ 6) × (z.contrasts ≤ 6) × (z.parameters ≤ 4) }
-    requires firsts_value { (firsts.now ≡ first_slots (satterthwaiteKinds z)) × (slot_count (satterthwaiteKinds z) ≤ length sheet.now) }
+    requires firsts_value { (firsts.now ≡ first_slots (satterthwaite_kinds z)) × (slot_count (satterthwaite_kinds z) ≤ length sheet.now) }
     ensures value { result ≡ (test_of marks c (inputs_from sheet.now z)).entry }
     ensures refused_after { refused.new ≡ (test_of marks c (inputs_from sheet.now z)).refused }
 {
@@ -101,7 +101,7 @@ pub fn judge(c: Cutoffs, s: &[u8], number: &mut u32) -> Entry
 fn fill_entry(c: Cutoffs, records: &[u8], answer: &mut [u8]) -> u32
     requires { length answer.old ≡ entry_length }
     ensures value { result ≡ fileNumber c records.now }
-    ensures answer_after { answer.new ≡ cond (eqb (fileNumber c records.now) 0) (entryBytes (entry c records.now)) answer.old }
+    ensures answer_after { answer.new ≡ cond (eqb (fileNumber c records.now) 0) (entry_bytes (entry c records.now)) answer.old }
 {
     let mut number: u32 = 0;
     let e = judge(c, records, &mut number);

@@ -3,7 +3,7 @@
 
 ghost use Rattle.std.specs.Prelude.{◌≡◌, ◌<◌};
 ghost use Rattle.records.specs.format.Scan.{any};
-ghost use Rattle.records.specs.format.File.{count, kind_of, row_of, column_of, padding_of, count_of, bits_of, first_value_of, value_of, notFinite};
+ghost use Rattle.records.specs.format.File.{count, kind_of, row_of, column_of, padding_of, count_of, bits_of, first_value_of, value_of, not_finite};
 
 // A byte as an index.
 pub fn index(x: u8) -> usize
@@ -80,13 +80,13 @@ pub fn value_at(s: &[u8], i: usize) -> f64
 // Record i's value is not finite.
 fn not_finite(s: &[u8], i: usize) -> bool
     requires { i < count s.now }
-    ensures { result ≡ notFinite s.now i }
+    ensures { result ≡ not_finite s.now i }
 {
     !arithmetic::plain::is_finite(value_at(s, i))
 }
 
 pub fn any_not_finite(s: &[u8]) -> bool
-    ensures { result ≡ any (count s.now) (notFinite s.now) }
+    ensures { result ≡ any (count s.now) (not_finite s.now) }
 {
     let n = s.len() / 16;
     let mut i = 0;

@@ -12,10 +12,10 @@ use Rattle.algebra.specs.Reasons.{first}
 use Rattle.algebra.proofs.ReasonLaws.{line, first-none, first-only}
 use Rattle.records.specs.format.Scan.{any}
 use Rattle.records.specs.declared.Sizes.{Sizes}
-use Rattle.records.specs.format.Kinds.{kinds_of, kind_numbers, kenward_roger_kinds, satterthwaiteKinds, archive_kinds, test_kinds, limits}
+use Rattle.records.specs.format.Kinds.{kinds_of, kind_numbers, kenward_roger_kinds, satterthwaite_kinds, archive_kinds, test_kinds, limits}
 use Rattle.records.specs.format.Cells.{slot_count}
-use Rattle.records.specs.format.File.{count, badRecord, again, missing, beyond, lengthReasons, formReasons}
-use Rattle.records.specs.format.Order.{falls, orderReasons}
+use Rattle.records.specs.format.File.{count, bad_record, again, missing, beyond, length_reasons, form_reasons}
+use Rattle.records.specs.format.Order.{falls, order_reasons}
 use Rattle.records.specs.readers.Reader.{Reader, limit_kinds, file_kinds, formed_number}
 use Rattle.records.specs.readers.Series.{sizes as seriesSizes}
 use Rattle.records.specs.readers.Parameters.{sizes as parameterSizes}
@@ -32,53 +32,53 @@ use Rattle.records.specs.declared.Shape.TheVariants.{Series, Test, Archived, Sec
 -- ---- four conditions with one number
 module _ (r : Reader) (s : List ℕ) where
   abbrev form_number : ℕ
-  form_number = first (formReasons (limit_kinds r) (file_kinds r s) s)
+  form_number = first (form_reasons (limit_kinds r) (file_kinds r s) s)
 
   -- whichever of them holds
-  form-refuses : (i : ℕ) → i < 4 → (line (formReasons (limit_kinds r) (file_kinds r s) s) i).1 ≡ true → 2 ≡ form_number
-  unfolding formReasons
+  form-refuses : (i : ℕ) → i < 4 → (line (form_reasons (limit_kinds r) (file_kinds r s) s) i).1 ≡ true → 2 ≡ form_number
+  unfolding form_reasons
   form-refuses i l h =
-      let q = formReasons (limit_kinds r) (file_kinds r s) s in
+      let q = form_reasons (limit_kinds r) (file_kinds r s) s in
       sym (first-only 2 q refl (λ e. true≢false (sym h ∙ first-none q refl e i l)))
 
-  pub bad-record : any (count s) (badRecord (limit_kinds r) s) ≡ true → 2 ≡ form_number
-  unfolding formReasons
+  pub bad-record : any (count s) (bad_record (limit_kinds r) s) ≡ true → 2 ≡ form_number
+  unfolding form_reasons
   bad-record h = form-refuses 0 (lit< tt) h
 
   pub cell-again : any (count s) (again (file_kinds r s) s) ≡ true → 2 ≡ form_number
-  unfolding formReasons
+  unfolding form_reasons
   cell-again h = form-refuses 1 (lit< tt) h
 
   pub cell-missing : any kind_numbers (missing (file_kinds r s) s) ≡ true → 2 ≡ form_number
-  unfolding formReasons
+  unfolding form_reasons
   cell-missing h = form-refuses 2 (lit< tt) h
 
   pub cell-beyond : any (count s) (beyond (file_kinds r s) s) ≡ true → 2 ≡ form_number
-  unfolding formReasons
+  unfolding form_reasons
   cell-beyond h = form-refuses 3 (lit< tt) h
 
-  pub none-holds : any (count s) (badRecord (limit_kinds r) s) ≡ false → any (count s) (again (file_kinds r s) s) ≡ false → any kind_numbers (missing (file_kinds r s) s) ≡ false → any (count s) (beyond (file_kinds r s) s) ≡ false → 0 ≡ form_number
-  unfolding formReasons first
+  pub none-holds : any (count s) (bad_record (limit_kinds r) s) ≡ false → any (count s) (again (file_kinds r s) s) ≡ false → any kind_numbers (missing (file_kinds r s) s) ≡ false → any (count s) (beyond (file_kinds r s) s) ≡ false → 0 ≡ form_number
+  unfolding form_reasons first
   none-holds a b c d = rw (a, b, c, d)
 
   -- ---- with the length and the order before it
   pub odd-length : (length s % 16 ≡ 0 → ⊥) → 2 ≡ formed_number r s
-  unfolding lengthReasons first
+  unfolding length_reasons first
   odd-length h = rw (ne_eqb (length s % 16) 0 h)
 
   module _ (whole : length s % 16 ≡ 0) where
     pub file-falls : falls s ≡ true → 12 ≡ formed_number r s
-    unfolding lengthReasons orderReasons first
+    unfolding length_reasons order_reasons first
     file-falls h = rw (eq-eqb (length s % 16) 0 whole, h)
 
     pub file-rises : falls s ≡ false → form_number ≡ formed_number r s
-    unfolding lengthReasons orderReasons first
+    unfolding length_reasons order_reasons first
     file-rises h = rw (eq-eqb (length s % 16) 0 whole, h)
 
 -- ---- the sizes of a file with no bad record are below the limits
-module _ (file : Shape) (w : ℕ) (some : 1 ≤ w) (s : List ℕ) (good : any (count s) (badRecord (kinds_of file (limits w)) s) ≡ false) where
+module _ (file : Shape) (w : ℕ) (some : 1 ≤ w) (s : List ℕ) (good : any (count s) (bad_record (kinds_of file (limits w)) s) ≡ false) where
   pub sizes-below : Below (sizes_of file s) (limits w)
-  unfolding satterthwaiteKinds archive_kinds test_kinds limits parameterSizes archiveSizes secondSizes sizes_at
+  unfolding satterthwaite_kinds archive_kinds test_kinds limits parameterSizes archiveSizes secondSizes sizes_at
   sizes-below = go file good
     where
       -- specimens are of no account in a file other than a series, so that it has none
@@ -95,7 +95,7 @@ module _ (file : Shape) (w : ℕ) (some : 1 ≤ w) (s : List ℕ) (good : any (c
         hypothesis = λ _. refl;
       }
 
-      go : (file : Shape) → any (count s) (badRecord (kinds_of file (limits w)) s) ≡ false → Below (sizes_of file s) (limits w)
+      go : (file : Shape) → any (count s) (bad_record (kinds_of file (limits w)) s) ≡ false → Below (sizes_of file s) (limits w)
       go Series g = series-below w some s g
       go Test g = wider (parameterSizes s) refl refl (parameters-below s g)
       go Archived g = wider (archiveSizes s) refl refl (archive-below s g)

@@ -5,7 +5,7 @@ ghost use Rattle.std.specs.Prelude.{◌≡◌, false, ◌≤◌, length, replica
 ghost use Rattle.algebra.specs.Reasons.{first};
 ghost use Rattle.records.specs.format.Kinds.{kinds_of, limits};
 ghost use Rattle.records.specs.format.Cells.{slot_count};
-ghost use Rattle.records.specs.format.File.{formReasons};
+ghost use Rattle.records.specs.format.File.{form_reasons};
 ghost use Rattle.records.specs.readers.Reader.{limit_kinds, file_kinds, formed_number};
 ghost use Rattle.records_sizes.specs.joints.Gathered.{reader_of};
 
@@ -16,7 +16,7 @@ use records_sheet::{any_missing, first_slots, mark_cells};
 // The number 2 of records that its call does not read, whatever their order, with the limit of specimens w; 0 of any other. The lent flags are all clear at first.
 fn form_refusal(file: Shape, w: usize, s: &[u8], flags: &mut [bool]) -> u32
     requires { (1 ≤ w) × (w ≤ 256) × (flags.old ≡ replicate (length flags.old) false) × (slot_count (kinds_of file (limits w)) ≤ length flags.old) }
-    ensures { result ≡ first (formReasons (limit_kinds (reader_of file w)) (file_kinds (reader_of file w) s.now) s.now) }
+    ensures { result ≡ first (form_reasons (limit_kinds (reader_of file w)) (file_kinds (reader_of file w) s.now) s.now) }
 {
     if any_bad(file, records_kinds::limits(w), s) {
         return 2;

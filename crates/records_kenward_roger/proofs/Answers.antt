@@ -12,7 +12,7 @@ use lib.Ieee.{Float, binary64, add, sub, mul, div, lt}
 use lib.Ieee.Fits.{add-fits, mul-fits, div-fits}
 use borrow.Author.Tests.{eq-eqb}
 use Rattle.arithmetic.specs.declared.Marked.{Marked}
-use Rattle.arithmetic.specs.Numbers.{plusZero, one, magnitude, ofCount}
+use Rattle.arithmetic.specs.Numbers.{plus_zero, one, magnitude, of_count}
 use Rattle.arithmetic_cutoffs.specs.declared.Cutoffs.{Cutoffs}
 use Rattle.algebra.specs.Kind.{marks}
 use Rattle.algebra.specs.Jacobi.{two}
@@ -28,8 +28,8 @@ use Rattle.tests.specs.KenwardRoger.{Scaled, scaled_by, tested, unit_row, coeffi
 use Rattle.tests.specs.Used.{in_use}
 use Rattle.tests_run.proofs.Used.{all_alike, unused-entry, in-use-is}
 use Rattle.records.specs.readers.Series.{coefficients, contrast_rows, refusal, beta, beta_h, contrast}
-use Rattle.records.specs.format.Layout.{entryBytes, answer_bytes, entry_from}
-use Rattle.records.specs.readers.CutoffTable.{cutoffsIn}
+use Rattle.records.specs.format.Layout.{entry_bytes, answer_bytes, entry_from}
+use Rattle.records.specs.readers.CutoffTable.{cutoffs_in}
 use Rattle.records.specs.text.Text.{text_of, series_text}
 use Rattle.records.proofs.calls.CallLaws.{accepted-fills}
 use Rattle.records.specs.calls.KenwardRogerCall.{series_call, scaled, run, number, entries, returned, written}
@@ -51,7 +51,7 @@ f-held q (Is s) (Is x) = number-held _ (mul-fits binary64 _ _)
 module _ (c : Cutoffs) (q : ℕ) (a1 a2 : Float) where
   sum-held : (x y : Float) (b : Bool) → Held (cond b (positive (add binary64 x y)) None)
   unfolding positive
-  sum-held x y true = go (lt plusZero (add binary64 x y))
+  sum-held x y true = go (lt plus_zero (add binary64 x y))
     where
       go : (b : Bool) → Held (cond b (Is (add binary64 x y)) None)
       go true = add-fits binary64 x y
@@ -61,8 +61,8 @@ module _ (c : Cutoffs) (q : ℕ) (a1 a2 : Float) where
   general-held : Held (general_df c q a1 a2)
   unfolding general_df
   general-held =
-      let e : Float = sub binary64 (mul binary64 (ofCount q) (rho_of c q a1 a2)) one in
-      sum-held four (div binary64 (add binary64 (ofCount q) two) e) (lt c.excess (magnitude e))
+      let e : Float = sub binary64 (mul binary64 (of_count q) (rho_of c q a1 a2)) one in
+      sum-held four (div binary64 (add binary64 (of_count q) two) e) (lt c.excess (magnitude e))
 
   df-held : Held (df_of c q a1 a2)
   unfolding df_of
@@ -106,7 +106,7 @@ run-seven c s beta beta_h rows l = go (eqb rows 0)
     alone : Seven (coefficients_to marks s.p c s beta).entries
     alone =
         fold-keeps (λ (r : Run). Seven r.entries) 0 s.p (λ i r. with_test i (coefficient_test marks c s beta i) r) (record { refused = false; entries = replicate 7 no_entry }) none-seven
-        (λ i _ _ r h. set-seven r.entries i (coefficient_test marks c s beta i).entry h (tested-held c s beta (replicate 6 plusZero) (contrast_basis marks 1 s.p (unit_row s.p i))))
+        (λ i _ _ r h. set-seven r.entries i (coefficient_test marks c s beta i).entry h (tested-held c s beta (replicate 6 plus_zero) (contrast_basis marks 1 s.p (unit_row s.p i))))
 
     go : (b : Bool) → Seven (cond b (coefficients_to marks s.p c s beta) (with_test 6 (contrast_test marks c s beta beta_h rows l) (coefficients_to marks s.p c s beta))).entries
     go true = alone
@@ -149,15 +149,15 @@ module _ (w : ℕ) (c : Cutoffs) (s : List ℕ) where
     text-is = sym (text-accepted (number w c s) (entries w c s) h) ∙ lines_are (coefficients s) (contrast_rows s) (entries w c s) (limits w some s facts).coefficients file-in-use
 
     -- "Unused entries are zero."
-    pub unused-bytes : (i : ℕ) → in_use (coefficients s) (contrast_rows s) i ≡ false → entryBytes (get_or (entries w c s) i no_entry) ≡ replicate 24 0
+    pub unused-bytes : (i : ℕ) → in_use (coefficients s) (contrast_rows s) i ≡ false → entry_bytes (get_or (entries w c s) i no_entry) ≡ replicate 24 0
     unfolding run scaled scaled_by
     unused-bytes i e =
-        ap (λ (es : List Entry). entryBytes (get_or es i no_entry)) (sym (run-entries w c s (run c s).entries refl (sym h)))
-        ∙ ap entryBytes (unused-entry c (scaled c s) (beta s) (beta_h s) (contrast_rows s) (contrast s) i e) ∙ unused-zero
+        ap (λ (es : List Entry). entry_bytes (get_or es i no_entry)) (sym (run-entries w c s (run c s).entries refl (sym h)))
+        ∙ ap entry_bytes (unused-entry c (scaled c s) (beta s) (beta_h s) (contrast_rows s) (contrast s) i e) ∙ unused-zero
 
 -- the same of the 168 bytes that an accepting call with a table has filled
-pub call-read-back : (w : ℕ) (lab s answer : List ℕ) → returned w lab s answer ≡ 0 → (i : ℕ) → i < 7 → entry_from (written w lab s answer) i ≡ get_or (entries w (cutoffsIn lab) s) i no_entry
-call-read-back w lab s answer h i l = rw (accepted-fills (series_call w s) lab answer h) (file-read-back w (cutoffsIn lab) s i l)
+pub call-read-back : (w : ℕ) (lab s answer : List ℕ) → returned w lab s answer ≡ 0 → (i : ℕ) → i < 7 → entry_from (written w lab s answer) i ≡ get_or (entries w (cutoffs_in lab) s) i no_entry
+call-read-back w lab s answer h i l = rw (accepted-fills (series_call w s) lab answer h) (file-read-back w (cutoffs_in lab) s i l)
 
 -- SO THE BYTES DETERMINE THE ANSWER: equal bytes are equal entries
 pub file-determined : (w v : ℕ) (c d : Cutoffs) (s t : List ℕ) → answer_bytes (entries w c s) ≡ answer_bytes (entries v d t) → entries w c s ≡ entries v d t

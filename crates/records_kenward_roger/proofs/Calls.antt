@@ -27,7 +27,7 @@ use Rattle.tests.specs.KenwardRoger.{Scaled, run_of}
 use Rattle.tests_run.specs.joints.Units.{response_units}
 use Rattle.tests_run.proofs.RunLaws.{response-units-is}
 use Rattle.records.specs.declared.Sizes.{Sizes}
-use Rattle.records.specs.format.Kinds.{width, kindAt, kinds_of, kind_numbers, kenward_roger_kinds, limits}
+use Rattle.records.specs.format.Kinds.{width, kind_at, kinds_of, kind_numbers, kenward_roger_kinds, limits}
 use Rattle.records.specs.format.Cells.{first_slot, slot_count}
 use Rattle.records.specs.format.File.{count, present}
 use Rattle.records.specs.readers.Shortened.{kept_specimens, shortened}
@@ -48,31 +48,31 @@ use Rattle.records.specs.declared.Shape.TheVariants.{Series}
 
 -- ---- the kinds of a series that stay as they are, by their rows and columns
 module _ (s : List ℕ) where
-  flat-theta : Flat (kindAt (kinds s) 4) (thetas s) 1
-  unfolding kindAt kenward_roger_kinds sizes width
+  flat-theta : Flat (kind_at (kinds s) 4) (thetas s) 1
+  unfolding kind_at kenward_roger_kinds sizes width
   flat-theta = record { number = refl; row = refl; column = refl }
 
-  flat-phi : Flat (kindAt (kinds s) 6) (coefficients s) (coefficients s)
-  unfolding kindAt kenward_roger_kinds sizes width
+  flat-phi : Flat (kind_at (kinds s) 6) (coefficients s) (coefficients s)
+  unfolding kind_at kenward_roger_kinds sizes width
   flat-phi = record { number = refl; row = refl; column = refl }
 
-  flat-sigma2 : Flat (kindAt (kinds s) 7) 1 1
-  unfolding kindAt kenward_roger_kinds sizes width
+  flat-sigma2 : Flat (kind_at (kinds s) 7) 1 1
+  unfolding kind_at kenward_roger_kinds sizes width
   flat-sigma2 = record { number = refl; row = refl; column = refl }
 
-  flat-beta : Flat (kindAt (kinds s) 8) (coefficients s) 1
-  unfolding kindAt kenward_roger_kinds sizes width
+  flat-beta : Flat (kind_at (kinds s) 8) (coefficients s) 1
+  unfolding kind_at kenward_roger_kinds sizes width
   flat-beta = record { number = refl; row = refl; column = refl }
 
-  flat-contrast : Flat (kindAt (kinds s) 9) (contrast_rows s) (coefficients s)
-  unfolding kindAt kenward_roger_kinds sizes width
+  flat-contrast : Flat (kind_at (kinds s) 9) (contrast_rows s) (coefficients s)
+  unfolding kind_at kenward_roger_kinds sizes width
   flat-contrast = record { number = refl; row = refl; column = refl }
 
   abbrev hypotheses : ℕ
   hypotheses = cond (present s 10 && present s 9) (coefficients s) 0
 
-  flat-hypothesis : Flat (kindAt (kinds s) 10) hypotheses 1
-  unfolding kindAt kenward_roger_kinds sizes width
+  flat-hypothesis : Flat (kind_at (kinds s) 10) hypotheses 1
+  unfolding kind_at kenward_roger_kinds sizes width
   flat-hypothesis = record { number = refl; row = refl; column = refl }
 
 -- the numbers of kind k as they are lent, from its first slot to the next kind's
@@ -105,19 +105,19 @@ module _ (w : ℕ) (s : List ℕ) (fs : List ℕ) (xs : List Float) (h : SeriesS
   starts-at k l = ap (λ (l : List ℕ). get_or l k 0) h.starts ∙ firsts_at (kinds s) k l
 
   -- where a kind ends
-  ends_at : (k r c : ℕ) → k < kind_numbers → Flat (kindAt (kinds s) k) r c → get_or fs k 0 + r * c ≤ length xs
+  ends_at : (k r c : ℕ) → k < kind_numbers → Flat (kind_at (kinds s) k) r c → get_or fs k 0 + r * c ≤ length xs
   ends_at k r c l f =
       let a = starts-at k (omega arith) in
       let b = ends-within (kinds s) k l in
-      let d = flat-slots (kindAt (kinds s) k) r c f in
+      let d = flat-slots (kind_at (kinds s) k) r c f in
       let e = room in
       omega arith
 
-  span_of : (k r c : ℕ) → k < kind_numbers → Flat (kindAt (kinds s) k) r c → get_or fs (k + 1) 0 - get_or fs k 0 ≡ r * c
+  span_of : (k r c : ℕ) → k < kind_numbers → Flat (kind_at (kinds s) k) r c → get_or fs (k + 1) 0 - get_or fs k 0 ≡ r * c
   span_of k r c l f =
       let a = starts-at k (omega arith) in
       let b = starts-at (k + 1) (omega arith) in
-      let d = flat-slots (kindAt (kinds s) k) r c f in
+      let d = flat-slots (kind_at (kinds s) k) r c f in
       let e = next_start (kinds s) k in
       omega arith
 
@@ -146,7 +146,7 @@ module _ (w : ℕ) (s : List ℕ) (fs : List ℕ) (xs : List Float) (h : SeriesS
   hypothesis-are = given-left s facts.formed.within (length xs) room 6 10 (coefficients s) (present s 10 && present s 9) (inr (omega arith)) (flat-hypothesis s)
 
   -- ---- the adjustment and the run from the parts
-  part-is : (k r c : ℕ) → k < kind_numbers → Flat (kindAt (kinds s) k) r c → part_of fs xs k ≡ take (r * c) (drop (first_slot (kinds s) k) sheet)
+  part-is : (k r c : ℕ) → k < kind_numbers → Flat (kind_at (kinds s) k) r c → part_of fs xs k ≡ take (r * c) (drop (first_slot (kinds s) k) sheet)
   part-is k r c l f =
       let a = span_of k r c l f in
       let b = starts-at k (omega arith) in
@@ -154,7 +154,7 @@ module _ (w : ℕ) (s : List ℕ) (fs : List ℕ) (xs : List Float) (h : SeriesS
       ap₂ (λ (m : ℕ) (q : List Float). take m q) a (ap₂ (λ (j : ℕ) (q : List Float). drop j q) b d)
 
   -- how long they are, and that the weights of the specimens that are kept lie on the sheet
-  part-long : (k r c : ℕ) → k < kind_numbers → Flat (kindAt (kinds s) k) r c → length (part_of fs xs k) ≡ r * c
+  part-long : (k r c : ℕ) → k < kind_numbers → Flat (kind_at (kinds s) k) r c → length (part_of fs xs k) ≡ r * c
   part-long k r c l f =
       let a = span_of k r c l f in
       let b = ends_at k r c l f in

@@ -9,14 +9,14 @@ use mathlib.Core.Logic.{◌⊎◌, inl, inr, ⊎_elim}
 use lib.ListN.{get_or, length, take, drop, replicate, length-replicate, length-drop}
 use lib.Seq.{get_or-take, get_or-drop, ext_get_or, length-take-le}
 use lib.Ieee.{Float, nan}
-use Rattle.arithmetic.specs.Numbers.{plusZero}
+use Rattle.arithmetic.specs.Numbers.{plus_zero}
 use Rattle.algebra.specs.Table.{row, table}
 use Rattle.algebra.proofs.FoldLaws.{length-span}
 use Rattle.algebra.proofs.TableLaws.{row_at, table_at, table-ext}
 use Rattle.algebra_large.specs.joints.Slab.{rows_at}
 use Rattle.algebra_large.proofs.SlabLaws.{rows_at-at, shape-table, shape-rows_at, shape-ext}
 use Rattle.records.specs.format.Scan.{any}
-use Rattle.records.specs.format.Kinds.{width, Table, kindAt, kinds_of, kenward_roger_kinds}
+use Rattle.records.specs.format.Kinds.{width, Table, kind_at, kinds_of, kenward_roger_kinds}
 use Rattle.records.specs.format.Cells.{slots, first_slot, slot_count}
 use Rattle.records.specs.format.File.{count, beyond, present}
 use Rattle.records.specs.readers.Shortened.{torn, kept_specimens}
@@ -35,20 +35,20 @@ use Rattle.records_refusals.proofs.RefusalLaws.{kept-on-sheet}
 use Rattle.records.specs.declared.Shape.TheVariants.{Series}
 
 -- ---- a lent part of a list is a row, and the rows in its first places are a table, by what stands in each place
-lent-line : (a m : ℕ) (xs : List Float) (f : ℕ → Float) → a + m ≤ length xs → ((i : ℕ) → i < m → get_or xs (a + i) nan ≡ f i) → take m (drop a xs) ≡ row plusZero m m f
+lent-line : (a m : ℕ) (xs : List Float) (f : ℕ → Float) → a + m ≤ length xs → ((i : ℕ) → i < m → get_or xs (a + i) nan ≡ f i) → take m (drop a xs) ≡ row plus_zero m m f
 unfolding row
 lent-line a m xs f l h =
     let d = length-drop a xs in
     let e = length-take-le m (drop a xs) (omega arith) in
-    let g : length (row plusZero m m f) ≡ m = length-span 0 m f (replicate m plusZero) ∙ length-replicate m plusZero in
-    ext_get_or nan (take m (drop a xs)) (row plusZero m m f) (e ∙ sym g)
-    (λ i k. get_or-take m (drop a xs) i nan (omega arith) ∙ get_or-drop a xs i nan ∙ h i (omega arith) ∙ sym (row_at plusZero m m f i nan (omega arith) (omega arith)))
+    let g : length (row plus_zero m m f) ≡ m = length-span 0 m f (replicate m plus_zero) ∙ length-replicate m plus_zero in
+    ext_get_or nan (take m (drop a xs)) (row plus_zero m m f) (e ∙ sym g)
+    (λ i k. get_or-take m (drop a xs) i nan (omega arith) ∙ get_or-drop a xs i nan ∙ h i (omega arith) ∙ sym (row_at plus_zero m m f i nan (omega arith) (omega arith)))
 
 lent_rows : (a m r c : ℕ) (xs : List Float) (f : ℕ → ℕ → Float) → r ≤ m → ((i j : ℕ) → i < r → j < c → get_or xs (a + i * c + j) nan ≡ f i j)
-    → rows_at c 0 r c (take (m * c) (drop a xs)) ≡ table plusZero r c r c f
+    → rows_at c 0 r c (take (m * c) (drop a xs)) ≡ table plus_zero r c r c f
 lent_rows a m r c xs f l h =
-    shape-ext (shape-rows_at c 0 r c (take (m * c) (drop a xs))) (shape-table plusZero r c f)
-    (λ i j hi hj. rows_at-at c 0 r c (take (m * c) (drop a xs)) i j hi hj ∙ here i j hi hj ∙ sym (table_at plusZero r c r c f i j nan hi hj (omega arith) (omega arith)))
+    shape-ext (shape-rows_at c 0 r c (take (m * c) (drop a xs))) (shape-table plus_zero r c f)
+    (λ i j hi hj. rows_at-at c 0 r c (take (m * c) (drop a xs)) i j hi hj ∙ here i j hi hj ∙ sym (table_at plus_zero r c r c f i j nan hi hj (omega arith) (omega arith)))
   where
     here : (i j : ℕ) → i < r → j < c → get_or (take (m * c) (drop a xs)) (0 + i * c + j) nan ≡ f i j
     here i j hi hj =
@@ -59,16 +59,16 @@ lent_rows a m r c xs f l h =
 
 -- ---- the kinds with a row for each specimen, how many rows are kept, and the kinds that stay as they are
 module _ (s : List ℕ) where
-  pub flat-x : Flat (kindAt (kinds s) 1) (specimens s) (coefficients s)
-  unfolding kindAt kenward_roger_kinds sizes width
+  pub flat-x : Flat (kind_at (kinds s) 1) (specimens s) (coefficients s)
+  unfolding kind_at kenward_roger_kinds sizes width
   flat-x = record { number = refl; row = refl; column = refl }
 
-  pub flat-z : Flat (kindAt (kinds s) 2) (specimens s) (z_columns s)
-  unfolding kindAt kenward_roger_kinds sizes width
+  pub flat-z : Flat (kind_at (kinds s) 2) (specimens s) (z_columns s)
+  unfolding kind_at kenward_roger_kinds sizes width
   flat-z = record { number = refl; row = refl; column = refl }
 
-  pub flat-weight : Flat (kindAt (kinds s) 5) (weight_count s) 1
-  unfolding kindAt kenward_roger_kinds sizes width
+  pub flat-weight : Flat (kind_at (kinds s) 5) (weight_count s) 1
+  unfolding kind_at kenward_roger_kinds sizes width
   flat-weight = record { number = refl; row = refl; column = refl }
 
   -- no more specimens are kept than were sent
@@ -94,7 +94,7 @@ Unmoved k = ((3 ≤ k) × (k < 5)) ⊎ (6 ≤ k)
 -- a later kind does not start before an earlier one
 pub firsts-rise : (t : Table) (k m : ℕ) → k ≤ m → first_slot t k ≤ first_slot t m
 unfolding first_slot
-firsts-rise t k m l = total-le k m (λ j. slots (kindAt t j)) l
+firsts-rise t k m l = total-le k m (λ j. slots (kind_at t j)) l
 
 -- the sheet of N numbers of a series that is read, without its torn specimens
 abbrev pub short_read : List ℕ → ℕ → List Float
@@ -126,8 +126,8 @@ module _ (s : List ℕ) (within : any (count s) (beyond (kinds s) s) ≡ false) 
   RowsKept : ℕ → ℕ → Type 0
   RowsKept k c = (i j : ℕ) → i < length (kept_in (sizes s) whole) → j < c → get_or sheet (first_slot (kinds s) k + i * c + j) nan ≡ get_or whole (first_slot (kinds s) k + get_or (kept_in (sizes s) whole) i 0 * c + j) nan
 
-  rows-read : (k c : ℕ) → Flat (kindAt (kinds s) k) (specimens s) c → RowsKept k c
-      → rows_at c 0 (length ks) c (take (specimens s * c) (drop (first_slot (kinds s) k) sheet)) ≡ table plusZero (length ks) c (length ks) c (λ i. cell_value s k (get_or ks i 0))
+  rows-read : (k c : ℕ) → Flat (kind_at (kinds s) k) (specimens s) c → RowsKept k c
+      → rows_at c 0 (length ks) c (take (specimens s * c) (drop (first_slot (kinds s) k) sheet)) ≡ table plus_zero (length ks) c (length ks) c (λ i. cell_value s k (get_or ks i 0))
   unfolding RowsKept
   rows-read k c f short = lent_rows (first_slot (kinds s) k) (specimens s) (length ks) c sheet (λ i. cell_value s k (get_or ks i 0)) (kept-most s) here
     where
@@ -161,7 +161,7 @@ module _ (s : List ℕ) (within : any (count s) (beyond (kinds s) s) ≡ false) 
   weights-fit : first_slot (kinds s) 5 + weights_kept s ≤ length sheet
   weights-fit =
       let a = ends-within (kinds s) 5 (omega arith) in
-      let b = flat-slots (kindAt (kinds s) 5) (weight_count s) 1 (flat-weight s) in
+      let b = flat-slots (kind_at (kinds s) 5) (weight_count s) 1 (flat-weight s) in
       let c = weights-most s in
       let d = long in
       omega arith
@@ -170,12 +170,12 @@ module _ (s : List ℕ) (within : any (count s) (beyond (kinds s) s) ≡ false) 
   weights-line = go (present s 5) refl weights-fit ∙ sym (short-weights s)
     where
       go : (b : Bool) → present s 5 ≡ b → first_slot (kinds s) 5 + cond b (length ks) 0 ≤ length sheet
-          → take (cond b (length ks) 0) (drop (first_slot (kinds s) 5) sheet) ≡ row plusZero (cond b (length ks) 0) (cond b (length ks) 0) (λ i. cell_value s 5 (get_or ks i 0) 0)
+          → take (cond b (length ks) 0) (drop (first_slot (kinds s) 5) sheet) ≡ row plus_zero (cond b (length ks) 0) (cond b (length ks) 0) (λ i. cell_value s 5 (get_or ks i 0) 0)
       go true e l = lent-line (first_slot (kinds s) 5) (length ks) sheet (λ i. cell_value s 5 (get_or ks i 0) 0) l (weight-at e)
       go false e l = lent-line (first_slot (kinds s) 5) 0 sheet (λ i. cell_value s 5 (get_or ks i 0) 0) l (λ i k. absurd (omega arith))
 
   -- ---- every other kind is as it was read
-  unmoved : (k r c q : ℕ) → Unmoved k → Flat (kindAt (kinds s) k) r c → q < r * c → get_or sheet (first_slot (kinds s) k + q) nan ≡ get_or whole (first_slot (kinds s) k + q) nan
+  unmoved : (k r c q : ℕ) → Unmoved k → Flat (kind_at (kinds s) k) r c → q < r * c → get_or sheet (first_slot (kinds s) k + q) nan ≡ get_or whole (first_slot (kinds s) k + q) nan
   unmoved k r c q o f l = short-other (sizes s) whole (first_slot (kinds s) k + q) (⊎_elim (λ u. inl (between u)) (λ u. inr (after u)) o)
     where
       between : (3 ≤ k) × (k < 5) → (first_slot (kinds s) 3 ≤ first_slot (kinds s) k + q) × (first_slot (kinds s) k + q < first_slot (kinds s) 5)
@@ -183,20 +183,20 @@ module _ (s : List ℕ) (within : any (count s) (beyond (kinds s) s) ≡ false) 
           let a = firsts-rise (kinds s) 3 k u.0 in
           let b = firsts-rise (kinds s) (k + 1) 5 (omega arith) in
           let d = next_start (kinds s) k in
-          let e = flat-slots (kindAt (kinds s) k) r c f in
+          let e = flat-slots (kind_at (kinds s) k) r c f in
           (omega arith, omega arith)
 
       after : 6 ≤ k → first_slot (kinds s) 6 ≤ first_slot (kinds s) k + q
       after u = let a = firsts-rise (kinds s) 6 k u in omega arith
 
   -- so its numbers are as they were, in a row or in a table
-  numbers_stay : (C k m : ℕ) → Unmoved k → Flat (kindAt (kinds s) k) m 1 → numbers_at sheet C (first_slot (kinds s) k) m ≡ numbers_at whole C (first_slot (kinds s) k) m
+  numbers_stay : (C k m : ℕ) → Unmoved k → Flat (kind_at (kinds s) k) m 1 → numbers_at sheet C (first_slot (kinds s) k) m ≡ numbers_at whole C (first_slot (kinds s) k) m
   unfolding numbers_at
-  numbers_stay C k m o f = row-ext plusZero C m (λ i. get_or sheet (first_slot (kinds s) k + i) nan) (λ i. get_or whole (first_slot (kinds s) k + i) nan) (λ i l. unmoved k m 1 i o f (omega arith))
+  numbers_stay C k m o f = row-ext plus_zero C m (λ i. get_or sheet (first_slot (kinds s) k + i) nan) (λ i. get_or whole (first_slot (kinds s) k + i) nan) (λ i l. unmoved k m 1 i o f (omega arith))
 
-  cells_stay : (k r c : ℕ) → Unmoved k → Flat (kindAt (kinds s) k) r c → cells_at sheet (first_slot (kinds s) k) r c ≡ cells_at whole (first_slot (kinds s) k) r c
+  cells_stay : (k r c : ℕ) → Unmoved k → Flat (kind_at (kinds s) k) r c → cells_at sheet (first_slot (kinds s) k) r c ≡ cells_at whole (first_slot (kinds s) k) r c
   unfolding cells_at
-  cells_stay k r c o f = table-ext plusZero 6 6 r c (λ i j. get_or sheet (first_slot (kinds s) k + i * c + j) nan) (λ i j. get_or whole (first_slot (kinds s) k + i * c + j) nan) here
+  cells_stay k r c o f = table-ext plus_zero 6 6 r c (λ i j. get_or sheet (first_slot (kinds s) k + i * c + j) nan) (λ i j. get_or whole (first_slot (kinds s) k + i * c + j) nan) here
     where
       here : (i j : ℕ) → i < r → j < c → get_or sheet (first_slot (kinds s) k + i * c + j) nan ≡ get_or whole (first_slot (kinds s) k + i * c + j) nan
       here i j hi hj =
@@ -205,16 +205,16 @@ module _ (s : List ℕ) (within : any (count s) (beyond (kinds s) s) ≡ false) 
           ap (λ (q : ℕ). get_or sheet q nan) e ∙ unmoved k r c (i * c + j) o f (omega arith) ∙ ap (λ (q : ℕ). get_or whole q nan) (sym e)
 
   -- and they are what the file has: numbers in a row, those of a kind that may be absent wholly, cells in a table, and a number alone
-  pub numbers-left : (C k m : ℕ) → Unmoved k → Flat (kindAt (kinds s) k) m 1 → numbers_at (short_read s N) C (first_slot (kinds s) k) m ≡ row plusZero C m (λ i. cell_value s k i 0)
+  pub numbers-left : (C k m : ℕ) → Unmoved k → Flat (kind_at (kinds s) k) m 1 → numbers_at (short_read s N) C (first_slot (kinds s) k) m ≡ row plus_zero C m (λ i. cell_value s k i 0)
   numbers-left C k m o f = numbers_stay C k m o f ∙ numbers-read Series (sizes s) s within N room C k m f
 
-  pub given-left : (C k m : ℕ) (b : Bool) → Unmoved k → Flat (kindAt (kinds s) k) (cond b m 0) 1 → numbers_at (short_read s N) C (first_slot (kinds s) k) (cond b m 0) ≡ row plusZero C m (λ i. cell_value s k i 0)
+  pub given-left : (C k m : ℕ) (b : Bool) → Unmoved k → Flat (kind_at (kinds s) k) (cond b m 0) 1 → numbers_at (short_read s N) C (first_slot (kinds s) k) (cond b m 0) ≡ row plus_zero C m (λ i. cell_value s k i 0)
   given-left C k m b o f = numbers_stay C k (cond b m 0) o f ∙ given-read Series (sizes s) s within N room C k m b f
 
-  pub cells_left : (k r c : ℕ) → Unmoved k → Flat (kindAt (kinds s) k) r c → cells_at (short_read s N) (first_slot (kinds s) k) r c ≡ table plusZero 6 6 r c (cell_value s k)
+  pub cells_left : (k r c : ℕ) → Unmoved k → Flat (kind_at (kinds s) k) r c → cells_at (short_read s N) (first_slot (kinds s) k) r c ≡ table plus_zero 6 6 r c (cell_value s k)
   cells_left k r c o f = cells_stay k r c o f ∙ cells-read Series (sizes s) s within N room k r c f
 
-  pub alone-left : (k : ℕ) → Unmoved k → Flat (kindAt (kinds s) k) 1 1 → get_or (short_read s N) (first_slot (kinds s) k) nan ≡ cell_value s k 0 0
+  pub alone-left : (k : ℕ) → Unmoved k → Flat (kind_at (kinds s) k) 1 1 → get_or (short_read s N) (first_slot (kinds s) k) nan ≡ cell_value s k 0 0
   alone-left k o f =
       let e : first_slot (kinds s) k ≡ first_slot (kinds s) k + 0 = omega arith in
       ap (λ (q : ℕ). get_or sheet q nan) e ∙ unmoved k 1 1 0 o f (omega arith) ∙ ap (λ (q : ℕ). get_or whole q nan) (sym e) ∙ alone-cell Series (sizes s) s within N room k f

@@ -2,7 +2,7 @@
 #![tactic(auto)]
 
 ghost use Rattle.std.specs.Prelude.{◌≡◌, cond, ◌*◌, ◌≤◌, length, eqb};
-ghost use Rattle.arithmetic_cutoffs.specs.Cutoffs.{documentCutoffs};
+ghost use Rattle.arithmetic_cutoffs.specs.Cutoffs.{document_cutoffs};
 ghost use Rattle.records.specs.format.Layout.{answer_bytes, answer_length};
 ghost use Rattle.records.specs.readers.CutoffTable.{built_in_table};
 ghost use Rattle.records.specs.text.Text.{text_of};
@@ -314,7 +314,7 @@ pub fn call(records: &[u8], answer: &mut [u8]) -> u32
 
 // What `pulltest` prints of a file: its text from the front of `out`, whose other bytes stay, and the text's length.
 pub fn text(records: &[u8], out: &mut [u8; TEXT_ROOM]) -> usize
-    ensures { Put text_room out.old 0 (text_of (number panel_limit documentCutoffs records.now) (entries panel_limit documentCutoffs records.now)) out.new result }
+    ensures { Put text_room out.old 0 (text_of (number panel_limit document_cutoffs records.now) (entries panel_limit document_cutoffs records.now)) out.new result }
 {
     let mut number: u32 = 0;
     let mut made: usize = 0;

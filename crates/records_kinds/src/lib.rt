@@ -2,7 +2,7 @@
 #![tactic(auto)]
 
 ghost use Rattle.std.specs.Prelude.{◌≡◌, cond};
-ghost use Rattle.records.specs.format.Kinds.{holds, width, indexOf, valueHolds, by_row_and_column, by_row, by_count, alone, absent_is_zero, by_block, unread, kindAt, kenward_roger_kinds, satterthwaiteKinds, archive_kinds, test_kinds, kinds_of, limits};
+ghost use Rattle.records.specs.format.Kinds.{holds, width, index_of, value_holds, by_row_and_column, by_row, by_count, alone, absent_is_zero, by_block, unread, kind_at, kenward_roger_kinds, satterthwaite_kinds, archive_kinds, test_kinds, kinds_of, limits};
 
 use records::{Field, Kind, Shape, Sizes, Value};
 
@@ -30,7 +30,7 @@ pub fn width(f: Field) -> usize
 
 // The index by which it names one of them.
 pub fn index_of(f: Field, x: usize) -> usize
-    ensures { result ≡ indexOf f x }
+    ensures { result ≡ index_of f x }
 {
     match f {
         Field::Index(_) => x,
@@ -41,7 +41,7 @@ pub fn index_of(f: Field, x: usize) -> usize
 
 // What the value bits may be.
 pub fn value_holds(v: Value, bits: u64) -> bool
-    ensures { result ≡ valueHolds v bits }
+    ensures { result ≡ value_holds v bits }
 {
     match v {
         Value::Float => true,
@@ -148,7 +148,7 @@ pub fn given(b: bool, n: usize) -> usize
 
 // Kenward and Roger's: X, Z, block, theta, weight, Φ, sigma2, β, contrast, β_H.
 fn kenward_roger_kind(z: Sizes, kind: u8) -> Kind
-    ensures { result ≡ kindAt (kenward_roger_kinds z) kind }
+    ensures { result ≡ kind_at (kenward_roger_kinds z) kind }
 {
     let n = z.specimens;
     let p = z.coefficients;
@@ -169,7 +169,7 @@ fn kenward_roger_kind(z: Sizes, kind: u8) -> Kind
 
 // Satterthwaite's: β, contrast, β_H; v, Jacobian, A.
 fn satterthwaite_kind(z: Sizes, kind: u8) -> Kind
-    ensures { result ≡ kindAt (satterthwaiteKinds z) kind }
+    ensures { result ≡ kind_at (satterthwaite_kinds z) kind }
 {
     let p = z.coefficients;
     let n = z.parameters;
@@ -186,7 +186,7 @@ fn satterthwaite_kind(z: Sizes, kind: u8) -> Kind
 
 // An archive's: Φ, Φ_A, each P and W in response units; Φ, Φ_A and each P in residual units, sigma2.
 fn archive_kind(z: Sizes, kind: u8) -> Kind
-    ensures { result ≡ kindAt (archive_kinds z) kind }
+    ensures { result ≡ kind_at (archive_kinds z) kind }
 {
     let p = z.coefficients;
     let n = z.parameters;
@@ -205,7 +205,7 @@ fn archive_kind(z: Sizes, kind: u8) -> Kind
 
 // The second file's: β, contrast, β_H.
 fn test_kind(z: Sizes, kind: u8) -> Kind
-    ensures { result ≡ kindAt (test_kinds z) kind }
+    ensures { result ≡ kind_at (test_kinds z) kind }
 {
     let p = z.coefficients;
     match kind {
@@ -218,7 +218,7 @@ fn test_kind(z: Sizes, kind: u8) -> Kind
 
 // What the sizes leave a kind of the file.
 pub fn kind_at(file: Shape, z: Sizes, kind: u8) -> Kind
-    ensures { result ≡ kindAt (kinds_of file z) kind }
+    ensures { result ≡ kind_at (kinds_of file z) kind }
 {
     match file {
         Shape::Series => kenward_roger_kind(z, kind),

@@ -3,8 +3,8 @@
 
 ghost use Rattle.std.specs.Prelude.{◌≡◌, not, ◌||◌, eqb, ◌<◌};
 ghost use Rattle.records.specs.format.Scan.{any};
-ghost use Rattle.records.specs.format.Kinds.{kinds_of, valueHolds};
-ghost use Rattle.records.specs.format.File.{count, padding_of, bits_of, out_of, badRecord, beyond};
+ghost use Rattle.records.specs.format.Kinds.{kinds_of, value_holds};
+ghost use Rattle.records.specs.format.File.{count, padding_of, bits_of, out_of, bad_record, beyond};
 
 use records::{Kind, Shape, Sizes};
 use records_file::{bits_at, column_at, count_at, kind_of, padding_at, row_at};
@@ -30,7 +30,7 @@ fn out_of(k: Kind, s: &[u8], i: usize) -> bool
 // Record i lies outside what its kind has, which is k, or has a nonzero unused byte, or a value that the kind does not hold.
 fn bad_record(k: Kind, s: &[u8], i: usize) -> bool
     requires { i < count s.now }
-    ensures { result ≡ out_of k s.now i || not (eqb (padding_of s.now i) 0) || not (valueHolds k.value (bits_of s.now i)) }
+    ensures { result ≡ out_of k s.now i || not (eqb (padding_of s.now i) 0) || not (value_holds k.value (bits_of s.now i)) }
 {
     if out_of(k, s, i) {
         return true;
@@ -45,7 +45,7 @@ fn bad_record(k: Kind, s: &[u8], i: usize) -> bool
 // Some record is bad: of a kind that the call does not read, with a nonzero unused field, or past a limit; the limits are sizes. Records rise by kind, so what the table says of the last one's kind is kept, and it is asked
 // again where the kind changes.
 pub fn any_bad(file: Shape, limit: Sizes, s: &[u8]) -> bool
-    ensures { result ≡ any (count s.now) (badRecord (kinds_of file limit) s.now) }
+    ensures { result ≡ any (count s.now) (bad_record (kinds_of file limit) s.now) }
 {
     let n = s.len() / 16;
     let mut last: u8 = 0;

@@ -11,7 +11,7 @@ use borrow.Author.Tests.{lt-ltb, le-ltb}
 use Rattle.records.specs.format.Bytes.{byte, word}
 use Rattle.records.specs.format.Scan.{any}
 use Rattle.records.specs.format.File.{count, kind_of, row_of, column_of, count_of}
-use Rattle.records.specs.format.Order.{numbersMatrix, matrixOf, standsBefore, falls}
+use Rattle.records.specs.format.Order.{numbers_matrix, matrix_of, stands_before, falls}
 use Rattle.records.proofs.format.InOrder.{by_digits}
 use Rattle.records_order.specs.joints.Keys.{key_of, least_key, falls_at}
 
@@ -35,32 +35,32 @@ module _ (s : List ℕ) (bytes : (i : ℕ) → byte s i < 256) where
   unfolding word
   count-below i = omega (arith, bytes (16 * i + 4), bytes (16 * i + 4 + 1), bytes (16 * i + 4 + 2), bytes (16 * i + 4 + 3))
 
-  matrix-below : (i : ℕ) → matrixOf s i < 4294967296
-  unfolding matrixOf
-  matrix-below i = go (numbersMatrix (kind_of s i))
+  matrix-below : (i : ℕ) → matrix_of s i < 4294967296
+  unfolding matrix_of
+  matrix-below i = go (numbers_matrix (kind_of s i))
     where
       go : (b : Bool) → cond b (count_of s i) 0 < 4294967296
       go true = count-below i
       go false = omega arith
 
   -- THE ORDER IS THAT OF THE KEYS
-  pub before-key : (i j : ℕ) → standsBefore s i j ≡ ltb (key_of s i) (key_of s j)
-  unfolding standsBefore key_of
+  pub before-key : (i j : ℕ) → stands_before s i j ≡ ltb (key_of s i) (key_of s j)
+  unfolding stands_before key_of
   before-key i j =
       rw (
         by_digits 256 (row_of s i) (row_of s j) (column_of s i) (column_of s j) (bytes (16 * i + 2)) (bytes (16 * j + 2)),
-        by_digits 65536 (matrixOf s i) (matrixOf s j) (row_of s i * 256 + column_of s i) (row_of s j * 256 + column_of s j) (places i) (places j),
+        by_digits 65536 (matrix_of s i) (matrix_of s j) (row_of s i * 256 + column_of s i) (row_of s j * 256 + column_of s j) (places i) (places j),
       )
-      (by_digits 281474976710656 (kind_of s i) (kind_of s j) (matrixOf s i * 65536 + (row_of s i * 256 + column_of s i)) (matrixOf s j * 65536 + (row_of s j * 256 + column_of s j)) (below i) (below j))
+      (by_digits 281474976710656 (kind_of s i) (kind_of s j) (matrix_of s i * 65536 + (row_of s i * 256 + column_of s i)) (matrix_of s j * 65536 + (row_of s j * 256 + column_of s j)) (below i) (below j))
     where
       places : (i : ℕ) → row_of s i * 256 + column_of s i < 65536
       places i = omega (arith, bytes (16 * i + 1), bytes (16 * i + 2))
 
-      below : (i : ℕ) → matrixOf s i * 65536 + (row_of s i * 256 + column_of s i) < 281474976710656
+      below : (i : ℕ) → matrix_of s i * 65536 + (row_of s i * 256 + column_of s i) < 281474976710656
       below i = omega (arith, matrix-below i, places i)
 
   -- record i + 1 does not stand after record i just where its key is below the least that it may have
-  next-falls : (i : ℕ) → not (standsBefore s i (i + 1)) ≡ falls_at s (i + 1)
+  next-falls : (i : ℕ) → not (stands_before s i (i + 1)) ≡ falls_at s (i + 1)
   unfolding falls_at least_key
   next-falls i = rw (before-key i (i + 1), add-one) (go (dec_lt (key_of s i) (key_of s (suc i))))
     where
@@ -73,7 +73,7 @@ module _ (s : List ℕ) (bytes : (i : ℕ) → byte s i < 256) where
   unfolding falls_at least_key
   first-rises = le-ltb (key_of s 0) 0 (omega arith)
 
-  each-falls : (n : ℕ) → any n (λ i. not (standsBefore s i (i + 1))) ≡ any (suc n) (falls_at s)
+  each-falls : (n : ℕ) → any n (λ i. not (stands_before s i (i + 1))) ≡ any (suc n) (falls_at s)
   unfolding any
   each-falls zero = sym first-rises
   each-falls (suc n) = ap₂ ◌||◌ (each-falls n) (next-falls n ∙ ap (falls_at s) (add-one n))
@@ -83,6 +83,6 @@ module _ (s : List ℕ) (bytes : (i : ℕ) → byte s i < 256) where
   unfolding falls any
   falls-each = go (count s)
     where
-      go : (n : ℕ) → any (n - 1) (λ i. not (standsBefore s i (i + 1))) ≡ any n (falls_at s)
+      go : (n : ℕ) → any (n - 1) (λ i. not (stands_before s i (i + 1))) ≡ any n (falls_at s)
       go zero = refl
       go (suc n) = let e : suc n - 1 ≡ n = omega arith in rw e (each-falls n)

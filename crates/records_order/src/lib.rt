@@ -3,14 +3,14 @@
 
 ghost use Rattle.std.specs.Prelude.{◌≡◌, ◌<◌};
 ghost use Rattle.records.specs.format.File.{count, kind_of};
-ghost use Rattle.records.specs.format.Order.{numbersMatrix, matrixOf, falls};
+ghost use Rattle.records.specs.format.Order.{numbers_matrix, matrix_of, falls};
 ghost use Rattle.records_order.specs.joints.Keys.{key_of};
 
 use records_file::{column_at, count_at, kind_of, row_at};
 
 // A kind's count numbers a matrix.
 fn numbers_matrix(kind: usize) -> bool
-    ensures { result ≡ numbersMatrix kind }
+    ensures { result ≡ numbers_matrix kind }
 {
     (kind == 31) | (kind == 13) | (kind == 17)
 }
@@ -18,7 +18,7 @@ fn numbers_matrix(kind: usize) -> bool
 // The number of record i's matrix, 0 where its count numbers none.
 fn matrix_at(s: &[u8], i: usize) -> usize
     requires { i < count s.now }
-    ensures { (result ≡ matrixOf s.now i) × (result < 4294967296) }
+    ensures { (result ≡ matrix_of s.now i) × (result < 4294967296) }
 {
     if numbers_matrix(records_file::index(kind_of(s, i))) {
         return count_at(s, i);

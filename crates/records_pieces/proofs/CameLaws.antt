@@ -15,7 +15,7 @@ use Rattle.algebra.proofs.FoldLaws.{length-span, span-at, span-other}
 use Rattle.records.specs.format.Bytes.{byte}
 use Rattle.records.specs.format.Scan.{any}
 use Rattle.records.specs.format.File.{count, kind_of, row_of, column_of, count_of}
-use Rattle.records.specs.format.Order.{matrixOf}
+use Rattle.records.specs.format.Order.{matrix_of}
 use Rattle.records.proofs.format.ScanLaws.{any-more, any_same}
 use Rattle.records.proofs.format.WrittenLaws.{word_same}
 use Rattle.records_order.specs.joints.Keys.{key_of, least_key, falls_at}
@@ -25,7 +25,7 @@ use Rattle.records_pieces.specs.joints.Arrived.{Arrived, arrived_as, nothing_yet
 
 -- ---- a record's key is its bytes'
 pub key-same : (s t : List ℕ) (i j : ℕ) → ((o : ℕ) → o < 16 → byte s (16 * i + o) ≡ byte t (16 * j + o)) → key_of s i ≡ key_of t j
-unfolding key_of matrixOf
+unfolding key_of matrix_of
 key-same s t i j h =
     let k : kind_of s i ≡ kind_of t j = ap (byte s) (plain i) ∙ h 0 (omega arith) ∙ ap (byte t) (sym (plain j)) in
     let r : row_of s i ≡ row_of t j = h 1 (omega arith) in

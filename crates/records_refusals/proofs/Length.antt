@@ -13,8 +13,8 @@ use Rattle.records.specs.declared.Sizes.{Sizes}
 use Rattle.records.specs.format.Scan.{any}
 use Rattle.records.specs.format.Kinds.{Table, kinds_of, kenward_roger}
 use Rattle.records.specs.format.Cells.{slot_count}
-use Rattle.records.specs.format.File.{count, kind_of, cell_row, cell_column, cell_count, isCell, again, beyond, lengthReasons, formReasons}
-use Rattle.records.specs.format.Order.{falls, orderReasons}
+use Rattle.records.specs.format.File.{count, kind_of, cell_row, cell_column, cell_count, is_cell, again, beyond, length_reasons, form_reasons}
+use Rattle.records.specs.format.Order.{falls, order_reasons}
 use Rattle.records.specs.readers.Reader.{limit_kinds, file_kinds, formed_number}
 use Rattle.records.specs.readers.Series.{reader, sizes, refusal}
 use Rattle.records.proofs.readers.ReaderLaws.{well_formed}
@@ -43,7 +43,7 @@ few-records file z s within once = pigeons (slot_count t) (count s) (slot_of t s
     sized i l = any_none (count s) (beyond t s) i l within
 
     names : ℕ → ℕ → Bool
-    names j i = isCell t s (kind_of s j) (cell_count t s j) (cell_row t s j) (cell_column t s j) i
+    names j i = is_cell t s (kind_of s j) (cell_count t s j) (cell_row t s j) (cell_column t s j) i
 
     none : (i j : ℕ) → i < j → j < count s → names j i ≡ false
     none i j l h = any_none j (names j) i l (any_none (count s) (again t s) j h once)
@@ -55,12 +55,12 @@ few-records file z s within once = pigeons (slot_count t) (count s) (slot_of t s
 
 -- what refuses a rising file by its length or its form refuses it with 2
 formed-two : (w : ℕ) (s : List ℕ) → falls s ≡ false → (formed_number (reader w) s ≡ 0 → ⊥) → formed_number (reader w) s ≡ 2
-unfolding lengthReasons orderReasons formReasons first
+unfolding length_reasons order_reasons form_reasons first
 formed-two w s r h = without ∙ first-only 2 asked refl (λ e. h (without ∙ e))
   where
     -- its list but for the order
     asked : List Line
-    asked = lengthReasons s ++ formReasons (limit_kinds (reader w)) (file_kinds (reader w) s) s
+    asked = length_reasons s ++ form_reasons (limit_kinds (reader w)) (file_kinds (reader w) s) s
 
     without : formed_number (reader w) s ≡ first asked
     without = rw r

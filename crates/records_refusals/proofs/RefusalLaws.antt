@@ -7,7 +7,7 @@ use mathlib.Core.List.{List, []}
 use lib.Dec.{eqb, lit≤}
 use lib.ListN.{get_or}
 use lib.Ieee.{Float, nan, lt, le}
-use Rattle.arithmetic.specs.Numbers.{plusZero, is_zero}
+use Rattle.arithmetic.specs.Numbers.{plus_zero, is_zero}
 use Rattle.algebra.specs.Table.{row}
 use Rattle.algebra.specs.Reasons.{first}
 use Rattle.algebra.proofs.ReasonLaws.{passed}
@@ -15,12 +15,12 @@ use Rattle.adjustment.specs.declared.Block.{Block}
 use Rattle.adjustment.specs.Blocks.{no_block}
 use Rattle.records.specs.declared.Sizes.{Sizes}
 use Rattle.records.specs.format.Scan.{any}
-use Rattle.records.specs.format.Kinds.{width, Table, kindAt, kinds_of, kenward_roger_kinds, limits}
+use Rattle.records.specs.format.Kinds.{width, Table, kind_at, kinds_of, kenward_roger_kinds, limits}
 use Rattle.records.specs.format.Cells.{first_slot, slot_count}
-use Rattle.records.specs.format.File.{count, beyond, notFinite, present}
+use Rattle.records.specs.format.File.{count, beyond, not_finite, present}
 use Rattle.records.specs.readers.Reader.{formed_number}
 use Rattle.records.specs.readers.Shortened.{torn, all_torn, kept_specimens}
-use Rattle.records.specs.readers.Series.{reader, specimens, coefficients, block_count, sizes, cell_value, sigma2, block_of, as_sent, miscounted, bad_size, bad_weight, misfit, zero_contrast, block_reasons, size_reasons, valueReasons, reasons, refusal}
+use Rattle.records.specs.readers.Series.{reader, specimens, coefficients, block_count, sizes, cell_value, sigma2, block_of, as_sent, miscounted, bad_size, bad_weight, misfit, zero_contrast, block_reasons, size_reasons, value_reasons, reasons, refusal}
 use Rattle.records.proofs.format.ScanLaws.{any_same, any-hit}
 use Rattle.records.proofs.readers.KeptLaws.{kept_same}
 use Rattle.records.proofs.readers.ShortLaws.{torn-is}
@@ -42,34 +42,34 @@ module _ (z : Sizes) where
   abbrev t : Table
   t = kinds_of Series z
 
-  weight-flat : Flat (kindAt t 5) (cond z.weighted z.specimens 0) 1
-  unfolding kindAt kenward_roger_kinds width
+  weight-flat : Flat (kind_at t 5) (cond z.weighted z.specimens 0) 1
+  unfolding kind_at kenward_roger_kinds width
   weight-flat = record { number = refl; row = refl; column = refl }
 
-  variance-flat : Flat (kindAt t 7) 1 1
-  unfolding kindAt kenward_roger_kinds width
+  variance-flat : Flat (kind_at t 7) 1 1
+  unfolding kind_at kenward_roger_kinds width
   variance-flat = record { number = refl; row = refl; column = refl }
 
-  contrast-flat : Flat (kindAt t 9) z.contrasts z.coefficients
-  unfolding kindAt kenward_roger_kinds width
+  contrast-flat : Flat (kind_at t 9) z.contrasts z.coefficients
+  unfolding kind_at kenward_roger_kinds width
   contrast-flat = record { number = refl; row = refl; column = refl }
 
   -- the sheet has room for them
   pub variance-fits : (n : ℕ) → slot_count t ≤ n → first_slot t 7 < n
-  variance-fits n l = let a = ends-within t 7 (lit≤ tt) in let b = flat-slots (kindAt t 7) 1 1 variance-flat in omega arith
+  variance-fits n l = let a = ends-within t 7 (lit≤ tt) in let b = flat-slots (kind_at t 7) 1 1 variance-flat in omega arith
 
   pub weights-fit : (n : ℕ) → slot_count t ≤ n → first_slot t 5 + cond z.weighted z.specimens 0 ≤ n
-  weights-fit n l = let a = ends-within t 5 (lit≤ tt) in let b = flat-slots (kindAt t 5) (cond z.weighted z.specimens 0) 1 weight-flat in omega arith
+  weights-fit n l = let a = ends-within t 5 (lit≤ tt) in let b = flat-slots (kind_at t 5) (cond z.weighted z.specimens 0) 1 weight-flat in omega arith
 
   pub contrast-fits : (n : ℕ) → slot_count t ≤ n → first_slot t 9 + z.contrasts * z.coefficients ≤ n
-  contrast-fits n l = let a = ends-within t 9 (lit≤ tt) in let b = flat-slots (kindAt t 9) z.contrasts z.coefficients contrast-flat in omega arith
+  contrast-fits n l = let a = ends-within t 9 (lit≤ tt) in let b = flat-slots (kind_at t 9) z.contrasts z.coefficients contrast-flat in omega arith
 
   pub starts : (k : ℕ) (fs : List ℕ) → k < 34 → fs ≡ first_slots t → get_or fs k 0 ≡ first_slot t k
   starts k fs l e = ap (λ (x : List ℕ). get_or x k 0) e ∙ firsts_at t k l
 
   -- the refusals 5 to 8 as the code makes them
   pub sheet-cases : (bs : List Block) (sheet : List Float) (fs : List ℕ) → fs ≡ first_slots t
-      → sheet_refusal z bs sheet ≡ cond (le (get_or sheet (get_or fs 7 0) nan) plusZero) 5 (cond (bad_weight_in z sheet (get_or fs 5 0)) 6 (cond (misfit_in z bs) 7 (cond (zero_contrast_in z sheet (get_or fs 9 0)) 8 0)))
+      → sheet_refusal z bs sheet ≡ cond (le (get_or sheet (get_or fs 7 0) nan) plus_zero) 5 (cond (bad_weight_in z sheet (get_or fs 5 0)) 6 (cond (misfit_in z bs) 7 (cond (zero_contrast_in z sheet (get_or fs 9 0)) 8 0)))
   unfolding sheet_refusal first
   sheet-cases bs sheet fs e = rw (starts 7 fs (lit≤ tt) e, starts 5 fs (lit≤ tt) e, starts 9 fs (lit≤ tt) e)
 
@@ -93,9 +93,9 @@ module _ (s : List ℕ) (within : any (count s) (beyond (kinds_of Series (sizes 
   variance-read : get_or sheet (first_slot u 7) nan ≡ sigma2 s
   variance-read = alone-cell Series (sizes s) s within N room 7 (variance-flat (sizes s))
 
-  weighted-flat : present s 5 ≡ true → Flat (kindAt u 5) (specimens s) 1
+  weighted-flat : present s 5 ≡ true → Flat (kind_at u 5) (specimens s) 1
   unfolding sizes
-  weighted-flat h = subst (λ (b : Bool). Flat (kindAt u 5) (cond b (specimens s) 0) 1) h (weight-flat (sizes s))
+  weighted-flat h = subst (λ (b : Bool). Flat (kind_at u 5) (cond b (specimens s) 0) 1) h (weight-flat (sizes s))
 
   -- a weight on the sheet is the file's
   weight-cell : present s 5 ≡ true → (i : ℕ) → i < specimens s → get_or sheet (first_slot u 5 + i) nan ≡ cell_value s 5 i 0
@@ -104,8 +104,8 @@ module _ (s : List ℕ) (within : any (count s) (beyond (kinds_of Series (sizes 
   weight-read : bad_weight_in (sizes s) sheet (first_slot u 5) ≡ bad_weight s
   unfolding bad_weight_in bad_weight negatives sizes
   weight-read =
-      and_same (present s 5) (any (specimens s) (λ i. lt (get_or sheet (first_slot u 5 + i) nan) plusZero)) (any (specimens s) (λ i. lt (cell_value s 5 i 0) plusZero))
-      (λ h. any_same (specimens s) (λ i. lt (get_or sheet (first_slot u 5 + i) nan) plusZero) (λ i. lt (cell_value s 5 i 0) plusZero) (λ i l. ap (λ (x : Float). lt x plusZero) (weight-cell h i l)))
+      and_same (present s 5) (any (specimens s) (λ i. lt (get_or sheet (first_slot u 5 + i) nan) plus_zero)) (any (specimens s) (λ i. lt (cell_value s 5 i 0) plus_zero))
+      (λ h. any_same (specimens s) (λ i. lt (get_or sheet (first_slot u 5 + i) nan) plus_zero) (λ i. lt (cell_value s 5 i 0) plus_zero) (λ i l. ap (λ (x : Float). lt x plus_zero) (weight-cell h i l)))
 
   -- the sheet tells which specimens are torn, and so which are kept and whether all are torn
   torn-cell : (i : ℕ) → i < specimens s → present s 5 && torn_at sheet (first_slot u 5) i ≡ torn (as_sent s) i
@@ -125,16 +125,16 @@ module _ (s : List ℕ) (within : any (count s) (beyond (kinds_of Series (sizes 
   unfolding zero_contrast sizes
   zero-read = contrast-read Series (sizes s) s within N room (contrast-flat (sizes s))
 
-  sheet-read : block_count s ≤ 3 → sheet_refusal (sizes s) (row no_block 3 (block_count s) (block_of s)) sheet ≡ cond (le (sigma2 s) plusZero) 5 (cond (bad_weight s) 6 (cond (misfit s) 7 (cond (zero_contrast s) 8 0)))
+  sheet-read : block_count s ≤ 3 → sheet_refusal (sizes s) (row no_block 3 (block_count s) (block_of s)) sheet ≡ cond (le (sigma2 s) plus_zero) 5 (cond (bad_weight s) 6 (cond (misfit s) 7 (cond (zero_contrast s) 8 0)))
   unfolding sheet_refusal first
   sheet-read few = rw (variance-read, weight-read, misfit-read s few, zero-read)
 
 -- ---- the number of a file, by its length, order and form, and by what comes after them
 abbrev late_number : List ℕ → ℕ
-late_number s = cond (bad_size s || all_torn (as_sent s)) 3 (cond (any (count s) (notFinite s)) 4 (cond (le (sigma2 s) plusZero) 5 (cond (bad_weight s) 6 (cond (misfit s) 7 (cond (zero_contrast s) 8 0)))))
+late_number s = cond (bad_size s || all_torn (as_sent s)) 3 (cond (any (count s) (not_finite s)) 4 (cond (le (sigma2 s) plus_zero) 5 (cond (bad_weight s) 6 (cond (misfit s) 7 (cond (zero_contrast s) 8 0)))))
 
 pub refusal-cases : (w : ℕ) (s : List ℕ) → refusal w s ≡ cond (eqb (formed_number (reader w) s) 0) (cond (any (count s) (miscounted s)) 13 (late_number s)) (formed_number (reader w) s)
-unfolding refusal reasons block_reasons size_reasons valueReasons first
+unfolding refusal reasons block_reasons size_reasons value_reasons first
 refusal-cases w s = reader-is (reader w) s
 
 -- with the blocks' parameter counts after the form
@@ -213,15 +213,15 @@ module _ (w : ℕ) (s : List ℕ) (z : Sizes) (h : Sound w s z) where
     pub torn-refuses : all_torn (as_sent s) ≡ true → 3 ≡ refusal w s
     torn-refuses a = sym (late_is ∙ rw (b, a))
 
-    pub value-refuses : all_torn (as_sent s) ≡ false → any (count s) (notFinite s) ≡ true → 4 ≡ refusal w s
+    pub value-refuses : all_torn (as_sent s) ≡ false → any (count s) (not_finite s) ≡ true → 4 ≡ refusal w s
     value-refuses a v = sym (late_is ∙ rw (b, a, v))
 
-    pub sheet-refuses : (N : ℕ) (bs : List Block) (xs : List Float) (r : ℕ) → all_torn (as_sent s) ≡ false → any (count s) (notFinite s) ≡ false → slot_count (kinds_of Series (limits w)) ≤ N → bs ≡ row no_block 3 z.blocks (block_of s) → xs ≡ sheet_after N (kinds_of Series z) s (count s)
+    pub sheet-refuses : (N : ℕ) (bs : List Block) (xs : List Float) (r : ℕ) → all_torn (as_sent s) ≡ false → any (count s) (not_finite s) ≡ false → slot_count (kinds_of Series (limits w)) ≤ N → bs ≡ row no_block 3 z.blocks (block_of s) → xs ≡ sheet_after N (kinds_of Series z) s (count s)
         → r ≡ sheet_refusal z bs xs → r ≡ refusal w s
     unfolding sizes
     sheet-refuses N bs xs r a v l eb ex e =
         let n : z.blocks ≡ block_count s = ap (λ (y : Sizes). y.blocks) h.sized in
         let m = h.formed.blocks in
-        let f : sheet_refusal z bs xs ≡ cond (le (sigma2 s) plusZero) 5 (cond (bad_weight s) 6 (cond (misfit s) 7 (cond (zero_contrast s) 8 0))) = rw (ex, eb, n, h.sized) (sheet-read s own-within N (own_room N l) (omega arith)) in
-        let d : refusal w s ≡ cond (le (sigma2 s) plusZero) 5 (cond (bad_weight s) 6 (cond (misfit s) 7 (cond (zero_contrast s) 8 0))) = late_is ∙ rw (b, a, v) in
+        let f : sheet_refusal z bs xs ≡ cond (le (sigma2 s) plus_zero) 5 (cond (bad_weight s) 6 (cond (misfit s) 7 (cond (zero_contrast s) 8 0))) = rw (ex, eb, n, h.sized) (sheet-read s own-within N (own_room N l) (omega arith)) in
+        let d : refusal w s ≡ cond (le (sigma2 s) plus_zero) 5 (cond (bad_weight s) 6 (cond (misfit s) 7 (cond (zero_contrast s) 8 0))) = late_is ∙ rw (b, a, v) in
         e ∙ f ∙ sym d

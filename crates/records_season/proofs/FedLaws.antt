@@ -11,7 +11,7 @@ use lib.ListN.{length, get_or, take, set, replicate, length-append, length-set, 
 use borrow.Author.Tests.{eqb-true, eq-eqb, ne_eqb, not-false}
 use lib.Seq.{set-set, get_or-set_same, get_or-set_other, get_or-append-add, take-suc, take-length}
 use native.Mathlib.Numerals.{add-one}
-use Rattle.arithmetic_cutoffs.specs.Cutoffs.{documentCutoffs}
+use Rattle.arithmetic_cutoffs.specs.Cutoffs.{document_cutoffs}
 use Rattle.tests.specs.declared.Number.{Number}
 use Rattle.tests.specs.declared.Entry.{Entry}
 use Rattle.tests.specs.Answer.{no_entry}
@@ -71,8 +71,8 @@ module _ (s : List ℕ) (st : SeasonState) (k : SeasonCame s st) where
         window = rw same_series k.window;
       }
 
-      pub open-added : added documentCutoffs s (b ∷ []) ≡ []
-      open-added = added_is documentCutoffs s (b ∷ []) [] (ap (closed_texts documentCutoffs) same_series ∙ sym (append-nil (printed documentCutoffs s)))
+      pub open-added : added document_cutoffs s (b ∷ []) ≡ []
+      open-added = added_is document_cutoffs s (b ∷ []) [] (ap (closed_texts document_cutoffs) same_series ∙ sym (append-nil (printed document_cutoffs s)))
 
     -- with it the current record is whole
     module _ (e : a.part ≡ 15) where
@@ -115,23 +115,23 @@ module _ (s : List ℕ) (st : SeasonState) (k : SeasonCame s st) where
         t-bytes : (i : ℕ) → byte t i < 256
         t-bytes = series-byte (λ (x : ℕ). x < 256) s (count s) (omega arith) k.bytes
 
-        t-number : arrived_number documentCutoffs (whole_ones a) held ≡ number 24 documentCutoffs t
-        t-number = arrived-number documentCutoffs t t-bytes (arrived_as (whole_ones a) held st.arrived.current) k.room t-came
+        t-number : arrived_number document_cutoffs (whole_ones a) held ≡ number 24 document_cutoffs t
+        t-number = arrived-number document_cutoffs t t-bytes (arrived_as (whole_ones a) held st.arrived.current) k.room t-came
 
-        t-entries : arrived_entries documentCutoffs (whole_ones a) held ≡ entries 24 documentCutoffs t
-        t-entries = arrived-entries documentCutoffs t t-bytes (arrived_as (whole_ones a) held st.arrived.current) k.room t-came
+        t-entries : arrived_entries document_cutoffs (whole_ones a) held ≡ entries 24 document_cutoffs t
+        t-entries = arrived-entries document_cutoffs t t-bytes (arrived_as (whole_ones a) held st.arrived.current) k.room t-came
 
-        t-f : arrived_f (whole_ones a) held ≡ contrast_f documentCutoffs t
+        t-f : arrived_f (whole_ones a) held ≡ contrast_f document_cutoffs t
         unfolding contrast_f
         t-f = ap (λ (es : List Entry). (get_or es 6 no_entry).f) t-entries
 
-        window-now : with_latest (arrived_f (whole_ones a) held) st.window ≡ last_twenty (map (contrast_f documentCutoffs) (ts ++ (t ∷ [])))
-        window-now = rw (t-f, k.window, map_more (contrast_f documentCutoffs) ts t) (window_more (map (contrast_f documentCutoffs) ts) (contrast_f documentCutoffs t))
+        window-now : with_latest (arrived_f (whole_ones a) held) st.window ≡ last_twenty (map (contrast_f document_cutoffs) (ts ++ (t ∷ [])))
+        window-now = rw (t-f, k.window, map_more (contrast_f document_cutoffs) ts t) (window_more (map (contrast_f document_cutoffs) ts) (contrast_f document_cutoffs t))
 
-        worst-now : worst (with_latest (arrived_f (whole_ones a) held) st.window) ≡ worst (latest (fs_of documentCutoffs (ts ++ (t ∷ []))))
-        worst-now = ap worst window-now ∙ window-worst (map (contrast_f documentCutoffs) (ts ++ (t ∷ []))) ∙ ap (λ (fs : List Number). worst (latest fs)) (sym (fs-are documentCutoffs (ts ++ (t ∷ []))))
+        worst-now : worst (with_latest (arrived_f (whole_ones a) held) st.window) ≡ worst (latest (fs_of document_cutoffs (ts ++ (t ∷ []))))
+        worst-now = ap worst window-now ∙ window-worst (map (contrast_f document_cutoffs) (ts ++ (t ∷ []))) ∙ ap (λ (fs : List Number). worst (latest fs)) (sym (fs-are document_cutoffs (ts ++ (t ∷ []))))
 
-        text-now : arrived_text (whole_ones a) held st.window ≡ closed_text documentCutoffs ts t
+        text-now : arrived_text (whole_ones a) held st.window ≡ closed_text document_cutoffs ts t
         unfolding arrived_text closed_text series_lines worst_line
         text-now = rw (t-number, t-entries, worst-now)
 
@@ -143,10 +143,10 @@ module _ (s : List ℕ) (st : SeasonState) (k : SeasonCame s st) where
           window = rw (closed-series s b whole-now y) (w ∙ window-now);
         }
 
-        pub closed-added : added documentCutoffs s (b ∷ []) ≡ arrived_text (whole_ones a) held st.window
+        pub closed-added : added document_cutoffs s (b ∷ []) ≡ arrived_text (whole_ones a) held st.window
         closed-added =
-            added_is documentCutoffs s (b ∷ []) (arrived_text (whole_ones a) held st.window)
-            (ap (closed_texts documentCutoffs) (closed-series s b whole-now y) ∙ texts-more documentCutoffs ts t ∙ ap (λ (x : List ℕ). printed documentCutoffs s ++ x) (sym text-now))
+            added_is document_cutoffs s (b ∷ []) (arrived_text (whole_ones a) held st.window)
+            (ap (closed_texts document_cutoffs) (closed-series s b whole-now y) ∙ texts-more document_cutoffs ts t ∙ ap (λ (x : List ℕ). printed document_cutoffs s ++ x) (sym text-now))
 
 -- ---- one byte, as the code takes it
 module _ (a : Arrival) (kept current : List ℕ) (window : List Number) (b : ℕ) (small : b < 256) where
@@ -177,7 +177,7 @@ module _ (a : Arrival) (kept current : List ℕ) (window : List Number) (b : ℕ
       go-state s k (yes h) = rw q (open-state s before k b small (whole-series s b h (open-now s k h)) (whole-left s b h (open-now s k h)))
       go-state s k (no h) = rw q (open-state s before k b small (part-series s b h) (part_left s b h))
 
-      go-added : (s : List ℕ) (k : SeasonCame s before) → Dec (length s % 16 ≡ 15) → added documentCutoffs s (b ∷ []) ≡ []
+      go-added : (s : List ℕ) (k : SeasonCame s before) → Dec (length s % 16 ≡ 15) → added document_cutoffs s (b ∷ []) ≡ []
       go-added s k (yes h) = open-added s before k b small (whole-series s b h (open-now s k h)) (whole-left s b h (open-now s k h))
       go-added s k (no h) = open-added s before k b small (part-series s b h) (part_left s b h)
 
@@ -190,13 +190,13 @@ module _ (a : Arrival) (kept current : List ℕ) (window : List Number) (b : ℕ
 pub fed-none : (st : SeasonState) (out : List ℕ) (at : ℕ) → Fed [] 0 st out at st out at
 fed-none st out at = record {
   state = λ s k. rw (append-nil s) k;
-  wrote = λ s k. named (stay 0 out at) (sym (added-nothing documentCutoffs s)) (omega arith);
+  wrote = λ s k. named (stay 0 out at) (sym (added-nothing document_cutoffs s)) (omega arith);
 }
 
 pub fed_then : {t u : List ℕ} {m n : ℕ} {A B C : SeasonState} {o o' o'' : List ℕ} {at at' at'' : ℕ} → Fed t m A o at B o' at' → Fed u n B o' at' C o'' at'' → Fed (t ++ u) (m + n) A o at C o'' at''
 fed_then {t} {u} p q = record {
   state = λ s k. rw (append_assoc s t u) at (q.state (s ++ t) (p.state s k));
-  wrote = λ s k. named (then (p.wrote s k) (q.wrote (s ++ t) (p.state s k))) (sym (added-both documentCutoffs s t u)) (omega arith);
+  wrote = λ s k. named (then (p.wrote s k) (q.wrote (s ++ t) (p.state s k))) (sym (added-both document_cutoffs s t u)) (omega arith);
 }
 
 -- under a wider bound
@@ -229,27 +229,27 @@ fed-part {b} {A = A} {B = B} p r =
     omega arith
 
 -- ---- HOWEVER A FILE IS CUT, what its pieces add one after another, and then the refusal of the bytes left, is the season's text
-pieces-grow : (pieces : List (List ℕ)) (s : List ℕ) → printed documentCutoffs (s ++ joined_pieces pieces) ≡ printed documentCutoffs s ++ added_by s pieces
+pieces-grow : (pieces : List (List ℕ)) (s : List ℕ) → printed document_cutoffs (s ++ joined_pieces pieces) ≡ printed document_cutoffs s ++ added_by s pieces
 unfolding joined_pieces added_by
-pieces-grow [] s = ap (printed documentCutoffs) (append-nil s) ∙ sym (append-nil (printed documentCutoffs s))
+pieces-grow [] s = ap (printed document_cutoffs) (append-nil s) ∙ sym (append-nil (printed document_cutoffs s))
 pieces-grow (piece ∷ pieces) s =
-    ap (printed documentCutoffs) (sym (append_assoc s piece (joined_pieces pieces)))
+    ap (printed document_cutoffs) (sym (append_assoc s piece (joined_pieces pieces)))
     ∙ pieces-grow pieces (s ++ piece)
-    ∙ ap (λ (l : List ℕ). l ++ added_by (s ++ piece) pieces) (printed-grows documentCutoffs s piece)
-    ∙ append_assoc (printed documentCutoffs s) (added documentCutoffs s piece) (added_by (s ++ piece) pieces)
+    ∙ ap (λ (l : List ℕ). l ++ added_by (s ++ piece) pieces) (printed-grows document_cutoffs s piece)
+    ∙ append_assoc (printed document_cutoffs s) (added document_cutoffs s piece) (added_by (s ++ piece) pieces)
 
-nothing-printed : printed documentCutoffs [] ≡ []
+nothing-printed : printed document_cutoffs [] ≡ []
 unfolding closed_texts texts_to series_in series_to
 nothing-printed = refl
 
-pub pieces-text : (pieces : List (List ℕ)) → added_by [] pieces ++ left_text (left_over (joined_pieces pieces)) ≡ season_text documentCutoffs (joined_pieces pieces)
+pub pieces-text : (pieces : List (List ℕ)) → added_by [] pieces ++ left_text (left_over (joined_pieces pieces)) ≡ season_text document_cutoffs (joined_pieces pieces)
 unfolding season_text
 pieces-text pieces =
-    let all : printed documentCutoffs (joined_pieces pieces) ≡ added_by [] pieces = pieces-grow pieces [] ∙ ap (λ (l : List ℕ). l ++ added_by [] pieces) nothing-printed in
+    let all : printed document_cutoffs (joined_pieces pieces) ≡ added_by [] pieces = pieces-grow pieces [] ∙ ap (λ (l : List ℕ). l ++ added_by [] pieces) nothing-printed in
     ap (λ (l : List ℕ). l ++ left_text (left_over (joined_pieces pieces))) (sym all)
 
 -- ---- what a series that is closed adds, from its number and its entries as they were judged
-module _ (a : Arrival) (kept : List ℕ) (window : List Number) (es : List Entry) (e : es ≡ arrived_entries documentCutoffs a kept) (n : ℕ) (q : n ≡ arrived_number documentCutoffs a kept) where
+module _ (a : Arrival) (kept : List ℕ) (window : List Number) (es : List Entry) (e : es ≡ arrived_entries document_cutoffs a kept) (n : ℕ) (q : n ≡ arrived_number document_cutoffs a kept) where
   pub f-is : (d : Entry) → length es ≡ 7 → (get_or es 6 d).f ≡ arrived_f a kept
   f-is d h = ap (λ (x : Entry). x.f) (get_d_any es 6 d no_entry (omega arith)) ∙ ap (λ (l : List Entry). (get_or l 6 no_entry).f) e
 
@@ -259,7 +259,7 @@ module _ (a : Arrival) (kept : List ℕ) (window : List Number) (es : List Entry
 
   pub accepted-text : n ≡ 0 → (w : Number) → w ≡ worst (with_latest (arrived_f a kept) window) → text_of n es ++ worst_text w ≡ arrived_text a kept window
   unfolding arrived_text
-  accepted-text z w f = rw (f, e, q, eq-eqb (arrived_number documentCutoffs a kept) 0 (sym q ∙ z))
+  accepted-text z w f = rw (f, e, q, eq-eqb (arrived_number document_cutoffs a kept) 0 (sym q ∙ z))
 
 -- ---- the end
 -- what the code asks: whether a byte or a record of an open series came

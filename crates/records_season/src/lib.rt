@@ -3,7 +3,7 @@
 #![tactic(auto)]
 
 ghost use Rattle.std.specs.Prelude.{◌≡◌, Bool, not, List, [], ◌∷◌, ◌++◌, ℕ, ◌+◌, ◌*◌, ◌/◌, ◌%◌, ◌≤◌, ◌<◌, eqb, length, replicate, Float};
-ghost use Rattle.arithmetic_cutoffs.specs.Cutoffs.{documentCutoffs};
+ghost use Rattle.arithmetic_cutoffs.specs.Cutoffs.{document_cutoffs};
 ghost use Rattle.records.specs.format.Bytes.{byte};
 ghost use Rattle.records.specs.format.Scan.{any};
 ghost use Rattle.records.specs.text.Season.{closes, worse, worst, left_over, left_text, added, latest_count};

@@ -12,11 +12,11 @@ use Rattle.algebra.specs.Reasons.{first}
 use Rattle.algebra.proofs.ReasonLaws.{passed}
 use Rattle.records.specs.declared.Sizes.{Sizes}
 use Rattle.records.specs.format.Scan.{any}
-use Rattle.records.specs.format.Kinds.{width, kindAt, kinds_of, test_kinds}
+use Rattle.records.specs.format.Kinds.{width, kind_at, kinds_of, test_kinds}
 use Rattle.records.specs.format.Cells.{first_slot, slot_count}
-use Rattle.records.specs.format.File.{count, beyond, notFinite}
+use Rattle.records.specs.format.File.{count, beyond, not_finite}
 use Rattle.records.specs.readers.Reader.{formed_number}
-use Rattle.records.specs.readers.SecondFile.{reader, coefficients, sizes, zero_contrast, formed_for, valueReasons, reasons, refusal}
+use Rattle.records.specs.readers.SecondFile.{reader, coefficients, sizes, zero_contrast, formed_for, value_reasons, reasons, refusal}
 use Rattle.records.proofs.readers.ReaderLaws.{own-decides, accepted-formed, accepted-own}
 use Rattle.records_sheet.specs.joints.Sheet.{first_slots, sheet_after}
 use Rattle.records_sheet_parts.proofs.Read.{Flat, kind-starts, kind_fits}
@@ -27,25 +27,25 @@ use Rattle.records.specs.declared.Shape.TheVariants.{Second}
 
 -- ---- of a file of good form: its β and its values, p being the archive's coefficients
 module _ (p : ℕ) (t : List ℕ) (formed : formed_number (reader p) t ≡ 0) where
-  own-reasons : refusal p t ≡ first (formed_for p t ++ valueReasons t)
+  own-reasons : refusal p t ≡ first (formed_for p t ++ value_reasons t)
   unfolding refusal reasons
   own-reasons = own-decides (reader p) t formed
 
   pub other-coefficients : (coefficients t ≡ p → ⊥) → 2 ≡ refusal p t
-  unfolding formed_for valueReasons first
+  unfolding formed_for value_reasons first
   other-coefficients h = sym (own-reasons ∙ rw (ne_eqb (coefficients t) p h))
 
   module _ (q : coefficients t ≡ p) where
-    pub value-refused : any (count t) (notFinite t) ≡ true → 4 ≡ refusal p t
-    unfolding formed_for valueReasons first
+    pub value-refused : any (count t) (not_finite t) ≡ true → 4 ≡ refusal p t
+    unfolding formed_for value_reasons first
     value-refused h = sym (own-reasons ∙ rw (eq-eqb (coefficients t) p q, h))
 
-    pub contrast-refused : any (count t) (notFinite t) ≡ false → zero_contrast t ≡ true → 8 ≡ refusal p t
-    unfolding formed_for valueReasons first
+    pub contrast-refused : any (count t) (not_finite t) ≡ false → zero_contrast t ≡ true → 8 ≡ refusal p t
+    unfolding formed_for value_reasons first
     contrast-refused h k = sym (own-reasons ∙ rw (eq-eqb (coefficients t) p q, h, k))
 
-    pub reader-accepts : any (count t) (notFinite t) ≡ false → zero_contrast t ≡ false → 0 ≡ refusal p t
-    unfolding formed_for valueReasons first
+    pub reader-accepts : any (count t) (not_finite t) ≡ false → zero_contrast t ≡ false → 0 ≡ refusal p t
+    unfolding formed_for value_reasons first
     reader-accepts h k = sym (own-reasons ∙ rw (eq-eqb (coefficients t) p q, h, k))
 
 -- ---- a file that is not refused: its sizes, its form and, p being the archive's coefficients, its β, which has p numbers
@@ -59,14 +59,14 @@ module _ (p : ℕ) (t : List ℕ) (h : refusal p t ≡ 0) where
   second-sizes z e = formed-sizes Second 1 (omega arith) (omega arith) t z (accepted-formed (reader p) t h) e
 
   pub as_many : coefficients t ≡ p
-  unfolding refusal reasons formed_for valueReasons
+  unfolding refusal reasons formed_for value_reasons
   as_many =
       let b = eqb (coefficients t) p in
-      eqb-true (coefficients t) p (not-false b (passed 2 (not b) (valueReasons t) refl (accepted-own (reader p) t h)).0)
+      eqb-true (coefficients t) p (not-false b (passed 2 (not b) (value_reasons t) refl (accepted-own (reader p) t h)).0)
 
 -- ---- its contrast, off the sheet
-pub contrast-flat : (z : Sizes) → Flat (kindAt (kinds_of Second z) 9) z.contrasts z.coefficients
-unfolding kindAt test_kinds width
+pub contrast-flat : (z : Sizes) → Flat (kind_at (kinds_of Second z) 9) z.contrasts z.coefficients
+unfolding kind_at test_kinds width
 contrast-flat z = record { number = refl; row = refl; column = refl }
 
 pub contrast-fits : (z : Sizes) (fs : List ℕ) (l : ℕ) → fs ≡ first_slots (kinds_of Second z) → slot_count (kinds_of Second z) ≤ l → get_or fs 9 0 + z.contrasts * z.coefficients ≤ l

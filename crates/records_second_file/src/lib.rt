@@ -2,7 +2,7 @@
 #![tactic(auto)]
 
 ghost use Rattle.std.specs.Prelude.{◌≡◌, false, ◌≤◌, length, replicate};
-ghost use Rattle.arithmetic.specs.Numbers.{plusZero};
+ghost use Rattle.arithmetic.specs.Numbers.{plus_zero};
 ghost use Rattle.records.specs.format.Kinds.{test_table};
 ghost use Rattle.records.specs.format.Cells.{slot_count};
 ghost use Rattle.records.specs.format.File.{count};
@@ -15,7 +15,7 @@ use records::{KIND_CONTRAST, Shape};
 // for every cell that the limits allow.
 pub fn refusal(p: usize, t: &[u8], flags: &mut [bool], sheet: &mut [f64]) -> u32
     requires flags_value { (flags.old ≡ replicate (length flags.old) false) × (slot_count test_table ≤ length flags.old) }
-    requires sheet_value { (sheet.old ≡ replicate (length sheet.old) plusZero) × (slot_count test_table ≤ length sheet.old) }
+    requires sheet_value { (sheet.old ≡ replicate (length sheet.old) plus_zero) × (slot_count test_table ≤ length sheet.old) }
     ensures value { result ≡ refusal p t.now }
     ensures sheet_after { result ≡ 0 → sheet.new ≡ sheet_after (length sheet.old) (kinds t.now) t.now (count t.now) }
 {

@@ -5,13 +5,13 @@ ghost use Rattle.std.specs.Prelude.{◌≡◌, ℕ, ◌≤◌, ◌<◌};
 ghost use Rattle.algebra.specs.Table.{row};
 ghost use Rattle.adjustment.specs.Blocks.{no_block, block_at};
 ghost use Rattle.records.specs.format.Scan.{any};
-ghost use Rattle.records.specs.format.File.{count, isCell};
+ghost use Rattle.records.specs.format.File.{count, is_cell};
 ghost use Rattle.records.specs.readers.Series.{kinds, block_of, miscounted};
 
 // Record i is of block b.
 fn is_block(s: &[u8], b: usize, i: usize) -> bool
     requires { i < count s.now }
-    ensures { result ≡ isCell (kinds s.now) s.now 3 0 b 0 i }
+    ensures { result ≡ is_cell (kinds s.now) s.now 3 0 b 0 i }
 {
     if records_file::kind_of(s, i) != 3 {
         return false;

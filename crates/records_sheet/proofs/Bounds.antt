@@ -12,7 +12,7 @@ use Rattle.algebra.proofs.FoldLaws.{fold_more}
 use Rattle.records.specs.declared.Kind.{Kind}
 use Rattle.records.specs.declared.Sizes.{Sizes}
 use Rattle.records.specs.format.Scan.{total}
-use Rattle.records.specs.format.Kinds.{width, Table, kindAt, by_row_and_column, by_count, kinds_of, kenward_roger_kinds, satterthwaiteKinds, archive_kinds, test_kinds}
+use Rattle.records.specs.format.Kinds.{width, Table, kind_at, by_row_and_column, by_count, kinds_of, kenward_roger_kinds, satterthwaite_kinds, archive_kinds, test_kinds}
 use Rattle.records.specs.format.Cells.{slots, first_slot}
 use Rattle.records.proofs.format.ScanLaws.{total-more}
 use Rattle.records.proofs.readers.Limits.{AllNumbered, each-numbered, each-file}
@@ -27,7 +27,7 @@ pub record Widths (y : Kind) : Type 0 where
 abbrev AllWidths : Table → Type 0
 AllWidths t = AllNumbered t (λ k y. Widths y)
 
-widths-at : (t : Table) → AllWidths t → (k : ℕ) → Widths (kindAt t k)
+widths-at : (t : Table) → AllWidths t → (k : ℕ) → Widths (kind_at t k)
 unfolding width
 widths-at t h k = each-numbered t (λ k y. Widths y) h k (record { number = omega arith; row = omega arith; column = omega arith })
 
@@ -74,8 +74,8 @@ module _ (z : Sizes) (h : Small z) where
     ),
   )
 
-  parameter-widths : AllWidths (satterthwaiteKinds z)
-  unfolding satterthwaiteKinds width
+  parameter-widths : AllWidths (satterthwaite_kinds z)
+  unfolding satterthwaite_kinds width
   parameter-widths = (
     record { number = one; row = h.coefficients; column = one },
     (
@@ -116,9 +116,9 @@ module _ (z : Sizes) (h : Small z) where
     ),
   )
 
-  pub widths : (file : Shape) (k : ℕ) → Widths (kindAt (kinds_of file z) k)
+  pub widths : (file : Shape) (k : ℕ) → Widths (kind_at (kinds_of file z) k)
   widths file k =
-      each-file (λ T. Widths (kindAt (T z) k)) (widths-at (kenward_roger_kinds z) series-widths k) (widths-at (satterthwaiteKinds z) parameter-widths k) (widths-at (archive_kinds z) archive-widths k) (widths-at (test_kinds z) second-widths k) file
+      each-file (λ T. Widths (kind_at (T z) k)) (widths-at (kenward_roger_kinds z) series-widths k) (widths-at (satterthwaite_kinds z) parameter-widths k) (widths-at (archive_kinds z) archive-widths k) (widths-at (test_kinds z) second-widths k) file
 
 -- ---- products of small numbers
 pub two-widths : (a b : ℕ) → a ≤ 256 → b ≤ 256 → a * b ≤ 65536
@@ -133,7 +133,7 @@ module _ (file : Shape) (z : Sizes) (h : Small z) where
   pub first-bound : (k : ℕ) → first_slot (kinds_of file z) k ≤ k * 16777216
   unfolding first_slot total
   first-bound zero = omega arith
-  first-bound (suc k) = let a = first-bound k in let b = slots-bound (kindAt (kinds_of file z) k) (widths z h file k) in omega arith
+  first-bound (suc k) = let a = first-bound k in let b = slots-bound (kind_at (kinds_of file z) k) (widths z h file k) in omega arith
 
   pub all-bound : (k : ℕ) → k ≤ 33 → first_slot (kinds_of file z) k ≤ 553648128
   all-bound k l = let a = first-bound k in let b : k * 16777216 ≤ 33 * 16777216 = scaled k l in omega arith
@@ -152,6 +152,6 @@ firsts_more t k v xs e f =
     ap₂ (λ (l : List ℕ) (x : ℕ). set l (k + 1) x) e f
     ∙ sym (fold_more 0 (k + 1) (λ j ys. set ys j (first_slot t j)) (replicate 34 0) (omega arith))
 
-pub first_more : (t : Table) (k a b : ℕ) → a ≡ first_slot t k → b ≡ slots (kindAt t k) → a + b ≡ first_slot t (k + 1)
+pub first_more : (t : Table) (k a b : ℕ) → a ≡ first_slot t k → b ≡ slots (kind_at t k) → a + b ≡ first_slot t (k + 1)
 unfolding first_slot
-first_more t k a b e f = ap₂ ◌+◌ e f ∙ sym (total-more k (λ j. slots (kindAt t j)))
+first_more t k a b e f = ap₂ ◌+◌ e f ∙ sym (total-more k (λ j. slots (kind_at t j)))

@@ -7,7 +7,7 @@ use native.Mathlib.Omega.{arith}
 use lib.ListN.{get_or}
 use Rattle.records.specs.declared.Kind.{Kind}
 use Rattle.records.specs.declared.Sizes.{Sizes}
-use Rattle.records.specs.format.Kinds.{indexOf, Table, kinds_of, kind_numbers}
+use Rattle.records.specs.format.Kinds.{index_of, Table, kinds_of, kind_numbers}
 use Rattle.records.specs.format.Cells.{first_slot, slot_count, offset, slot}
 use Rattle.records.specs.format.File.{kind_of, row_of, column_of, count_of, out_of, beyond}
 use Rattle.records.proofs.format.Slots.{sized_inside, slot-below}
@@ -53,7 +53,7 @@ module _ {file : Shape} {z : Sizes} {fs s : List ℕ} {i kind l : ℕ} {k : Kind
   known-widths = rw h.table.known (widths z h.small file (kind_of s i))
 
   -- the kind's first slot and the cell's place among the kind's make the record's slot
-  pub slot-known : get_or fs kind 0 + offset k (indexOf k.count (count_of s i)) (indexOf k.row (row_of s i)) (indexOf k.column (column_of s i)) ≡ slot_of t s i
+  pub slot-known : get_or fs kind 0 + offset k (index_of k.count (count_of s i)) (index_of k.row (row_of s i)) (index_of k.column (column_of s i)) ≡ slot_of t s i
   unfolding slot
   slot-known = ap₂ ◌+◌ first-known (rw h.table.known)
 

@@ -10,7 +10,7 @@ use lib.ListN.{length, get_or, set, replicate, length-set, length-replicate, get
 use lib.Seq.{get_or-set_same, get_or-set_other}
 use lib.Ieee.{Float}
 use borrow.Author.Tests.{eq-eqb, ne_eqb}
-use Rattle.arithmetic.specs.Numbers.{plusZero}
+use Rattle.arithmetic.specs.Numbers.{plus_zero}
 use Rattle.algebra.specs.Fold.{fold}
 use Rattle.algebra.specs.Table.{row}
 use Rattle.algebra.proofs.FoldLaws.{fold_more, fold_start, fold-keeps, fold-steps}
@@ -18,9 +18,9 @@ use Rattle.algebra.proofs.TableLaws.{row_at}
 use Rattle.records.specs.declared.Kind.{Kind}
 use Rattle.records.specs.declared.Sizes.{Sizes}
 use Rattle.records.specs.format.Scan.{any, last}
-use Rattle.records.specs.format.Kinds.{width, Table, kindAt, kinds_of, kind_numbers, limits}
+use Rattle.records.specs.format.Kinds.{width, Table, kind_at, kinds_of, kind_numbers, limits}
 use Rattle.records.specs.format.Cells.{slots, first_slot, slot_count, slot}
-use Rattle.records.specs.format.File.{count, kind_of, cell_row, cell_column, cell_count, value_of, beyond, isCell, again, has, cell, missing}
+use Rattle.records.specs.format.File.{count, kind_of, cell_row, cell_column, cell_count, value_of, beyond, is_cell, again, has, cell, missing}
 use Rattle.records_sheet.specs.joints.Sheet.{Small, first_slots, slot_of, flags_after, sheet_after, gap, missing_in}
 use Rattle.records.proofs.format.ScanLaws.{or-true, any_none, any_same, last_more, last-same, total-more, total-le}
 use Rattle.records.proofs.format.Slots.{Inside, sized_inside, slot-below, slot-cell, any_cells}
@@ -64,9 +64,9 @@ module _ (N : ℕ) (t : Table) (s : List ℕ) where
   unfolding flags_after
   flags-at n j d l = stored (slot_of t s) (λ i. true) false N n j d l ∙ last-any n (λ i. eqb (slot_of t s i) j)
 
-  sheet-at : (n j : ℕ) (d : Float) → j < N → get_or (sheet_after N t s n) j d ≡ last n (λ i. eqb (slot_of t s i) j) (value_of s) plusZero
+  sheet-at : (n j : ℕ) (d : Float) → j < N → get_or (sheet_after N t s n) j d ≡ last n (λ i. eqb (slot_of t s i) j) (value_of s) plus_zero
   unfolding sheet_after
-  sheet-at n j d l = stored (slot_of t s) (value_of s) plusZero N n j d l
+  sheet-at n j d l = stored (slot_of t s) (value_of s) plus_zero N n j d l
 
   pub length-flags : (n : ℕ) → length (flags_after N t s n) ≡ N
   unfolding flags_after
@@ -74,7 +74,7 @@ module _ (N : ℕ) (t : Table) (s : List ℕ) where
 
   pub length-sheet : (n : ℕ) → length (sheet_after N t s n) ≡ N
   unfolding sheet_after
-  length-sheet n = stored-length (slot_of t s) (value_of s) plusZero N n
+  length-sheet n = stored-length (slot_of t s) (value_of s) plus_zero N n
 
   -- no record yet, and one record more
   pub flags-start : (fs : List Bool) → fs ≡ replicate N false → fs ≡ flags_after N t s 0
@@ -85,16 +85,16 @@ module _ (N : ℕ) (t : Table) (s : List ℕ) where
   unfolding flags_after
   flags-next i at fs e f = ap₂ (λ (l : List Bool) (j : ℕ). set l j true) e f ∙ sym (fold_more 0 i (λ i fs. set fs (slot_of t s i) true) (replicate N false) (omega arith))
 
-  pub sheet-start : (xs : List Float) → xs ≡ replicate N plusZero → xs ≡ sheet_after N t s 0
+  pub sheet-start : (xs : List Float) → xs ≡ replicate N plus_zero → xs ≡ sheet_after N t s 0
   unfolding sheet_after
-  sheet-start xs e = e ∙ fold_start 0 (λ i xs. set xs (slot_of t s i) (value_of s i)) (replicate N plusZero)
+  sheet-start xs e = e ∙ fold_start 0 (λ i xs. set xs (slot_of t s i) (value_of s i)) (replicate N plus_zero)
 
   pub sheet-next : (i at : ℕ) (xs : List Float) (v : Float) → xs ≡ sheet_after N t s i → at ≡ slot_of t s i → v ≡ value_of s i → set xs at v ≡ sheet_after N t s (i + 1)
   unfolding sheet_after
   sheet-next i at xs v e f g =
       ap₂ (λ (l : List Float) (j : ℕ). set l j v) e f
-      ∙ ap (λ (x : Float). set (fold 0 i (λ i xs. set xs (slot_of t s i) (value_of s i)) (replicate N plusZero)) (slot_of t s i) x) g
-      ∙ sym (fold_more 0 i (λ i xs. set xs (slot_of t s i) (value_of s i)) (replicate N plusZero) (omega arith))
+      ∙ ap (λ (x : Float). set (fold 0 i (λ i xs. set xs (slot_of t s i) (value_of s i)) (replicate N plus_zero)) (slot_of t s i) x) g
+      ∙ sym (fold_more 0 i (λ i xs. set xs (slot_of t s i) (value_of s i)) (replicate N plus_zero) (omega arith))
 
 -- ---- a file within the sizes z of a call: the flag of a cell says whether the file has it, and the sheet has its number
 module _ (file : Shape) (z : Sizes) (s : List ℕ) (sized : any (count s) (beyond (kinds_of file z) s) ≡ false) (N : ℕ) (room : slot_count (kinds_of file z) ≤ N) where
@@ -104,37 +104,37 @@ module _ (file : Shape) (z : Sizes) (s : List ℕ) (sized : any (count s) (beyon
   within-sizes : (i : ℕ) → i < count s → beyond t s i ≡ false
   within-sizes i l = any_none (count s) (beyond t s) i l sized
 
-  pub slot-fits : (k n r c : ℕ) → Inside (kindAt t k) n r c → slot t k n r c < N
+  pub slot-fits : (k n r c : ℕ) → Inside (kind_at t k) n r c → slot t k n r c < N
   slot-fits k n r c w = let a = slot-below t k n r c kind_numbers w (kind-below file z k n r c w) in omega arith
 
   pub slot-of-fits : (i : ℕ) → i < count s → slot_of t s i < N
   slot-of-fits i l = slot-fits (kind_of s i) (cell_count t s i) (cell_row t s i) (cell_column t s i) (sized_inside t s i (within-sizes i l))
 
-  pub cell-flag : (k n r c : ℕ) (d : Bool) → Inside (kindAt t k) n r c → get_or (flags_after N t s (count s)) (slot t k n r c) d ≡ has t s k n r c
+  pub cell-flag : (k n r c : ℕ) (d : Bool) → Inside (kind_at t k) n r c → get_or (flags_after N t s (count s)) (slot t k n r c) d ≡ has t s k n r c
   unfolding has
   cell-flag k n r c d w =
       flags-at N t s (count s) (slot t k n r c) d (slot-fits k n r c w)
-      ∙ any_same (count s) (λ i. eqb (slot_of t s i) (slot t k n r c)) (isCell t s k n r c) (λ i l. slot-cell t s k n r c i (within-sizes i l) w)
+      ∙ any_same (count s) (λ i. eqb (slot_of t s i) (slot t k n r c)) (is_cell t s k n r c) (λ i l. slot-cell t s k n r c i (within-sizes i l) w)
 
-  pub cell-value : (k n r c : ℕ) (d : Float) → Inside (kindAt t k) n r c → get_or (sheet_after N t s (count s)) (slot t k n r c) d ≡ cell t s k n r c
+  pub cell-value : (k n r c : ℕ) (d : Float) → Inside (kind_at t k) n r c → get_or (sheet_after N t s (count s)) (slot t k n r c) d ≡ cell t s k n r c
   unfolding cell
   cell-value k n r c d w =
       sheet-at N t s (count s) (slot t k n r c) d (slot-fits k n r c w)
-      ∙ last-same (count s) (λ i. eqb (slot_of t s i) (slot t k n r c)) (isCell t s k n r c) (value_of s) (value_of s) plusZero (λ i l. slot-cell t s k n r c i (within-sizes i l) w) (λ i l q. refl)
+      ∙ last-same (count s) (λ i. eqb (slot_of t s i) (slot t k n r c)) (is_cell t s k n r c) (value_of s) (value_of s) plus_zero (λ i l. slot-cell t s k n r c i (within-sizes i l) w) (λ i l q. refl)
 
   -- the flag at record i's slot, before it is set: an earlier record names the same cell
   pub flag-again : (i : ℕ) (d : Bool) → i < count s → get_or (flags_after N t s i) (slot_of t s i) d ≡ again t s i
   unfolding again
   flag-again i d l =
       flags-at N t s i (slot_of t s i) d (slot-of-fits i l)
-      ∙ any_same i (λ m. eqb (slot_of t s m) (slot_of t s i)) (isCell t s (kind_of s i) (cell_count t s i) (cell_row t s i) (cell_column t s i))
+      ∙ any_same i (λ m. eqb (slot_of t s m) (slot_of t s i)) (is_cell t s (kind_of s i) (cell_count t s i) (cell_row t s i) (cell_column t s i))
       (λ m h. slot-cell t s (kind_of s i) (cell_count t s i) (cell_row t s i) (cell_column t s i) m (within-sizes m (omega arith)) (sized_inside t s i (within-sizes i l)))
 
   -- a kind misses a cell where one of its flags is not set
   pub missing-read : (k : ℕ) → missing_in t (flags_after N t s (count s)) k ≡ missing t s k
   unfolding missing_in missing gap slot
   missing-read k =
-      let z : Kind = kindAt t k in
+      let z : Kind = kind_at t k in
       ap (λ (b : Bool). not z.sparse && b)
       (any_cells z (λ j. not (get_or (flags_after N t s (count s)) (first_slot t k + j) false))
       ∙ any_same (width z.count) _ _ (λ n l. any_same (width z.row) _ _ (λ r m. any_same (width z.column) _ _ (λ c o. ap not (cell-flag k n r c false (record { number = l; row = m; column = o }))))))
@@ -163,10 +163,10 @@ unfolding first_slots
 firsts_at t k l = row_at 0 34 34 (first_slot t) k 0 l (omega arith)
 
 -- the next kind starts where this one ends, and every kind ends within the slots
-pub next_start : (t : Table) (k : ℕ) → first_slot t (k + 1) ≡ first_slot t k + slots (kindAt t k)
+pub next_start : (t : Table) (k : ℕ) → first_slot t (k + 1) ≡ first_slot t k + slots (kind_at t k)
 unfolding first_slot
-next_start t k = total-more k (λ j. slots (kindAt t j))
+next_start t k = total-more k (λ j. slots (kind_at t j))
 
-pub ends-within : (t : Table) (k : ℕ) → k < kind_numbers → first_slot t k + slots (kindAt t k) ≤ slot_count t
+pub ends-within : (t : Table) (k : ℕ) → k < kind_numbers → first_slot t k + slots (kind_at t k) ≤ slot_count t
 unfolding first_slot
-ends-within t k l = let a = total-more k (λ j. slots (kindAt t j)) in let b = total-le (k + 1) kind_numbers (λ j. slots (kindAt t j)) (omega arith) in omega arith
+ends-within t k l = let a = total-more k (λ j. slots (kind_at t j)) in let b = total-le (k + 1) kind_numbers (λ j. slots (kind_at t j)) (omega arith) in omega arith

@@ -2,9 +2,9 @@
 #![tactic(auto)]
 
 ghost use Rattle.std.specs.Prelude.{◌≡◌, false, ◌+◌, ◌≤◌, ◌<◌, length, replicate};
-ghost use Rattle.arithmetic.specs.Numbers.{plusZero};
+ghost use Rattle.arithmetic.specs.Numbers.{plus_zero};
 ghost use Rattle.records.specs.format.Scan.{any};
-ghost use Rattle.records.specs.format.Kinds.{width, indexOf, kinds_of, kind_numbers};
+ghost use Rattle.records.specs.format.Kinds.{width, index_of, kinds_of, kind_numbers};
 ghost use Rattle.records.specs.format.Cells.{slots, slot_count, offset};
 ghost use Rattle.records.specs.format.File.{count, row_of, column_of, count_of, out_of, beyond, again};
 ghost use Rattle.records_sheet.specs.joints.Sheet.{Small, first_slots, flags_after, sheet_after, gap, missing_in};
@@ -53,7 +53,7 @@ fn offset_in(k: Kind, n: usize, r: usize, c: usize) -> usize
 // The slot of the cell that record i names, by its kind, which is k and has the record, and by that kind's first slot.
 fn slot_at(k: Kind, first: usize, s: &[u8], i: usize) -> usize
     requires { (i < count s.now) × (out_of k s.now i ≡ false) × (width k.count ≤ 256) × (width k.row ≤ 256) × (width k.column ≤ 256) × (first ≤ 553648128) }
-    ensures { result ≡ first + offset k (indexOf k.count (count_of s.now i)) (indexOf k.row (row_of s.now i)) (indexOf k.column (column_of s.now i)) }
+    ensures { result ≡ first + offset k (index_of k.count (count_of s.now i)) (index_of k.row (row_of s.now i)) (index_of k.column (column_of s.now i)) }
 {
     let count = k.count;
     let row = k.row;
@@ -95,7 +95,7 @@ pub fn mark_cells(file: Shape, z: Sizes, firsts: &[usize; 34], s: &[u8], flags: 
 // The number in each cell, +0 where no record names it. The lent sheet is all +0 at first. The table is asked only where the kind changes, as in `mark_cells`.
 pub fn fill_sheet(file: Shape, z: Sizes, firsts: &[usize; 34], s: &[u8], sheet: &mut [f64])
     requires small { Small z × (firsts.now ≡ first_slots (kinds_of file z)) × (any (count s.now) (beyond (kinds_of file z) s.now) ≡ false) }
-    requires sheet_value { (sheet.old ≡ replicate (length sheet.old) plusZero) × (slot_count (kinds_of file z) ≤ length sheet.old) }
+    requires sheet_value { (sheet.old ≡ replicate (length sheet.old) plus_zero) × (slot_count (kinds_of file z) ≤ length sheet.old) }
     ensures { sheet.new ≡ sheet_after (length sheet.old) (kinds_of file z) s.now (count s.now) }
 {
     let n = s.len() / 16;

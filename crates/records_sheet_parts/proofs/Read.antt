@@ -6,7 +6,7 @@ use mathlib.Core.Bool.{Bool, true, false, cond}
 use mathlib.Core.List.{List, ◌∷◌}
 use lib.ListN.{get_or, set, replicate}
 use lib.Ieee.{Float, nan}
-use Rattle.arithmetic.specs.Numbers.{plusZero}
+use Rattle.arithmetic.specs.Numbers.{plus_zero}
 use Rattle.algebra.specs.Fold.{span}
 use Rattle.algebra.specs.Table.{row, table, blank}
 use Rattle.algebra.proofs.FoldLaws.{fold-ext, fold-keeps, fold_start}
@@ -14,9 +14,9 @@ use Rattle.algebra.proofs.TableLaws.{table-ext}
 use Rattle.records.specs.declared.Kind.{Kind}
 use Rattle.records.specs.declared.Sizes.{Sizes}
 use Rattle.records.specs.format.Scan.{any, last}
-use Rattle.records.specs.format.Kinds.{width, kindAt, kinds_of, kind_numbers, Table}
+use Rattle.records.specs.format.Kinds.{width, kind_at, kinds_of, kind_numbers, Table}
 use Rattle.records.specs.format.Cells.{slots, first_slot, slot_count, offset, slot}
-use Rattle.records.specs.format.File.{count, value_of, beyond, isCell, cell}
+use Rattle.records.specs.format.File.{count, value_of, beyond, is_cell, cell}
 use Rattle.records.proofs.format.ScanLaws.{any_none, last-holds}
 use Rattle.records.proofs.format.Slots.{Inside, sized_inside, cell-names}
 use Rattle.records.proofs.readers.ShortLaws.{row-ext}
@@ -72,11 +72,11 @@ module _ (y : Table) (fs : List ℕ) (e : fs ≡ first_slots y) where
   kind-starts k l = ap (λ (x : List ℕ). get_or x k 0) e ∙ firsts_at y k (omega arith)
 
   module _ (L : ℕ) (room : slot_count y ≤ L) (k : ℕ) (l : k < kind_numbers) where
-    pub kind-on : (m : ℕ) → slots (kindAt y k) ≡ m → get_or fs k 0 + m ≤ L
+    pub kind-on : (m : ℕ) → slots (kind_at y k) ≡ m → get_or fs k 0 + m ≤ L
     kind-on m q = let a = kind-starts k l in let b = ends-within y k l in omega arith
 
-    pub kind_fits : (r c : ℕ) → Flat (kindAt y k) r c → get_or fs k 0 + r * c ≤ L
-    kind_fits r c f = kind-on (r * c) (flat-slots (kindAt y k) r c f)
+    pub kind_fits : (r c : ℕ) → Flat (kind_at y k) r c → get_or fs k 0 + r * c ≤ L
+    kind_fits r c f = kind-on (r * c) (flat-slots (kind_at y k) r c f)
 
 -- ---- a file within the sizes z of a call, on a sheet of N numbers
 module _ (file : Shape) (z : Sizes) (s : List ℕ) (sized : any (count s) (beyond (kinds_of file z) s) ≡ false) (N : ℕ) (room : slot_count (kinds_of file z) ≤ N) where
@@ -86,11 +86,11 @@ module _ (file : Shape) (z : Sizes) (s : List ℕ) (sized : any (count s) (beyon
   abbrev sheet : List Float
   sheet = sheet_after N t s (count s)
 
-  at_place : (k n r c j : ℕ) → Inside (kindAt t k) n r c → j ≡ offset (kindAt t k) n r c → get_or sheet (first_slot t k + j) nan ≡ cell t s k n r c
+  at_place : (k n r c j : ℕ) → Inside (kind_at t k) n r c → j ≡ offset (kind_at t k) n r c → get_or sheet (first_slot t k + j) nan ≡ cell t s k n r c
   unfolding slot
   at_place k n r c j w e = rw e (cell-value file z s sized N room k n r c nan w)
 
-  pub stack-cell : (k n r c m i j : ℕ) → Stack (kindAt t k) n r c → m < n → i < r → j < c → get_or sheet (first_slot t k + m * (r * c) + i * c + j) nan ≡ cell t s k m i j
+  pub stack-cell : (k n r c m i j : ℕ) → Stack (kind_at t k) n r c → m < n → i < r → j < c → get_or sheet (first_slot t k + m * (r * c) + i * c + j) nan ≡ cell t s k m i j
   unfolding offset
   stack-cell k n r c m i j f hm hi hj =
       let en = f.number in
@@ -103,7 +103,7 @@ module _ (file : Shape) (z : Sizes) (s : List ℕ) (sized : any (count s) (beyon
       place : (f m r c i j : ℕ) → f + m * (r * c) + i * c + j ≡ f + ((m * r + i) * c + j)
       place f m r c i j = omega arith
 
-  pub flat-cell : (k r c i j : ℕ) → Flat (kindAt t k) r c → i < r → j < c → get_or sheet (first_slot t k + i * c + j) nan ≡ cell t s k 0 i j
+  pub flat-cell : (k r c i j : ℕ) → Flat (kind_at t k) r c → i < r → j < c → get_or sheet (first_slot t k + i * c + j) nan ≡ cell t s k 0 i j
   flat-cell k r c i j f hi hj =
       ap (λ (x : ℕ). get_or sheet x nan) (none (first_slot t k) r c i j)
       ∙ stack-cell k 1 r c 0 i j (record { number = f.number; row = f.row; column = f.column }) (omega arith) hi hj
@@ -112,52 +112,52 @@ module _ (file : Shape) (z : Sizes) (s : List ℕ) (sized : any (count s) (beyon
       none f r c i j = omega arith
 
   -- a kind of one column, and the cell alone
-  pub line-cell : (k m i : ℕ) → Flat (kindAt t k) m 1 → i < m → get_or sheet (first_slot t k + i) nan ≡ cell t s k 0 i 0
+  pub line-cell : (k m i : ℕ) → Flat (kind_at t k) m 1 → i < m → get_or sheet (first_slot t k + i) nan ≡ cell t s k 0 i 0
   line-cell k m i f l = ap (λ (x : ℕ). get_or sheet x nan) (one (first_slot t k) i) ∙ flat-cell k m 1 i 0 f l (omega arith)
     where
       one : (f i : ℕ) → f + i ≡ f + i * 1 + 0
       one f i = omega arith
 
-  pub alone-cell : (k : ℕ) → Flat (kindAt t k) 1 1 → get_or sheet (first_slot t k) nan ≡ cell t s k 0 0 0
+  pub alone-cell : (k : ℕ) → Flat (kind_at t k) 1 1 → get_or sheet (first_slot t k) nan ≡ cell t s k 0 0 0
   alone-cell k f = ap (λ (x : ℕ). get_or sheet x nan) (first (first_slot t k)) ∙ line-cell k 1 0 f (omega arith)
     where
       first : (f : ℕ) → f ≡ f + 0
       first f = omega arith
 
   -- a kind of which the sizes leave no row has no cell
-  pub none-cell : (k n r c : ℕ) → width (kindAt t k).row ≡ 0 → cell t s k n r c ≡ plusZero
+  pub none-cell : (k n r c : ℕ) → width (kind_at t k).row ≡ 0 → cell t s k n r c ≡ plus_zero
   unfolding cell
-  none-cell k n r c e = last_none (count s) (isCell t s k n r c) (λ x. record-none x)
+  none-cell k n r c e = last_none (count s) (is_cell t s k n r c) (λ x. record-none x)
     where
-      last_none : (m : ℕ) (p : ℕ → Bool) → ((i : ℕ) → i < m → p i ≡ true → ⊥) → last m p (value_of s) plusZero ≡ plusZero
-      last_none m p h = last-holds (λ x. x ≡ plusZero) m p (value_of s) plusZero refl (λ i l q. absurd (h i l q))
+      last_none : (m : ℕ) (p : ℕ → Bool) → ((i : ℕ) → i < m → p i ≡ true → ⊥) → last m p (value_of s) plus_zero ≡ plus_zero
+      last_none m p h = last-holds (λ x. x ≡ plus_zero) m p (value_of s) plus_zero refl (λ i l q. absurd (h i l q))
 
-      record-none : (i : ℕ) → i < count s → isCell t s k n r c i ≡ true → ⊥
+      record-none : (i : ℕ) → i < count s → is_cell t s k n r c i ≡ true → ⊥
       record-none i l q =
           let w = sized_inside t s i (any_none (count s) (beyond t s) i l sized) in
-          let h = ap (λ (j : ℕ). width (kindAt t j).row) (cell-names t s k n r c i q).kind in
+          let h = ap (λ (j : ℕ). width (kind_at t j).row) (cell-names t s k n r c i q).kind in
           let b = w.row in
           absurd (omega arith)
 
   -- ---- arrays
-  pub numbers-read : (C k m : ℕ) → Flat (kindAt t k) m 1 → numbers_at sheet C (first_slot t k) m ≡ row plusZero C m (λ i. cell t s k 0 i 0)
+  pub numbers-read : (C k m : ℕ) → Flat (kind_at t k) m 1 → numbers_at sheet C (first_slot t k) m ≡ row plus_zero C m (λ i. cell t s k 0 i 0)
   unfolding numbers_at
-  numbers-read C k m f = row-ext plusZero C m (λ i. get_or sheet (first_slot t k + i) nan) (λ i. cell t s k 0 i 0) (λ i l. line-cell k m i f l)
+  numbers-read C k m f = row-ext plus_zero C m (λ i. get_or sheet (first_slot t k + i) nan) (λ i. cell t s k 0 i 0) (λ i l. line-cell k m i f l)
 
   -- of a kind that may be absent wholly: where the sizes leave it no row, its numbers are +0
-  pub given-read : (C k m : ℕ) (b : Bool) → Flat (kindAt t k) (cond b m 0) 1 → numbers_at sheet C (first_slot t k) (cond b m 0) ≡ row plusZero C m (λ i. cell t s k 0 i 0)
+  pub given-read : (C k m : ℕ) (b : Bool) → Flat (kind_at t k) (cond b m 0) 1 → numbers_at sheet C (first_slot t k) (cond b m 0) ≡ row plus_zero C m (λ i. cell t s k 0 i 0)
   given-read C k m true f = numbers-read C k m f
   given-read C k m false f =
       numbers-read C k 0 f
-      ∙ no_row plusZero C (λ i. cell t s k 0 i 0)
-      ∙ sym (row-ext plusZero C m (λ i. cell t s k 0 i 0) (λ i. plusZero) (λ i _. none-cell k 0 i 0 f.row) ∙ filler-row plusZero C m)
+      ∙ no_row plus_zero C (λ i. cell t s k 0 i 0)
+      ∙ sym (row-ext plus_zero C m (λ i. cell t s k 0 i 0) (λ i. plus_zero) (λ i _. none-cell k 0 i 0 f.row) ∙ filler-row plus_zero C m)
 
-  pub cells-read : (k r c : ℕ) → Flat (kindAt t k) r c → cells_at sheet (first_slot t k) r c ≡ table plusZero 6 6 r c (cell t s k 0)
+  pub cells-read : (k r c : ℕ) → Flat (kind_at t k) r c → cells_at sheet (first_slot t k) r c ≡ table plus_zero 6 6 r c (cell t s k 0)
   unfolding cells_at
-  cells-read k r c f = table-ext plusZero 6 6 r c (λ i j. get_or sheet (first_slot t k + i * c + j) nan) (cell t s k 0) (λ i j hi hj. flat-cell k r c i j f hi hj)
+  cells-read k r c f = table-ext plus_zero 6 6 r c (λ i j. get_or sheet (first_slot t k + i * c + j) nan) (cell t s k 0) (λ i j hi hj. flat-cell k r c i j f hi hj)
 
-  pub stack-read : (k n p : ℕ) → Stack (kindAt t k) n p p → stack_at sheet (first_slot t k) n p ≡ span 0 n (λ i. table plusZero 6 6 p p (cell t s k i)) (replicate 4 (blank plusZero 6 6))
+  pub stack-read : (k n p : ℕ) → Stack (kind_at t k) n p p → stack_at sheet (first_slot t k) n p ≡ span 0 n (λ i. table plus_zero 6 6 p p (cell t s k i)) (replicate 4 (blank plus_zero 6 6))
   unfolding stack_at cells_at
   stack-read k n p f =
-      fold-ext 0 n (λ m ys. set ys m (table plusZero 6 6 p p (λ i j. get_or sheet (first_slot t k + m * (p * p) + i * p + j) nan))) (λ m ys. set ys m (table plusZero 6 6 p p (cell t s k m))) (replicate 4 (blank plusZero 6 6))
-      (λ m _ l b. ap (λ (x : List (List Float)). set b m x) (table-ext plusZero 6 6 p p (λ i j. get_or sheet (first_slot t k + m * (p * p) + i * p + j) nan) (cell t s k m) (λ i j hi hj. stack-cell k n p p m i j f l hi hj)))
+      fold-ext 0 n (λ m ys. set ys m (table plus_zero 6 6 p p (λ i j. get_or sheet (first_slot t k + m * (p * p) + i * p + j) nan))) (λ m ys. set ys m (table plus_zero 6 6 p p (cell t s k m))) (replicate 4 (blank plus_zero 6 6))
+      (λ m _ l b. ap (λ (x : List (List Float)). set b m x) (table-ext plus_zero 6 6 p p (λ i j. get_or sheet (first_slot t k + m * (p * p) + i * p + j) nan) (cell t s k m) (λ i j hi hj. stack-cell k n p p m i j f l hi hj)))

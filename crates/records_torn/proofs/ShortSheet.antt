@@ -9,7 +9,7 @@ use mathlib.Core.Logic.{◌⊎◌, inl, inr, ⊎_elim}
 use lib.ListN.{length, get_or}
 use lib.Ieee.{Float, nan}
 use Rattle.records.specs.declared.Sizes.{Sizes}
-use Rattle.records.specs.format.Kinds.{width, kindAt, kenward_roger_kinds, kinds_of}
+use Rattle.records.specs.format.Kinds.{width, kind_at, kenward_roger_kinds, kinds_of}
 use Rattle.records.specs.format.Cells.{slots, first_slot, slot_count}
 use Rattle.records.specs.readers.Shortened.{kept_below}
 use Rattle.records.proofs.format.Slots.{packed}
@@ -27,11 +27,11 @@ module _ (z : Sizes) where
 
   -- Z follows X, and the blocks follow Z
   pub x-ends : start 1 + z.specimens * z.coefficients ≡ start 2
-  unfolding slots kindAt kenward_roger_kinds width
+  unfolding slots kind_at kenward_roger_kinds width
   x-ends = let a = next_start (kinds_of Series z) 1 in omega arith
 
   pub z-ends : start 2 + z.specimens * z.columns ≡ start 3
-  unfolding slots kindAt kenward_roger_kinds width
+  unfolding slots kind_at kenward_roger_kinds width
   z-ends = let a = next_start (kinds_of Series z) 2 in omega arith
 
   -- the weights follow the blocks and the thetas, and end within the sheet
@@ -50,7 +50,7 @@ module _ (z : Sizes) where
 
   -- where there are weights there is one for each specimen
   pub weights-end : z.weighted ≡ true → start 5 + z.specimens ≡ start 6
-  unfolding slots kindAt kenward_roger_kinds width
+  unfolding slots kind_at kenward_roger_kinds width
   weights-end e = let a = next_start (kinds_of Series z) 5 in let b = ap (λ (v : Bool). cond v z.specimens 0) e in omega arith
 
   -- ---- the sheet xs of a series of sizes z

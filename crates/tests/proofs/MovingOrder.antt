@@ -13,7 +13,7 @@ use Rattle.arithmetic.proofs.ScaleLaws.{eq-scale}
 use Rattle.algebra.specs.Fold.{fold}
 use Rattle.algebra.proofs.FoldLaws.{fold-ext, fold-keeps}
 use Rattle.algebra.proofs.MovingCells.{less-agrees, cond_both}
-use Rattle.tests.specs.Order.{comesBefore, place_in, index_at}
+use Rattle.tests.specs.Order.{comes_before, place_in, index_at}
 
 pub equal-agrees : (u : ℤ) (x y x' y' : Float) → Tied u x x' → Tied u y y' → eq x' y' ≡ eq x y
 equal-agrees u x y x' y' p q = rw (p.moved, q.moved) (eq-scale u x y)
@@ -27,8 +27,8 @@ index_below n xs k h =
 
 -- n numbers, and the same n scaled
 module _ (n : ℕ) (u : ℤ) (xs xs' : List Float) (p : (i : ℕ) → i < n → Tied u (get_or xs i nan) (get_or xs' i nan)) where
-  pub comes_before-agrees : (j i : ℕ) → j < n → i < n → comesBefore xs' j i ≡ comesBefore xs j i
-  unfolding comesBefore
+  pub comes_before-agrees : (j i : ℕ) → j < n → i < n → comes_before xs' j i ≡ comes_before xs j i
+  unfolding comes_before
   comes_before-agrees j i h l =
       rw (
         less-agrees u (get_or xs i nan) (get_or xs j nan) (get_or xs' i nan) (get_or xs' j nan) (p i l) (p j h),
@@ -38,7 +38,7 @@ module _ (n : ℕ) (u : ℤ) (xs xs' : List Float) (p : (i : ℕ) → i < n → 
   pub place_in-agrees : (i : ℕ) → i < n → place_in n xs' i ≡ place_in n xs i
   unfolding place_in
   place_in-agrees i l =
-      fold-ext 0 n (λ j s. cond (comesBefore xs' j i) (s + 1) s) (λ j s. cond (comesBefore xs j i) (s + 1) s) 0
+      fold-ext 0 n (λ j s. cond (comes_before xs' j i) (s + 1) s) (λ j s. cond (comes_before xs j i) (s + 1) s) 0
       (λ j h m s. rw (comes_before-agrees j i m l))
 
   pub index_at-agrees : (k : ℕ) → index_at n xs' k ≡ index_at n xs k

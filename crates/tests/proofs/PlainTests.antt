@@ -11,7 +11,7 @@ use Rattle.algebra.proofs.ValueLaws.{each_map, marks-floats, sum_cells-alike}
 use Rattle.arithmetic_cutoffs.specs.declared.Cutoffs.{Cutoffs}
 use Rattle.adjustment.specs.Adjusted.{Adjustment}
 use Rattle.tests.specs.declared.Entry.{Entry}
-use Rattle.tests.specs.VarianceDf.{gradientValues, relativeVariance}
+use Rattle.tests.specs.VarianceDf.{gradient_values, relative_variance}
 use Rattle.tests.specs.KenwardRoger.{scaled_by, run_of}
 use Rattle.tests.specs.Satterthwaite.{Inputs, satterthwaite}
 use Rattle.tests.specs.Verdict.{verdict, verdicts, RunSurvives}
@@ -41,7 +41,7 @@ plain-satterthwaite c s =
     record { refused = t.refused; f = t.entry.f; df = t.entry.df; rank = t.entry.rank }
 
 -- and r, which the test makes of plain numbers, is the value that marked steps would give it
-pub plain_form : (n : ℕ) → n ≤ 6 → (g : List Marked) (a : Rows) → (relativeVariance marks n g a).value ≡ relativeVariance floats n (gradientValues marks n g) a
-unfolding relativeVariance
+pub plain_form : (n : ℕ) → n ≤ 6 → (g : List Marked) (a : Rows) → (relative_variance marks n g a).value ≡ relative_variance floats n (gradient_values marks n g) a
+unfolding relative_variance
 plain_form n h g a =
     sum_cells-alike marks-floats n n _ _ (λ i j l m. marks-floats.times (marks-floats.times (sym (gradient_values-at marks n g i l h)) refl) (sym (gradient_values-at marks n g j m h)))

@@ -10,7 +10,7 @@ use lib.IntN.{ℤ, pos, nat_abs, ◌+ℤ◌}
 use lib.ListN.{get_or}
 use lib.Ieee.{nan, binary64, fits}
 use Rattle.arithmetic.specs.declared.Marked.{Marked}
-use Rattle.arithmetic.specs.Numbers.{plusZero}
+use Rattle.arithmetic.specs.Numbers.{plus_zero}
 use Rattle.arithmetic.specs.Marks.{MarkBears, given, also}
 use Rattle.arithmetic.proofs.Tied.{Tied}
 use Rattle.arithmetic.proofs.MarkLaws.{Bears, Moves, mark-bears, also-bears}
@@ -18,11 +18,11 @@ use Rattle.algebra.specs.Kind.{floats, marks}
 use Rattle.algebra.specs.Product.{at}
 use Rattle.algebra.proofs.MovingCells.{BearsCells, MovesCells, abs-twice, still-value}
 use Rattle.algebra.proofs.MovingJacobi.{StateBears, StateMoves, jacobi-moves}
-use Rattle.algebra.specs.Small.{allMarks}
+use Rattle.algebra.specs.Small.{all_marks}
 use Rattle.arithmetic_cutoffs.specs.declared.Cutoffs.{Cutoffs}
 use Rattle.tests.specs.Answer.{number_of}
 use Rattle.tests.specs.VarianceDf.{entry_at}
-use Rattle.tests.specs.Satterthwaite.{gradientOne, projected, severalDf, Inputs, Outcome, l_rows, ldRows, vRows, jStack, rotatedV, variances, directions, jxStack, fOne, fSeveral, dfOne, dfSeveral, startSeen, seenOne, seenSeveral, oneRow, severalRows, satterthwaite}
+use Rattle.tests.specs.Satterthwaite.{gradient_one, projected, several_df, Inputs, Outcome, l_rows, ld_rows, v_rows, j_stack, rotated_v, variances, directions, jx_stack, f_one, f_several, df_one, df_several, start_seen, seen_one, seen_several, one_row, several_rows, satterthwaite}
 use Rattle.algebra_products.proofs.MovingSmall.{given-cells, all_marks-first, all_marks-cells}
 use Rattle.tests.proofs.MovingVariance.{gradient-first, variance_df-agrees}
 use Rattle.tests.proofs.MovingComponents.{MovesStack, contrast_of-moves, transformed-moves, transformed_all-moves, square_one-moves, gradient_one-moves, not_positive-agrees, variances_of-moves, variances_of-bear, directions_of-moves, projected-moves, turned_all-moves, gradient_at-moves, squares_over-moves, stack-first, components-first, component_dfs-agree}
@@ -80,137 +80,137 @@ module _ {t : ℕ} (c : Cutoffs) (fine : T (fits binary64 c.rotation)) (k : ℤ)
   l-moves : MovesCells t (pos 0) s.q s.p (l_rows marks c s) (l_rows marks c other)
   l-moves = given-cells 6 6 s.q s.p z.q z.p (pos 0) s.l r.l e.l
 
-  ld-moves : MovesCells t k s.q 1 (ldRows marks c s) (ldRows marks c other)
-  unfolding ldRows
+  ld-moves : MovesCells t k s.q 1 (ld_rows marks c s) (ld_rows marks c other)
+  unfolding ld_rows
   ld-moves = contrast_of-moves s.p s.q z.p z.q (l_rows marks c s) (l_rows marks c other) l-moves k one-small s.beta s.beta_h r.beta r.beta_h e.beta e.beta_h
 
-  v-moves : MovesCells t w s.q s.q (vRows marks c s) (vRows marks c other)
-  unfolding vRows
+  v-moves : MovesCells t w s.q s.q (v_rows marks c s) (v_rows marks c other)
+  unfolding v_rows
   v-moves = transformed-moves s.p s.q z.p z.q (l_rows marks c s) (l_rows marks c other) l-moves w two-small s.v r.v e.v
 
-  js-moves : MovesStack t (λ i. w) s.n s.q s.q (jStack marks c s) (jStack marks c other)
-  unfolding jStack
+  js-moves : MovesStack t (λ i. w) s.n s.q s.q (j_stack marks c s) (j_stack marks c other)
+  unfolding j_stack
   js-moves = transformed_all-moves s.p s.q z.p z.q (l_rows marks c s) (l_rows marks c other) l-moves (λ i. w) s.n (λ i l. two-small) z.n s.js r.js e.js
 
-  start-v : Bears t (startSeen marks c s) → BearsCells t s.q s.q (vRows marks c s)
-  unfolding startSeen
+  start-v : Bears t (start_seen marks c s) → BearsCells t s.q s.q (v_rows marks c s)
+  unfolding start_seen
   start-v b =
-      all_marks-cells s.q s.q (vRows marks c s) (allMarks marks s.q 1 (ldRows marks c s) (given plusZero))
-      (stack-first s.n s.q (jStack marks c s) (allMarks marks s.q s.q (vRows marks c s) (allMarks marks s.q 1 (ldRows marks c s) (given plusZero))) b)
+      all_marks-cells s.q s.q (v_rows marks c s) (all_marks marks s.q 1 (ld_rows marks c s) (given plus_zero))
+      (stack-first s.n s.q (j_stack marks c s) (all_marks marks s.q s.q (v_rows marks c s) (all_marks marks s.q 1 (ld_rows marks c s) (given plus_zero))) b)
 
   few : s.n ≤ 6
   few = omega (arith, z.n)
 
   -- ---- one row
-  module _ (b : Bears t (seenOne marks c s)) where
-    one-bears : Bears t (startSeen marks c s) × Bears t (fOne marks c s)
-    unfolding seenOne
+  module _ (b : Bears t (seen_one marks c s)) where
+    one-bears : Bears t (start_seen marks c s) × Bears t (f_one marks c s)
+    unfolding seen_one
     one-bears =
-        also-bears (startSeen marks c s) (fOne marks c s) (gradient-first s.n few (at marks (vRows marks c s) 0 0) (gradientOne marks s.n (jStack marks c s)) (also (startSeen marks c s) (fOne marks c s)) b)
+        also-bears (start_seen marks c s) (f_one marks c s) (gradient-first s.n few (at marks (v_rows marks c s) 0 0) (gradient_one marks s.n (j_stack marks c s)) (also (start_seen marks c s) (f_one marks c s)) b)
 
-    f_one-agrees : (fOne marks c other).value ≡ (fOne marks c s).value
-    unfolding fOne
+    f_one-agrees : (f_one marks c other).value ≡ (f_one marks c s).value
+    unfolding f_one
     f_one-agrees =
-        still-value (fOne marks c s) (fOne marks c other)
-        (square_one-moves k (at marks (ldRows marks c s) 0 0) (at marks (vRows marks c s) 0 0) (at marks (ldRows marks c other) 0 0) (at marks (vRows marks c other) 0 0)
+        still-value (f_one marks c s) (f_one marks c other)
+        (square_one-moves k (at marks (ld_rows marks c s) 0 0) (at marks (v_rows marks c s) 0 0) (at marks (ld_rows marks c other) 0 0) (at marks (v_rows marks c other) 0 0)
         (ld-moves.cell 0 0 z.some (omega arith)) (v-moves.cell 0 0 z.some z.some)) one-bears.1
 
-    df_one-agrees : dfOne marks c other ≡ dfOne marks c s
-    unfolding dfOne seenOne
+    df_one-agrees : df_one marks c other ≡ df_one marks c s
+    unfolding df_one seen_one
     df_one-agrees =
-        variance_df-agrees s.n few w (at marks (vRows marks c s) 0 0) (at marks (vRows marks c other) 0 0) (gradientOne marks s.n (jStack marks c s)) (gradientOne marks s.n (jStack marks c other))
-        (v-moves.cell 0 0 z.some z.some) (gradient_one-moves (λ i. w) s.n s.q z.n z.some (jStack marks c s) (jStack marks c other) js-moves)
-        s.a r.a (also (startSeen marks c s) (fOne marks c s)) e.a ((start-v one-bears.0).cell 0 0 z.some z.some) b
+        variance_df-agrees s.n few w (at marks (v_rows marks c s) 0 0) (at marks (v_rows marks c other) 0 0) (gradient_one marks s.n (j_stack marks c s)) (gradient_one marks s.n (j_stack marks c other))
+        (v-moves.cell 0 0 z.some z.some) (gradient_one-moves (λ i. w) s.n s.q z.n z.some (j_stack marks c s) (j_stack marks c other) js-moves)
+        s.a r.a (also (start_seen marks c s) (f_one marks c s)) e.a ((start-v one-bears.0).cell 0 0 z.some z.some) b
 
-    one-survives : SameOutcome (oneRow marks c s) (oneRow marks c other)
-    unfolding oneRow
+    one-survives : SameOutcome (one_row marks c s) (one_row marks c other)
+    unfolding one_row
     one-survives = record { refused = refl; f = ap number_of f_one-agrees; df = df_one-agrees; rank = refl }
 
   -- ---- several rows
-  module _ (b : Bears t (seenSeveral marks c s)) where
+  module _ (b : Bears t (seen_several marks c s)) where
     abbrev vectors_seen : Marked
-    vectors_seen = allMarks marks s.q s.q (rotatedV marks c s).v (allMarks marks s.q s.q (rotatedV marks c s).a (startSeen marks c s))
+    vectors_seen = all_marks marks s.q s.q (rotated_v marks c s).v (all_marks marks s.q s.q (rotated_v marks c s).a (start_seen marks c s))
 
     abbrev rotations_seen : Marked
-    rotations_seen = also vectors_seen (rotatedV marks c s).seen
+    rotations_seen = also vectors_seen (rotated_v marks c s).seen
 
-    several-bears : Bears t rotations_seen × Bears t (fSeveral marks c s)
-    unfolding seenSeveral
-    several-bears = also-bears rotations_seen (fSeveral marks c s) (components-first s.n s.q few (variances marks c s) (directions marks c s) (jxStack marks c s) (also rotations_seen (fSeveral marks c s)) b)
+    several-bears : Bears t rotations_seen × Bears t (f_several marks c s)
+    unfolding seen_several
+    several-bears = also-bears rotations_seen (f_several marks c s) (components-first s.n s.q few (variances marks c s) (directions marks c s) (jx_stack marks c s) (also rotations_seen (f_several marks c s)) b)
 
-    state-bears : StateBears t s.q (rotatedV marks c s)
+    state-bears : StateBears t s.q (rotated_v marks c s)
     state-bears =
-        let h : Bears t vectors_seen × Bears t (rotatedV marks c s).seen = also-bears vectors_seen (rotatedV marks c s).seen several-bears.0 in
+        let h : Bears t vectors_seen × Bears t (rotated_v marks c s).seen = also-bears vectors_seen (rotated_v marks c s).seen several-bears.0 in
         record {
           matrix =
-              all_marks-cells s.q s.q (rotatedV marks c s).a (startSeen marks c s)
-              (all_marks-first s.q s.q (rotatedV marks c s).v (allMarks marks s.q s.q (rotatedV marks c s).a (startSeen marks c s)) h.0);
-          vectors = all_marks-cells s.q s.q (rotatedV marks c s).v (allMarks marks s.q s.q (rotatedV marks c s).a (startSeen marks c s)) h.0;
+              all_marks-cells s.q s.q (rotated_v marks c s).a (start_seen marks c s)
+              (all_marks-first s.q s.q (rotated_v marks c s).v (all_marks marks s.q s.q (rotated_v marks c s).a (start_seen marks c s)) h.0);
+          vectors = all_marks-cells s.q s.q (rotated_v marks c s).v (all_marks marks s.q s.q (rotated_v marks c s).a (start_seen marks c s)) h.0;
           seen = h.1;
         }
 
-    state-moves : StateMoves t w s.q (rotatedV marks c s) (rotatedV marks c other)
-    unfolding rotatedV
+    state-moves : StateMoves t w s.q (rotated_v marks c s) (rotated_v marks c other)
+    unfolding rotated_v
     state-moves =
-        jacobi-moves c.rotation 6 6 s.q z.q z.q fine w four-small (vRows marks c s) (vRows marks c other)
+        jacobi-moves c.rotation 6 6 s.q z.q z.q fine w four-small (v_rows marks c s) (v_rows marks c other)
         (λ i j h l. v-moves.cell i j (omega arith) l) state-bears
 
     variances-move : (i : ℕ) → i < s.q → Moves t w (entry_at marks (variances marks c s) i) (entry_at marks (variances marks c other) i)
     unfolding variances
-    variances-move = variances_of-moves w s.q z.q z.some (rotatedV marks c s).a (rotatedV marks c other).a state-moves.matrix state-bears.matrix
+    variances-move = variances_of-moves w s.q z.q z.some (rotated_v marks c s).a (rotated_v marks c other).a state-moves.matrix state-bears.matrix
 
     variances-bear : (i : ℕ) → i < s.q → Bears t (entry_at marks (variances marks c s) i)
     unfolding variances
-    variances-bear = variances_of-bear w s.q z.q z.some (rotatedV marks c s).a (rotatedV marks c other).a state-moves.matrix state-bears.matrix
+    variances-bear = variances_of-bear w s.q z.q z.some (rotated_v marks c s).a (rotated_v marks c other).a state-moves.matrix state-bears.matrix
 
     directions-move : MovesCells t (pos 0) s.q s.q (directions marks c s) (directions marks c other)
     unfolding directions
     directions-move =
-        directions_of-moves w s.q z.q z.some (rotatedV marks c s).a (rotatedV marks c other).a state-moves.matrix state-bears.matrix (rotatedV marks c s).v (rotatedV marks c other).v state-moves.vectors
+        directions_of-moves w s.q z.q z.some (rotated_v marks c s).a (rotated_v marks c other).a state-moves.matrix state-bears.matrix (rotated_v marks c s).v (rotated_v marks c other).v state-moves.vectors
 
-    jx-moves : MovesStack t (λ i. w) s.n s.q s.q (jxStack marks c s) (jxStack marks c other)
-    unfolding jxStack
-    jx-moves = turned_all-moves s.q z.q (directions marks c s) (directions marks c other) directions-move (λ i. w) s.n (λ i l. two-small) z.n (jStack marks c s) (jStack marks c other) js-moves
+    jx-moves : MovesStack t (λ i. w) s.n s.q s.q (jx_stack marks c s) (jx_stack marks c other)
+    unfolding jx_stack
+    jx-moves = turned_all-moves s.q z.q (directions marks c s) (directions marks c other) directions-move (λ i. w) s.n (λ i l. two-small) z.n (j_stack marks c s) (j_stack marks c other) js-moves
 
-    f_several-agrees : (fSeveral marks c other).value ≡ (fSeveral marks c s).value
-    unfolding fSeveral
+    f_several-agrees : (f_several marks c other).value ≡ (f_several marks c s).value
+    unfolding f_several
     f_several-agrees =
-        still-value (fSeveral marks c s) (fSeveral marks c other)
-        (squares_over-moves k two-small s.q (projected marks s.q (directions marks c s) (ldRows marks c s)) (projected marks s.q (directions marks c other) (ldRows marks c other)) (variances marks c s) (variances marks c other)
-        (projected-moves s.q z.q (directions marks c s) (directions marks c other) directions-move k one-small (ldRows marks c s) (ldRows marks c other) ld-moves) variances-move) several-bears.1
+        still-value (f_several marks c s) (f_several marks c other)
+        (squares_over-moves k two-small s.q (projected marks s.q (directions marks c s) (ld_rows marks c s)) (projected marks s.q (directions marks c other) (ld_rows marks c other)) (variances marks c s) (variances marks c other)
+        (projected-moves s.q z.q (directions marks c s) (directions marks c other) directions-move k one-small (ld_rows marks c s) (ld_rows marks c other) ld-moves) variances-move) several-bears.1
 
-    df_several-agrees : dfSeveral marks c other ≡ dfSeveral marks c s
-    unfolding dfSeveral seenSeveral
+    df_several-agrees : df_several marks c other ≡ df_several marks c s
+    unfolding df_several seen_several
     df_several-agrees =
-        ap (severalDf s.q)
-        (component_dfs-agree s.n s.q few (variances marks c s) (directions marks c s) (jxStack marks c s) (also rotations_seen (fSeveral marks c s)) b w c s.a r.a
-        (variances marks c other) (directions marks c other) (jxStack marks c other) e.a variances-move variances-bear
-        (λ i h. gradient_at-moves s.q z.q (directions marks c s) (directions marks c other) directions-move (λ i. w) s.n (λ i l. two-small) z.n (jxStack marks c s) (jxStack marks c other) jx-moves i h))
+        ap (several_df s.q)
+        (component_dfs-agree s.n s.q few (variances marks c s) (directions marks c s) (jx_stack marks c s) (also rotations_seen (f_several marks c s)) b w c s.a r.a
+        (variances marks c other) (directions marks c other) (jx_stack marks c other) e.a variances-move variances-bear
+        (λ i h. gradient_at-moves s.q z.q (directions marks c s) (directions marks c other) directions-move (λ i. w) s.n (λ i l. two-small) z.n (jx_stack marks c s) (jx_stack marks c other) jx-moves i h))
 
-    several-survives : SameOutcome (severalRows marks c s) (severalRows marks c other)
-    unfolding severalRows
+    several-survives : SameOutcome (several_rows marks c s) (several_rows marks c other)
+    unfolding several_rows
     several-survives = record {
-      refused = not_positive-agrees w s.q z.q z.some (rotatedV marks c s).a (rotatedV marks c other).a state-moves.matrix state-bears.matrix;
+      refused = not_positive-agrees w s.q z.q z.some (rotated_v marks c s).a (rotated_v marks c other).a state-moves.matrix state-bears.matrix;
       f = ap number_of f_several-agrees;
       df = df_several-agrees;
       rank = refl;
     }
 
   -- ---- whole
-  one-borne : MarkBears t (oneRow marks c s).entry.inside → SameOutcome (oneRow marks c s) (oneRow marks c other)
-  unfolding oneRow
-  one-borne h = one-survives (mark-bears (seenOne marks c s) h)
+  one-borne : MarkBears t (one_row marks c s).entry.inside → SameOutcome (one_row marks c s) (one_row marks c other)
+  unfolding one_row
+  one-borne h = one-survives (mark-bears (seen_one marks c s) h)
 
-  several-borne : MarkBears t (severalRows marks c s).entry.inside → SameOutcome (severalRows marks c s) (severalRows marks c other)
-  unfolding severalRows
-  several-borne h = several-survives (mark-bears (seenSeveral marks c s) h)
+  several-borne : MarkBears t (several_rows marks c s).entry.inside → SameOutcome (several_rows marks c s) (several_rows marks c other)
+  unfolding several_rows
+  several-borne h = several-survives (mark-bears (seen_several marks c s) h)
 
   numbers-survive : MarkBears t (satterthwaite marks c s).entry.inside → SameOutcome (satterthwaite marks c s) (satterthwaite marks c other)
   unfolding satterthwaite
   numbers-survive = go (eqb s.q 1)
     where
-      go : (x : Bool) → MarkBears t (cond x (oneRow marks c s) (severalRows marks c s)).entry.inside
-          → SameOutcome (cond x (oneRow marks c s) (severalRows marks c s)) (cond x (oneRow marks c other) (severalRows marks c other))
+      go : (x : Bool) → MarkBears t (cond x (one_row marks c s) (several_rows marks c s)).entry.inside
+          → SameOutcome (cond x (one_row marks c s) (several_rows marks c s)) (cond x (one_row marks c other) (several_rows marks c other))
       go true h = one-borne h
       go false h = several-borne h
 

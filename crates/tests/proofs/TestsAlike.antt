@@ -7,13 +7,13 @@ use mathlib.Core.List.{List, []}
 use lib.Dec.{eqb}
 use lib.ListN.{get_or, replicate, set}
 use lib.Ieee.{Float, nan, lt}
-use Rattle.arithmetic.specs.Numbers.{plusZero}
+use Rattle.arithmetic.specs.Numbers.{plus_zero}
 use Rattle.algebra.specs.Fold.{span}
 use Rattle.algebra.specs.Table.{blank}
 use Rattle.algebra.specs.Kind.{Arith, zero_of, floats}
 use Rattle.algebra.specs.Product.{at}
 use Rattle.algebra.specs.Elimination.{refused}
-use Rattle.algebra.specs.Small.{Rows, givenCells, values}
+use Rattle.algebra.specs.Small.{Rows, given_cells, values}
 use Rattle.algebra.proofs.FoldLaws.{fold-both, fold-ext}
 use Rattle.algebra.proofs.ValueLaws.{cond_both, Each, each_set, each_none, each-replicate, each-span, blank-both, table-both, Alike, Like, sum_alike, product-alike, transpose-alike, refused-alike, solution-alike, sandwich-alike, given_cells-alike, values-alike, all_marks-alike}
 use Rattle.arithmetic_cutoffs.specs.declared.Cutoffs.{Cutoffs}
@@ -21,9 +21,9 @@ use Rattle.adjustment.specs.Adjusted.{Adjustment}
 use Rattle.adjustment.proofs.AlikeScaling.{scaled_up-alike, scaled_down-alike}
 use Rattle.tests.specs.declared.Entry.{Entry}
 use Rattle.tests.specs.Answer.{no_entry}
-use Rattle.tests.specs.Both.{isPositive, squareOne, stackSeen}
+use Rattle.tests.specs.Both.{is_positive, square_one, stack_seen}
 use Rattle.tests.specs.Basis.{Basis, largest, divided_cell, divided, contrast_basis}
-use Rattle.tests.specs.KenwardRoger.{Scaled, scaled_ps, scaled_by, scaling_seen, difference, theta_of, u_of, u_stack, u_values, wald_many, Tested, a_rows, x_rows, theta_phi, us, a1, a2, ldRows, vRows, y_rows, wald_marked, wald_number, test_seen, tested, unit_row, coefficient_test, contrast_test, Run, with_test, coefficients_to, run_of}
+use Rattle.tests.specs.KenwardRoger.{Scaled, scaled_ps, scaled_by, scaling_seen, difference, theta_of, u_of, u_stack, u_values, wald_many, Tested, a_rows, x_rows, theta_phi, us, a1, a2, ld_rows, v_rows, y_rows, wald_marked, wald_number, test_seen, tested, unit_row, coefficient_test, contrast_test, Run, with_test, coefficients_to, run_of}
 
 -- two entries: the same F, df and rank, and marks that Q relates
 pub record EntriesAlike (Q : Bool → Bool → Type 0) (e e' : Entry) : Type 0 where
@@ -51,29 +51,29 @@ module _ {A B : Type 0} {R : A → B → Type 0} {N : Arith A} {M : Arith B} (k 
       → Stacks (span 0 n f (replicate 4 (blank (zero_of N) 6 6))) (span 0 n g (replicate 4 (blank (zero_of M) 6 6)))
   stack-alike n f g s =
       each-span 0 n f g
-      (each-replicate 4 (blank (zero_of N) 6 6) (blank (zero_of M) 6 6) (each_none (each_none k.void)) (blank-both 6 6 (zero_of N) (zero_of M) k.void (k.of plusZero)))
+      (each-replicate 4 (blank (zero_of N) 6 6) (blank (zero_of M) 6 6) (each_none (each_none k.void)) (blank-both 6 6 (zero_of N) (zero_of M) k.void (k.of plus_zero)))
       (λ i h l. s i l)
 
-  pub square_one-alike : {x v : A} {x' v' : B} → R x x' → R v v' → R (squareOne N x v) (squareOne M x' v')
-  unfolding squareOne
+  pub square_one-alike : {x v : A} {x' v' : B} → R x x' → R v v' → R (square_one N x v) (square_one M x' v')
+  unfolding square_one
   square_one-alike p q = let t = k.over p (k.root q) in k.times t t
 
   pub stack_seen-alike : {ms : List (List (List A))} {ms' : List (List (List B))} {x : A} {y : B} (n r : ℕ) → Stacks ms ms' → R x y
-      → R (stackSeen N n r ms x) (stackSeen M n r ms' y)
-  unfolding stackSeen
+      → R (stack_seen N n r ms x) (stack_seen M n r ms' y)
+  unfolding stack_seen
   stack_seen-alike n r p e = fold-both R 0 n _ _ _ _ e (λ i h l x y q. all_marks-alike k r r (p.each i) q)
 
   -- ---- the basis of a contrast
   pub divided_cell-alike : (p : ℕ) (l : Rows) (i j : ℕ) → R (divided_cell N p l i j) (divided_cell M p l i j)
   unfolding divided_cell
   divided_cell-alike p l i j =
-      cond_both R (lt plusZero (largest p (get_or l i []))) (lt plusZero (largest p (get_or l i []))) _ _ _ _ refl
+      cond_both R (lt plus_zero (largest p (get_or l i []))) (lt plus_zero (largest p (get_or l i []))) _ _ _ _ refl
       (k.over (k.of (at floats l i j)) (k.of (largest p (get_or l i [])))) (k.of (at floats l i j))
 
   pub divided-alike : (rows p : ℕ) (l : Rows) → Like k (divided N rows p l) (divided M rows p l)
   unfolding divided
   divided-alike rows p l =
-      table-both 6 6 rows p (zero_of N) (zero_of M) (divided_cell N p l) (divided_cell M p l) k.void (k.of plusZero) (λ i j h u. divided_cell-alike p l i j)
+      table-both 6 6 rows p (zero_of N) (zero_of M) (divided_cell N p l) (divided_cell M p l) k.void (k.of plus_zero) (λ i j h u. divided_cell-alike p l i j)
 
   -- two bases: the same rows and rank
   pub record Bases (b : Basis A) (b' : Basis B) : Type 0 where
@@ -85,7 +85,7 @@ module _ {A B : Type 0} {R : A → B → Type 0} {N : Arith A} {M : Arith B} (k 
   unfolding contrast_basis
   contrast_basis-alike rows p l =
       let v : values N 6 6 rows p (divided N rows p l) ≡ values M 6 6 rows p (divided M rows p l) = values-alike k 6 6 rows p (divided-alike rows p l) in
-      let e = all_marks-alike k rows p (divided-alike rows p l) (k.of plusZero) in
+      let e = all_marks-alike k rows p (divided-alike rows p l) (k.of plus_zero) in
       cond_both Bases (eqb rows 1) (eqb rows 1) _ _ _ _ refl (record { rows = v; rank = refl; seen = e }) (record { rows = rw v; rank = rw v; seen = e })
 
   -- ---- what a test starts from
@@ -126,7 +126,7 @@ module _ {A B : Type 0} {R : A → B → Type 0} {N : Arith A} {M : Arith B} (k 
       abbrev b' : Basis B
       b' = record { rows = rows; rank = q; seen = seen' }
 
-      l-alike : Like k (givenCells N 6 6 q p rows) (givenCells M 6 6 q p rows)
+      l-alike : Like k (given_cells N 6 6 q p rows) (given_cells M 6 6 q p rows)
       l-alike = given_cells-alike k 6 6 q p rows
 
       a-alike : Like k (a_rows N c s beta beta_h b) (a_rows M c s' beta beta_h b')
@@ -147,7 +147,7 @@ module _ {A B : Type 0} {R : A → B → Type 0} {N : Arith A} {M : Arith B} (k 
 
       u_values-alike : u_values N n p (us N c s beta beta_h b) ≡ u_values M n p (us M c s' beta beta_h b')
       unfolding u_values
-      u_values-alike = fold-ext 0 n _ _ (replicate 4 (blank plusZero 6 6)) (λ i h u ys. ap (set ys i) (values-alike k 6 6 p p (us-alike.each i)))
+      u_values-alike = fold-ext 0 n _ _ (replicate 4 (blank plus_zero 6 6)) (λ i h u ys. ap (set ys i) (values-alike k 6 6 p p (us-alike.each i)))
 
       a1-alike : a1 N c s beta beta_h b ≡ a1 M c s' beta beta_h b'
       unfolding a1
@@ -159,28 +159,28 @@ module _ {A B : Type 0} {R : A → B → Type 0} {N : Arith A} {M : Arith B} (k 
 
       d-alike : Like k (difference N p beta beta_h) (difference M p beta beta_h)
       unfolding difference
-      d-alike = table-both 6 6 p 1 (zero_of N) (zero_of M) _ _ k.void (k.of plusZero) (λ i j h u. k.minus (k.of (get_or beta i nan)) (k.of (get_or beta_h i nan)))
+      d-alike = table-both 6 6 p 1 (zero_of N) (zero_of M) _ _ k.void (k.of plus_zero) (λ i j h u. k.minus (k.of (get_or beta i nan)) (k.of (get_or beta_h i nan)))
 
-      ld-alike : Like k (ldRows N c s beta beta_h b) (ldRows M c s' beta beta_h b')
-      unfolding ldRows
+      ld-alike : Like k (ld_rows N c s beta beta_h b) (ld_rows M c s' beta beta_h b')
+      unfolding ld_rows
       ld-alike = product-alike k 6 6 q p 1 l-alike d-alike
 
-      v-alike : Like k (vRows N c s beta beta_h b) (vRows M c s' beta beta_h b')
-      unfolding vRows
+      v-alike : Like k (v_rows N c s beta beta_h b) (v_rows M c s' beta beta_h b')
+      unfolding v_rows
       v-alike = sandwich-alike k 6 6 q p l-alike eA
 
       y-alike : Like k (y_rows N c s beta beta_h b) (y_rows M c s' beta beta_h b')
       unfolding y_rows
       y-alike = solution-alike k 6 12 6 q 1 v-alike ld-alike
 
-      positive-alike : isPositive (N.value (at N (vRows N c s beta beta_h b) 0 0)) ≡ isPositive (M.value (at M (vRows M c s' beta beta_h b') 0 0))
-      positive-alike = ap isPositive (k.value ((v-alike.each 0).each 0))
+      positive-alike : is_positive (N.value (at N (v_rows N c s beta beta_h b) 0 0)) ≡ is_positive (M.value (at M (v_rows M c s' beta beta_h b') 0 0))
+      positive-alike = ap is_positive (k.value ((v-alike.each 0).each 0))
 
       wald-alike : R (wald_marked N c s beta beta_h b) (wald_marked M c s' beta beta_h b')
       unfolding wald_marked wald_many
       wald-alike =
           cond_both R (eqb q 1) (eqb q 1) _ _ _ _ refl
-          (cond_both R _ _ _ _ _ _ positive-alike (square_one-alike ((ld-alike.each 0).each 0) ((v-alike.each 0).each 0)) (k.of plusZero))
+          (cond_both R _ _ _ _ _ _ positive-alike (square_one-alike ((ld-alike.each 0).each 0) ((v-alike.each 0).each 0)) (k.of plus_zero))
           (sum_alike k q _ _ (λ i u. k.times ((ld-alike.each i).each 0) ((y-alike.each i).each 0)))
 
       wald_number-alike : wald_number N c s beta beta_h b ≡ wald_number M c s' beta beta_h b'
@@ -237,7 +237,7 @@ module _ {A B : Type 0} {R : A → B → Type 0} {N : Arith A} {M : Arith B} (k 
       coefficient_test-alike i =
           tested-alike e
           (subst (λ (z : ℕ). Bases (contrast_basis N 1 z (unit_row z i)) (contrast_basis M 1 s'.p (unit_row s'.p i))) (sym e.p) (contrast_basis-alike 1 s'.p (unit_row s'.p i)))
-          Q shows beta (replicate 6 plusZero)
+          Q shows beta (replicate 6 plus_zero)
 
       pub contrast_test-alike : (rows : ℕ) (l : Rows) → TestsAlike Q (contrast_test N c s beta beta_h rows l) (contrast_test M c s' beta beta_h rows l)
       unfolding contrast_test

@@ -3,20 +3,20 @@
 -- All of it over a kind of number N: on marked numbers it is the test that the contracts cite, on plain ones the same test with no marks. What follows "Unmarked" is on values.
 use Rattle.std.specs.Prelude.{ℕ, Bool, false, not, cond, ◌&&◌, ◌||◌, List, [], eqb, get_or, replicate, set, Float}
 use Rattle.std.specs.Float.{nan}
-use Rattle.arithmetic.specs.Numbers.{plusZero, one}
+use Rattle.arithmetic.specs.Numbers.{plus_zero, one}
 use Rattle.algebra.specs.Fold.{fold, span}
 use Rattle.algebra.specs.Table.{table, blank}
 use Rattle.algebra.specs.Kind.{Arith, zero_of}
 use Rattle.algebra.specs.Product.{at, sum, product, transpose}
 use Rattle.algebra.specs.Elimination.{solution, refused}
-use Rattle.algebra.specs.Small.{Rows, sandwich, givenCells, values, allMarks}
+use Rattle.algebra.specs.Small.{Rows, sandwich, given_cells, values, all_marks}
 use Rattle.arithmetic_cutoffs.specs.declared.Cutoffs.{Cutoffs}
 use Rattle.adjustment.specs.Adjusted.{Adjustment, scaled_up, scaled_down}
 use Rattle.tests.specs.declared.Number.{Number}
 use Rattle.tests.specs.declared.Number.TheVariants.{None}
 use Rattle.tests.specs.declared.Entry.{Entry}
 use Rattle.tests.specs.Answer.{number_of, no_entry}
-use Rattle.tests.specs.Both.{isPositive, squareOne, stackSeen}
+use Rattle.tests.specs.Both.{is_positive, square_one, stack_seen}
 use Rattle.tests.specs.Basis.{Basis, contrast_basis}
 use Rattle.tests.specs.Moments.{a1_of, a2_of, df_of, scaling_of, f_of}
 
@@ -39,7 +39,7 @@ module _ {A : Type 0} (N : Arith A) where
 
   -- "Each entry counts the scaling by sigma2": `seen`, with all cells of Φ, Φ_A and each P
   unfoldable pub scaling_seen : Scaled A → A → A
-  scaling_seen s seen = stackSeen N s.matrices s.p s.ps (allMarks N s.p s.p s.phi_a (allMarks N s.p s.p s.phi seen))
+  scaling_seen s seen = stack_seen N s.matrices s.p s.ps (all_marks N s.p s.p s.phi_a (all_marks N s.p s.p s.phi seen))
 
   -- ---- the marked steps of a test
   -- "D = β − β_H", as a column
@@ -58,7 +58,7 @@ module _ {A : Type 0} (N : Arith A) where
   u_stack k p theta_phi ps phi = span 0 k (λ i. u_of p theta_phi (get_or ps i []) phi) (replicate 4 (blank (zero_of N) 6 6))
 
   unfoldable pub u_values : ℕ → ℕ → List (List (List A)) → List Rows
-  u_values k p us = span 0 k (λ i. values N 6 6 p p (get_or us i [])) (replicate 4 (blank plusZero 6 6))
+  u_values k p us = span 0 k (λ i. values N 6 6 p p (get_or us i [])) (replicate 4 (blank plus_zero 6 6))
 
   -- Wald of several rows: LD · Y
   unfoldable pub wald_many : ℕ → List (List A) → List (List A) → A
@@ -74,7 +74,7 @@ module _ {A : Type 0} (N : Arith A) (c : Cutoffs) (s : Scaled A) (beta beta_h : 
   q = b.rank
 
   abbrev pub l : List (List A)
-  l = givenCells N 6 6 q s.p b.rows
+  l = given_cells N 6 6 q s.p b.rows
 
   -- "A = LΦLᵀ", A⁻¹L, ΘΦ and the u_i
   unfoldable pub a_rows : List (List A)
@@ -96,47 +96,47 @@ module _ {A : Type 0} (N : Arith A) (c : Cutoffs) (s : Scaled A) (beta beta_h : 
   a2 = a2_of s.matrices s.p s.w (u_values N s.matrices s.p us)
 
   -- LD, "v = LΦ_ALᵀ" and Y = v⁻¹LD
-  unfoldable pub ldRows : List (List A)
-  ldRows = product N 6 6 q s.p 1 l (difference N s.p beta beta_h)
+  unfoldable pub ld_rows : List (List A)
+  ld_rows = product N 6 6 q s.p 1 l (difference N s.p beta beta_h)
 
-  unfoldable pub vRows : List (List A)
-  vRows = sandwich N 6 6 q s.p l s.phi_a
+  unfoldable pub v_rows : List (List A)
+  v_rows = sandwich N 6 6 q s.p l s.phi_a
 
   unfoldable pub y_rows : List (List A)
-  y_rows = solution N 6 12 6 q 1 vRows ldRows
+  y_rows = solution N 6 12 6 q 1 v_rows ld_rows
 
   -- Wald with its mark, +0 where it is none; and Wald as a number or none
   unfoldable pub wald_marked : A
   wald_marked =
-      cond (eqb q 1) (cond (isPositive (N.value (at N vRows 0 0))) (squareOne N (at N ldRows 0 0) (at N vRows 0 0)) (zero_of N)) (wald_many N q ldRows y_rows)
+      cond (eqb q 1) (cond (is_positive (N.value (at N v_rows 0 0))) (square_one N (at N ld_rows 0 0) (at N v_rows 0 0)) (zero_of N)) (wald_many N q ld_rows y_rows)
 
   unfoldable pub wald_number : Number
-  wald_number = cond (eqb q 1 && not (isPositive (N.value (at N vRows 0 0)))) None (number_of (N.value wald_marked))
+  wald_number = cond (eqb q 1 && not (is_positive (N.value (at N v_rows 0 0)))) None (number_of (N.value wald_marked))
 
   -- THE MARK OF AN ENTRY: the conjunction over every marked step of the test and of the scaling. A cell of a product carries the marks of all that it was made from, so the
   -- cells of D, A, A⁻¹L, ΘΦ, each u_i, LD, LΦ_ALᵀ, Y where several rows need it, and Wald, with the divisions of the basis and the scaled cells, count every step.
   unfoldable pub test_seen : A
   test_seen =
       let s0 : A = scaling_seen N s b.seen in
-      let s1 : A = allMarks N s.p 1 (difference N s.p beta beta_h) s0 in
-      let s2 : A = allMarks N q s.p x_rows (allMarks N q q a_rows s1) in
-      let s3 : A = stackSeen N s.matrices s.p us (allMarks N s.p s.p theta_phi s2) in
-      let s4 : A = allMarks N q q vRows (allMarks N q 1 ldRows s3) in
-      N.also (cond (eqb q 1) s4 (allMarks N q 1 y_rows s4)) wald_marked
+      let s1 : A = all_marks N s.p 1 (difference N s.p beta beta_h) s0 in
+      let s2 : A = all_marks N q s.p x_rows (all_marks N q q a_rows s1) in
+      let s3 : A = stack_seen N s.matrices s.p us (all_marks N s.p s.p theta_phi s2) in
+      let s4 : A = all_marks N q q v_rows (all_marks N q 1 ld_rows s3) in
+      N.also (cond (eqb q 1) s4 (all_marks N q 1 y_rows s4)) wald_marked
 
   unfoldable pub tested : Tested
   tested = record {
-    refused = refused N 6 12 q s.p a_rows l || cond (eqb q 1) false (refused N 6 12 q 1 vRows ldRows);
+    refused = refused N 6 12 q s.p a_rows l || cond (eqb q 1) false (refused N 6 12 q 1 v_rows ld_rows);
     entry = record { f = f_of q (scaling_of c q a1 a2) wald_number; df = df_of c q a1 a2; rank = q; inside = N.inside test_seen };
   }
 
 -- ---- the run: "The run tests each coefficient alone (β_H = 0), then the contrast if given."
 -- the contrast of coefficient i alone
 unfoldable pub unit_row : ℕ → ℕ → Rows
-unit_row p i = table plusZero 6 6 1 p (λ k j. cond (eqb j i) one plusZero)
+unit_row p i = table plus_zero 6 6 1 p (λ k j. cond (eqb j i) one plus_zero)
 
 unfoldable pub coefficient_test : {A : Type 0} → Arith A → Cutoffs → Scaled A → List Float → ℕ → Tested
-coefficient_test N c s beta i = tested N c s beta (replicate 6 plusZero) (contrast_basis N 1 s.p (unit_row s.p i))
+coefficient_test N c s beta i = tested N c s beta (replicate 6 plus_zero) (contrast_basis N 1 s.p (unit_row s.p i))
 
 unfoldable pub contrast_test : {A : Type 0} → Arith A → Cutoffs → Scaled A → List Float → List Float → ℕ → Rows → Tested
 contrast_test N c s beta beta_h rows l = tested N c s beta beta_h (contrast_basis N rows s.p l)

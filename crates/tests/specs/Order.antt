@@ -5,12 +5,12 @@ use Rattle.std.specs.Float.Ieee.{lt, eq}
 use Rattle.algebra.specs.Fold.{fold}
 
 -- number j stands before number i: it is larger, or equal with the lower index
-unfoldable pub comesBefore : List Float → ℕ → ℕ → Bool
-comesBefore xs j i = lt (get_or xs i nan) (get_or xs j nan) || (eq (get_or xs i nan) (get_or xs j nan) && ltb j i)
+unfoldable pub comes_before : List Float → ℕ → ℕ → Bool
+comes_before xs j i = lt (get_or xs i nan) (get_or xs j nan) || (eq (get_or xs i nan) (get_or xs j nan) && ltb j i)
 
 -- how many of the first n stand before number i: its place
 unfoldable pub place_in : ℕ → List Float → ℕ → ℕ
-place_in n xs i = fold 0 n (λ j s. cond (comesBefore xs j i) (s + 1) s) 0
+place_in n xs i = fold 0 n (λ j s. cond (comes_before xs j i) (s + 1) s) 0
 
 -- the index of the number in place k
 unfoldable pub index_at : ℕ → List Float → ℕ → ℕ

@@ -3,7 +3,7 @@
 use Rattle.std.specs.Prelude.{ℕ, Bool, true, false, cond, ◌&&◌, ◌||◌, List, eqb, get_or, Float}
 use Rattle.std.specs.Float.{nan, binary64}
 use Rattle.std.specs.Float.Ieee.{sub, mul, div, lt, le}
-use Rattle.arithmetic.specs.Numbers.{magnitude, ofCount}
+use Rattle.arithmetic.specs.Numbers.{magnitude, of_count}
 use Rattle.algebra.specs.Fold.{fold}
 use Rattle.algebra.specs.Kind.{floats}
 use Rattle.algebra.specs.Product.{sum}
@@ -15,12 +15,12 @@ unfoldable pub tolerance : Float
 tolerance = decimal 1 8
 
 -- "all strictly within tolerance of the first"
-unfoldable pub allWithin : ℕ → List Float → Float → Bool
-allWithin n nu tol = fold 0 n (λ i s. s && lt (magnitude (sub binary64 (get_or nu i nan) (get_or nu 0 nan))) tol) true
+unfoldable pub all_within : ℕ → List Float → Float → Bool
+all_within n nu tol = fold 0 n (λ i s. s && lt (magnitude (sub binary64 (get_or nu i nan) (get_or nu 0 nan))) tol) true
 
 -- "any ≤ 2"
-unfoldable pub anyLow : ℕ → List Float → Bool
-anyLow n nu = fold 0 n (λ i s. s || le (get_or nu i nan) two) false
+unfoldable pub any_low : ℕ → List Float → Bool
+any_low n nu = fold 0 n (λ i s. s || le (get_or nu i nan) two) false
 
 -- "E = sum of ν/(ν−2)"
 unfoldable pub expected : ℕ → List Float → Float
@@ -28,7 +28,7 @@ expected n nu = sum floats n (λ i. div binary64 (get_or nu i nan) (sub binary64
 
 -- "2E/(E−q)"
 unfoldable pub pooled : ℕ → Float → Float
-pooled n e = div binary64 (mul binary64 two e) (sub binary64 e (ofCount n))
+pooled n e = div binary64 (mul binary64 two e) (sub binary64 e (of_count n))
 
-unfoldable pub getFstatDdf : ℕ → List Float → Float → Float
-getFstatDdf n nu tol = cond (eqb n 1 || allWithin n nu tol) (get_or nu 0 nan) (cond (anyLow n nu) two (pooled n (expected n nu)))
+unfoldable pub get_fstat_ddf : ℕ → List Float → Float → Float
+get_fstat_ddf n nu tol = cond (eqb n 1 || all_within n nu tol) (get_or nu 0 nan) (cond (any_low n nu) two (pooled n (expected n nu)))

@@ -3,42 +3,42 @@
 use Rattle.std.specs.Prelude.{ℕ, cond, List, get_or, Float}
 use Rattle.std.specs.Float.{binary64}
 use Rattle.std.specs.Float.Ieee.{div}
-use Rattle.arithmetic.specs.Numbers.{plusZero}
+use Rattle.arithmetic.specs.Numbers.{plus_zero}
 use Rattle.algebra.specs.Fold.{fold}
 use Rattle.algebra.specs.Table.{row}
 use Rattle.algebra.specs.Kind.{Arith, zero_of, floats}
-use Rattle.algebra.specs.Product.{at, sumCells}
+use Rattle.algebra.specs.Product.{at, sum_cells}
 use Rattle.algebra.specs.Jacobi.{two}
 use Rattle.tests.specs.declared.Number.{Number}
 use Rattle.tests.specs.declared.Number.TheVariants.{Is, None}
-use Rattle.tests.specs.Both.{isPositive}
+use Rattle.tests.specs.Both.{is_positive}
 
 -- number i of a list of numbers
 abbrev pub entry_at : {A : Type 0} → Arith A → List A → ℕ → A
 entry_at N xs i = get_or xs i N.void
 
 -- "g = J/V (M ends)": the last marked steps
-unfoldable pub relativeGradient : {A : Type 0} → Arith A → ℕ → A → List A → List A
-relativeGradient N n variance gradient = row (zero_of N) 6 n (λ i. N.over (entry_at N gradient i) variance)
+unfoldable pub relative_gradient : {A : Type 0} → Arith A → ℕ → A → List A → List A
+relative_gradient N n variance gradient = row (zero_of N) 6 n (λ i. N.over (entry_at N gradient i) variance)
 
 -- "M ends": the values of g
-unfoldable pub gradientValues : {A : Type 0} → Arith A → ℕ → List A → List Float
-gradientValues N n g = row plusZero 6 n (λ i. N.value (entry_at N g i))
+unfoldable pub gradient_values : {A : Type 0} → Arith A → ℕ → List A → List Float
+gradient_values N n g = row plus_zero 6 n (λ i. N.value (entry_at N g i))
 
 -- "r = sum over j, k of (g_j A_jk) g_k"; the document's r is that of plain numbers
-unfoldable pub relativeVariance : {A : Type 0} → Arith A → ℕ → List A → List (List Float) → A
-relativeVariance N n g a = sumCells N n n (λ j k. N.times (N.times (entry_at N g j) (N.of (at floats a j k))) (entry_at N g k))
+unfoldable pub relative_variance : {A : Type 0} → Arith A → ℕ → List A → List (List Float) → A
+relative_variance N n g a = sum_cells N n n (λ j k. N.times (N.times (entry_at N g j) (N.of (at floats a j k))) (entry_at N g k))
 
 -- "2/r if r finite and > 0, else none"
-unfoldable pub dfOfRelative : Float → Number
-dfOfRelative r = cond (isPositive r) (Is (div binary64 two r)) None
+unfoldable pub df_of_relative : Float → Number
+df_of_relative r = cond (is_positive r) (Is (div binary64 two r)) None
 
 -- "none unless V finite and > 0"
-unfoldable pub varianceDf : {A : Type 0} → Arith A → ℕ → List (List Float) → A → List A → Number
-varianceDf N n a variance gradient =
-    cond (isPositive (N.value variance)) (dfOfRelative (relativeVariance floats n (gradientValues N n (relativeGradient N n variance gradient)) a)) None
+unfoldable pub variance_df : {A : Type 0} → Arith A → ℕ → List (List Float) → A → List A → Number
+variance_df N n a variance gradient =
+    cond (is_positive (N.value variance)) (df_of_relative (relative_variance floats n (gradient_values N n (relative_gradient N n variance gradient)) a)) None
 
 -- `seen`, with the mark of every g counted where g is made; it counts also where r gives none
-unfoldable pub gradientSeen : {A : Type 0} → Arith A → ℕ → A → List A → A → A
-gradientSeen N n variance gradient seen =
-    cond (isPositive (N.value variance)) (fold 0 n (λ i s. N.also s (entry_at N (relativeGradient N n variance gradient) i)) seen) seen
+unfoldable pub gradient_seen : {A : Type 0} → Arith A → ℕ → A → List A → A → A
+gradient_seen N n variance gradient seen =
+    cond (is_positive (N.value variance)) (fold 0 n (λ i s. N.also s (entry_at N (relative_gradient N n variance gradient) i)) seen) seen

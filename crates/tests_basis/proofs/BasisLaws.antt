@@ -8,34 +8,34 @@ use lib.IntN.{negsuc}
 use lib.Ieee.{Float, fin, binary64, mul, lt}
 use borrow.Author.Tests.{eq-eqb, ne_eqb}
 use Rattle.arithmetic.specs.declared.Marked.{Marked}
-use Rattle.arithmetic.specs.Numbers.{plusZero, is_zero, ofCount}
-use Rattle.arithmetic.specs.Marks.{marked, given, is_inside, markedDiv}
+use Rattle.arithmetic.specs.Numbers.{plus_zero, is_zero, of_count}
+use Rattle.arithmetic.specs.Marks.{marked, given, is_inside, marked_div}
 use Rattle.algebra.specs.Fold.{fold}
 use Rattle.algebra.specs.Table.{row}
 use Rattle.algebra.specs.Kind.{floats, marks}
 use Rattle.algebra.specs.Product.{at}
-use Rattle.algebra.specs.Jacobi.{ratio, tangent, cosine, sine, turnedFirst, turnedSecond}
-use Rattle.algebra.specs.Small.{Rows, values, allMarks}
+use Rattle.algebra.specs.Jacobi.{ratio, tangent, cosine, sine, turned_first, turned_second}
+use Rattle.algebra.specs.Small.{Rows, values, all_marks}
 use Rattle.algebra_products.proofs.SmallLaws.{all_marks-value}
-use Rattle.tests.specs.Basis.{Basis, largest, divided_cell, divided, row_dot, turn_rows, turn_pair, sweepsTo, norms, singular, tolerance, rank_of, basis_rows, contrast_basis}
+use Rattle.tests.specs.Basis.{Basis, largest, divided_cell, divided, row_dot, turn_rows, turn_pair, sweeps_to, norms, singular, tolerance, rank_of, basis_rows, contrast_basis}
 
 -- a cell of a row that is not zero, and of one that is
 module _ (p i j : ℕ) (l : Rows) (scale : Float) (x : Marked) (es : scale ≡ largest p (get_or l i [])) (ex : x ≡ given (at floats l i j)) where
-  pub divided-over : (y r : Marked) → lt plusZero scale ≡ true → y ≡ given scale → r ≡ markedDiv x y → r ≡ divided_cell marks p l i j
+  pub divided-over : (y r : Marked) → lt plus_zero scale ≡ true → y ≡ given scale → r ≡ marked_div x y → r ≡ divided_cell marks p l i j
   unfolding divided_cell
   divided-over y r t ey er =
-      let f : lt plusZero (largest p (get_or l i [])) ≡ true = rw es at t in
+      let f : lt plus_zero (largest p (get_or l i [])) ≡ true = rw es at t in
       rw (er, ey, ex, es, f)
 
-  pub divided-stays : lt plusZero scale ≡ false → x ≡ divided_cell marks p l i j
+  pub divided-stays : lt plus_zero scale ≡ false → x ≡ divided_cell marks p l i j
   unfolding divided_cell
   divided-stays t =
-      let f : lt plusZero (largest p (get_or l i [])) ≡ false = rw es at t in
+      let f : lt plus_zero (largest p (get_or l i [])) ≡ false = rw es at t in
       rw (ex, f)
 
 -- two rows turned
-pub turn-rows-is : (p i j : ℕ) (c s : Float) (m : Rows) (x y : List Float) → x ≡ row plusZero 6 p (λ k. turnedFirst floats c s (at floats m i k) (at floats m j k))
-    → y ≡ row plusZero 6 p (λ k. turnedSecond floats c s (at floats m i k) (at floats m j k)) → set (set m i x) j y ≡ turn_rows p i j c s m
+pub turn-rows-is : (p i j : ℕ) (c s : Float) (m : Rows) (x y : List Float) → x ≡ row plus_zero 6 p (λ k. turned_first floats c s (at floats m i k) (at floats m j k))
+    → y ≡ row plus_zero 6 p (λ k. turned_second floats c s (at floats m i k) (at floats m j k)) → set (set m i x) j y ≡ turn_rows p i j c s m
 unfolding turn_rows
 turn-rows-is p i j c s m x y ex ey = rw (ex, ey)
 
@@ -56,7 +56,7 @@ module _ (p i j : ℕ) (m : Rows) (g : Float) (eg : g ≡ row_dot p m i j) where
 
 -- the tolerance, the rank and the rows of the basis
 module _ (rows p : ℕ) (ns : List Float) where
-  pub tolerance-is : (n : ℕ) (x y : Float) → n ≡ max rows p → x ≡ ofCount n → y ≡ singular rows ns 0
+  pub tolerance-is : (n : ℕ) (x y : Float) → n ≡ max rows p → x ≡ of_count n → y ≡ singular rows ns 0
       → mul binary64 (mul binary64 (fin false 1 (negsuc 51)) x) y ≡ tolerance rows p ns
   unfolding tolerance
   tolerance-is n x y en ex ey = rw (ey, ex, en)
@@ -75,17 +75,17 @@ marked-is : (x : Float) (m : Marked) → m.value ≡ x → marked x m.inside ≡
 marked-is x m e = rw (← e)
 
 -- the basis of one row, and of several
-module _ (rows p : ℕ) (l : Rows) (d : List (List Marked)) (zero all : Marked) (inside : Bool) (m : Rows) (ed : d ≡ divided marks rows p l) (ez : zero ≡ given plusZero)
-    (ea : all ≡ allMarks marks rows p d zero) (ei : inside ≡ is_inside all) (em : m ≡ values marks 6 6 rows p d) where
-  seen-is : marked plusZero inside ≡ allMarks marks rows p (divided marks rows p l) (given plusZero)
-  seen-is = rw (ei, ea, ez, ed) (marked-is plusZero (allMarks marks rows p (divided marks rows p l) (given plusZero)) (all_marks-value rows p (divided marks rows p l) (given plusZero)))
+module _ (rows p : ℕ) (l : Rows) (d : List (List Marked)) (zero all : Marked) (inside : Bool) (m : Rows) (ed : d ≡ divided marks rows p l) (ez : zero ≡ given plus_zero)
+    (ea : all ≡ all_marks marks rows p d zero) (ei : inside ≡ is_inside all) (em : m ≡ values marks 6 6 rows p d) where
+  seen-is : marked plus_zero inside ≡ all_marks marks rows p (divided marks rows p l) (given plus_zero)
+  seen-is = rw (ei, ea, ez, ed) (marked-is plus_zero (all_marks marks rows p (divided marks rows p l) (given plus_zero)) (all_marks-value rows p (divided marks rows p l) (given plus_zero)))
 
-  pub basis-of-one : rows ≡ 1 → ◌≡◌ {A = Basis Marked} (record { rows = m; rank = 1; seen = marked plusZero inside }) (contrast_basis marks rows p l)
+  pub basis-of-one : rows ≡ 1 → ◌≡◌ {A = Basis Marked} (record { rows = m; rank = 1; seen = marked plus_zero inside }) (contrast_basis marks rows p l)
   unfolding contrast_basis
   basis-of-one h = rw (eq-eqb rows 1 h, seen-is, em, ed)
 
-  pub basis-of-several : (t r : Rows) (rank : ℕ) → (rows ≡ 1 → ⊥) → t ≡ sweepsTo 30 rows p m → rank ≡ rank_of rows p (norms rows p t)
+  pub basis-of-several : (t r : Rows) (rank : ℕ) → (rows ≡ 1 → ⊥) → t ≡ sweeps_to 30 rows p m → rank ≡ rank_of rows p (norms rows p t)
       → r ≡ basis_rows rows p rank t (norms rows p t)
-      → ◌≡◌ {A = Basis Marked} (record { rows = r; rank = rank; seen = marked plusZero inside }) (contrast_basis marks rows p l)
+      → ◌≡◌ {A = Basis Marked} (record { rows = r; rank = rank; seen = marked plus_zero inside }) (contrast_basis marks rows p l)
   unfolding contrast_basis
   basis-of-several t r rank h et en er = rw (ne_eqb rows 1 h, seen-is, er, en, et, em, ed)

@@ -14,13 +14,13 @@ use lib.Ieee.{Float, nan, inf, fin, binary64, up, down, mul, lt}
 use lib.Ieee.Exact.{HasValue}
 use borrow.Author.Tests.{lt-ltb}
 use Rattle.arithmetic.specs.declared.Marked.{Marked}
-use Rattle.arithmetic.specs.Numbers.{ofCount}
+use Rattle.arithmetic.specs.Numbers.{of_count}
 use Rattle.arithmetic.proofs.PlainLaws.{count-exact}
 use Rattle.algebra.specs.Kind.{marks}
 use Rattle.algebra.proofs.FoldLaws.{fold-steps}
 use Rattle.algebra.specs.Small.{Rows, values}
 use Rattle.tests.specs.Order.{index_at}
-use Rattle.tests.specs.Basis.{Basis, divided, sweepsTo, norms, singular, tolerance, rank_of, contrast_basis}
+use Rattle.tests.specs.Basis.{Basis, divided, sweeps_to, norms, singular, tolerance, rank_of, contrast_basis}
 use Rattle.tests_basis.proofs.RankRounding.{fl, fl-le, Near, fl-near}
 use Rattle.tests_basis.proofs.RankUnits.{unit, unit-pos, Is, lt-units, mul-rounds, rounded}
 use Rattle.tests_basis.proofs.RankBounds.{fl-top, rounds-most, product-most}
@@ -50,7 +50,7 @@ picked P false x y p q = q
 pub rank_most : (rows p : ℕ) (l : Rows) → 1 ≤ rows → 1 ≤ p → (contrast_basis marks rows p l).rank ≤ min rows p
 unfolding contrast_basis
 rank_most rows p l h k =
-    let m : Rows = sweepsTo 30 rows p (values marks 6 6 rows p (divided marks rows p l)) in
+    let m : Rows = sweeps_to 30 rows p (values marks 6 6 rows p (divided marks rows p l)) in
     picked (λ (x : Basis Marked). x.rank ≤ min rows p) (eqb rows 1) _ _ (le-min h k) (counted-most rows p (norms rows p m))
 
 -- one row: the rank is 1
@@ -64,8 +64,8 @@ least-part : Is (fin false 1 (negsuc 51)) false (2 ^ 1022)
 unfolding unit
 least-part = record { val = (refl, refl) }
 
-count-units : (n : ℕ) → n ≤ 6 → Is (ofCount n) false (n * unit)
-count-units n h = record { val = go (ofCount n) (count-exact n (le_trans h (lit≤ tt))) }
+count-units : (n : ℕ) → n ≤ 6 → Is (of_count n) false (n * unit)
+count-units n h = record { val = go (of_count n) (count-exact n (le_trans h (lit≤ tt))) }
   where
     go : (x : Float) → HasValue x false n 1 → HasValue x false (n * unit) unit
     go nan v = v
@@ -92,7 +92,7 @@ less a b U h l = omega arith
 whole : (a U : ℕ) → 4 * a ≤ U → a ≤ U * 2 ^ 0
 whole a U h = omega arith
 
-part : (n : ℕ) → n ≤ 6 → (a : ℕ) × Is (mul binary64 (fin false 1 (negsuc 51)) (ofCount n)) false a × (4 * a ≤ unit)
+part : (n : ℕ) → n ≤ 6 → (a : ℕ) × Is (mul binary64 (fin false 1 (negsuc 51)) (of_count n)) false a × (4 * a ≤ unit)
 part n h = (a, rounded (mul-rounds least-part (count-units n h)) unit-pos (fl-top a 0 (lit< tt) (whole a unit small)), small)
   where
     a : ℕ
@@ -176,5 +176,5 @@ module _ (rows p : ℕ) (m : Rows) (B : 1 ≤ rows) (R : rows ≤ 6) (P : p ≤ 
 pub rank-least : (rows p : ℕ) (l : Rows) → 1 ≤ rows → rows ≤ 6 → 1 ≤ p → p ≤ 6 → Contrast rows p l → 1 ≤ (contrast_basis marks rows p l).rank
 unfolding contrast_basis
 rank-least rows p l B R C P c =
-    let m : Rows = sweepsTo 30 rows p (values marks 6 6 rows p (divided marks rows p l)) in
+    let m : Rows = sweeps_to 30 rows p (values marks 6 6 rows p (divided marks rows p l)) in
     picked (λ (x : Basis Marked). 1 ≤ x.rank) (eqb rows 1) _ _ (le_refl 1) (counted-least rows p m B R P (good-sweeps R P (values marks 6 6 rows p (divided marks rows p l)) (good_start R P c)) C)

@@ -11,8 +11,8 @@ use lib.Pow.{pow_pos, pow_mono}
 use lib.IntN.{pos}
 use lib.Ieee.{Float, nan, inf, fin, binary64, unlike, add, mul, div, lt, fits}
 use lib.Ieee.Fits.{add-fits}
-use Rattle.arithmetic.specs.Numbers.{plusZero, one, minus_one, magnitude, sign}
-use Rattle.arithmetic.specs.SquareRoot.{squareRoot}
+use Rattle.arithmetic.specs.Numbers.{plus_zero, one, minus_one, magnitude, sign}
+use Rattle.arithmetic.specs.SquareRoot.{square_root}
 use Rattle.algebra.specs.Kind.{floats}
 use Rattle.algebra.specs.Jacobi.{tangent, cosine, sine}
 use Rattle.tests_basis.proofs.RankRounding.{fl, Near, fl-near}
@@ -75,8 +75,8 @@ unfolding mul
 square-infinite true = refl
 square-infinite false = refl
 
-root-infinite : squareRoot (inf false) ≡ inf false
-unfolding squareRoot
+root-infinite : square_root (inf false) ≡ inf false
+unfolding square_root
 root-infinite = refl
 
 magnitude-infinite : (s : Bool) → magnitude (inf s) ≡ inf false
@@ -102,8 +102,8 @@ square-whole {z} (finite {s = s} {n} i) = go (rounded-cases r unit-pos)
     go (inl e) = infinity (ap (λ (x : Float). add binary64 x one) e ∙ infinite-first false one-units)
     go (inr j) = whole_sum j one-units (le_refl unit)
 
-whole-root : {x : Float} → T (fits binary64 x) → Whole x → Whole (squareRoot x)
-whole-root t (infinity e) = infinity (ap squareRoot e ∙ root-infinite)
+whole-root : {x : Float} → T (fits binary64 x) → Whole x → Whole (square_root x)
+whole-root t (infinity e) = infinity (ap square_root e ∙ root-infinite)
 whole-root t (from i h) = let r = root-units t i (le_trans unit-pos h) in from r.1 (r.2.whole h)
 
 -- |z| and a root of 1 or more
@@ -117,7 +117,7 @@ magnitude-plus (finite i) (from j h) = whole_sum (magnitude-units i) j h
 
 sign-units : (z : Float) → (s : Bool) × Is (sign z) s unit
 unfolding sign
-sign-units z = go (lt z plusZero)
+sign-units z = go (lt z plus_zero)
   where
     go : (b : Bool) → (s : Bool) × Is (cond b minus_one one) s unit
     go true = (true, record { val = (refl, one-units.val.1) })

@@ -12,8 +12,8 @@ use lib.ListN.{get_or}
 use lib.Ieee.{Float, nan, inf, fin, binary64, up, down, add, mul, fits}
 use lib.Ieee.Fits.{up_pos, down_pos, add-fits}
 use lib.Ieee.Positive.{num, den}
-use Rattle.arithmetic.specs.Numbers.{plusZero}
-use Rattle.arithmetic.specs.SquareRoot.{squareRoot}
+use Rattle.arithmetic.specs.Numbers.{plus_zero}
+use Rattle.arithmetic.specs.SquareRoot.{square_root}
 use Rattle.algebra.specs.Table.{row}
 use Rattle.algebra.specs.Kind.{floats}
 use Rattle.algebra.specs.Product.{at, sum}
@@ -116,12 +116,12 @@ module _ {rows p : ℕ} {m : Rows} (P : p ≤ 6) (g : Good rows p 450 m) (i : �
   square : Square m i 900 p (row_dot p m i i)
   unfolding row_dot sum
   square =
-      fold-steps (λ j x. Square m i 900 j x) 0 p (λ j x. add binary64 x (mul binary64 (at floats m i j) (at floats m i j))) plusZero (omega arith)
+      fold-steps (λ j x. Square m i 900 j x) 0 p (λ j x. add binary64 x (mul binary64 (at floats m i j) (at floats m i j))) plus_zero (omega arith)
       (record { size = 0; is = nil-units; most = zero-le; some = λ j h e. absurd (omega arith) }) (λ j a b x q. step j x b q)
 
 -- ---- the root of it
-root-nil : {x : Float} {n : ℕ} → n ≡ 0 → Is x false n → Is (squareRoot x) false 0
-unfolding squareRoot
+root-nil : {x : Float} {n : ℕ} → n ≡ 0 → Is x false n → Is (square_root x) false 0
+unfolding square_root
 root-nil {x = nan} z i = absurd i.val
 root-nil {x = inf w} z i = absurd i.val
 root-nil {x = fin w zero e} {n} z i = subst (λ (k : ℕ). Is (fin w zero e) false k) z i
@@ -158,10 +158,10 @@ pub record Norm (m : Rows) (p i : ℕ) (x : Float) : Type 0 where
 
 dot-fits : (p : ℕ) (m : Rows) (i j : ℕ) → T (fits binary64 (row_dot p m i j))
 unfolding row_dot sum fits
-dot-fits p m i j = fold-keeps (λ x. T (fits binary64 x)) 0 p (λ k s. add binary64 s (mul binary64 (at floats m i k) (at floats m j k))) plusZero tt (λ k a b x t. add-fits binary64 x (mul binary64 (at floats m i k) (at floats m j k)))
+dot-fits p m i j = fold-keeps (λ x. T (fits binary64 x)) 0 p (λ k s. add binary64 s (mul binary64 (at floats m i k) (at floats m j k))) plus_zero tt (λ k a b x t. add-fits binary64 x (mul binary64 (at floats m i k) (at floats m j k)))
 
 module _ {rows p : ℕ} {m : Rows} (R : rows ≤ 6) (P : p ≤ 6) (g : Good rows p 450 m) where
-  norm-root : (i : ℕ) → i < rows → Norm m p i (squareRoot (row_dot p m i i))
+  norm-root : (i : ℕ) → i < rows → Norm m p i (square_root (row_dot p m i i))
   norm-root i I = go (eq-zero-or-pos q.size)
     where
       q : Square m i 900 p (row_dot p m i i)
@@ -170,7 +170,7 @@ module _ {rows p : ℕ} {m : Rows} (R : rows ≤ 6) (P : p ≤ 6) (g : Good rows
       wide : (p : ℕ) → p ≤ 6 → 900 + p ≤ 910
       wide p h = omega arith
 
-      go : (q.size ≡ 0) ⊎ (0 < q.size) → Norm m p i (squareRoot (row_dot p m i i))
+      go : (q.size ≡ 0) ⊎ (0 < q.size) → Norm m p i (square_root (row_dot p m i i))
       go (inl z) =
           record { size = 0; is = root-nil z q.is; most = zero-le; some = λ j h e. absurd (lt_irrefl 0 (subst (λ (k : ℕ). 0 < k) z (q.some j h e))) }
       go (inr a) =
@@ -184,4 +184,4 @@ module _ {rows p : ℕ} {m : Rows} (R : rows ≤ 6) (P : p ≤ 6) (g : Good rows
 
   pub norm-at : (i : ℕ) → i < rows → Norm m p i (get_or (norms rows p m) i nan)
   unfolding norms
-  norm-at i I = subst (λ (x : Float). Norm m p i x) (sym (row_at plusZero 6 rows (λ i. squareRoot (row_dot p m i i)) i nan I R)) (norm-root i I)
+  norm-at i I = subst (λ (x : Float). Norm m p i x) (sym (row_at plus_zero 6 rows (λ i. square_root (row_dot p m i i)) i nan I R)) (norm-root i I)

@@ -11,7 +11,7 @@ use lib.ListN.{get_or}
 use lib.Ieee.{Float, nan, eq}
 use borrow.Author.Tests.{lt-ltb, le-ltb, eq-eqb, eqb-true}
 use Rattle.algebra.proofs.FoldLaws.{fold-steps, fold-keeps}
-use Rattle.tests.specs.Order.{comesBefore, place_in, index_at}
+use Rattle.tests.specs.Order.{comes_before, place_in, index_at}
 use Rattle.tests_basis.proofs.RankUnits.{Is, lt-units, eq-units}
 
 -- the first of the largest of n numbers
@@ -73,8 +73,8 @@ counts b s e z = ap (λ (c : Bool). cond c (s + 1) s) e ∙ z
 
 module _ (n : ℕ) (xs : List Float) (v : ℕ → ℕ) (is : (i : ℕ) → i < n → Is (get_or xs i nan) false (v i)) where
   -- nothing stands before the first of the largest
-  not-before : (i : ℕ) → First v n i → (j : ℕ) → j < n → comesBefore xs j i ≡ false
-  unfolding comesBefore
+  not-before : (i : ℕ) → First v n i → (j : ℕ) → j < n → comes_before xs j i ≡ false
+  unfolding comes_before
   not-before i f j h =
       or-false (lt-units (is i f.inside) (is j h) ∙ le-ltb (v i) (v j) (f.most j h))
       (none_equal (eq (get_or xs i nan) (get_or xs j nan)) (ltb j i) (λ t. le-ltb j i (f.first j h (sym (eq-units (is i f.inside) (is j h) t)))))
@@ -82,27 +82,27 @@ module _ (n : ℕ) (xs : List Float) (v : ℕ → ℕ) (is : (i : ℕ) → i < n
   place_none : (i : ℕ) → First v n i → place_in n xs i ≡ 0
   unfolding place_in
   place_none i f =
-      fold-keeps (λ s. s ≡ 0) 0 n (λ j s. cond (comesBefore xs j i) (s + 1) s) 0 refl (λ j a b s e. counts (comesBefore xs j i) s (not-before i f j b) e)
+      fold-keeps (λ s. s ≡ 0) 0 n (λ j s. cond (comes_before xs j i) (s + 1) s) 0 refl (λ j a b s e. counts (comes_before xs j i) s (not-before i f j b) e)
 
   -- before a number in place 0 there is no larger one
-  counted : (i : ℕ) (j : ℕ) → j < n → comesBefore xs j i ≡ true → 0 < place_in n xs i
+  counted : (i : ℕ) (j : ℕ) → j < n → comes_before xs j i ≡ true → 0 < place_in n xs i
   unfolding place_in
   counted i j h e =
-      fold-steps (λ k s. j < k → 0 < s) 0 n (λ j s. cond (comesBefore xs j i) (s + 1) s) 0 (omega arith) (λ l. absurd (omega arith)) (λ k a b s f l. step k s f l (ℕ_discrete j k)) h
+      fold-steps (λ k s. j < k → 0 < s) 0 n (λ j s. cond (comes_before xs j i) (s + 1) s) 0 (omega arith) (λ l. absurd (omega arith)) (λ k a b s f l. step k s f l (ℕ_discrete j k)) h
     where
       more : (b : Bool) (s : ℕ) → 0 < s → 0 < cond b (s + 1) s
       more true s h = omega arith
       more false s h = h
 
-      step : (k s : ℕ) → (j < k → 0 < s) → j < k + 1 → Dec (j ≡ k) → 0 < cond (comesBefore xs k i) (s + 1) s
-      step k s f l (yes d) = subst (λ (b : Bool). 0 < cond b (s + 1) s) (sym e ∙ ap (λ (z : ℕ). comesBefore xs z i) d) (one s)
+      step : (k s : ℕ) → (j < k → 0 < s) → j < k + 1 → Dec (j ≡ k) → 0 < cond (comes_before xs k i) (s + 1) s
+      step k s f l (yes d) = subst (λ (b : Bool). 0 < cond b (s + 1) s) (sym e ∙ ap (λ (z : ℕ). comes_before xs z i) d) (one s)
         where
           one : (s : ℕ) → 0 < s + 1
           one s = omega arith
-      step k s f l (no d) = more (comesBefore xs k i) s (f (omega arith))
+      step k s f l (no d) = more (comes_before xs k i) s (f (omega arith))
 
   largest-first : (i j : ℕ) → i < n → j < n → place_in n xs i ≡ 0 → v j ≤ v i
-  unfolding comesBefore
+  unfolding comes_before
   largest-first i j h l e = go (dec_lt (v i) (v j))
     where
       go : Dec (v i < v j) → v j ≤ v i

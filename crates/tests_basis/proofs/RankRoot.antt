@@ -11,7 +11,7 @@ use lib.Pow.{pow_pos, pow_mono}
 use lib.Ieee.{Float, nan, inf, fin, binary64, up, down, fits}
 use lib.Ieee.Exact.{HasValue}
 use lib.Ieee.Fits.{up_pos, down_pos}
-use Rattle.arithmetic.specs.SquareRoot.{squareRoot, CorrectlyRounded}
+use Rattle.arithmetic.specs.SquareRoot.{square_root, CorrectlyRounded}
 use Rattle.arithmetic.proofs.Operations.{grain}
 use Rattle.arithmetic.proofs.ScaleLaws.{up-add}
 use Rattle.arithmetic.proofs.RootNearest.{root-nearest}
@@ -103,18 +103,18 @@ jump (negsuc k) l =
     le_trans (le_of_eq (mul-one (2 ^ 53)))
     (pow_mono (lt_of_not-le (λ (g : suc k ≤ 52). lt_irrefl (2 ^ 52) (lt_of_lt_of_le (lt_of_le_of_lt (le_of_eq (sym (mul-one (2 ^ 52)))) l) (pow_mono g)))))
 
-pub root-units : {x : Float} {n : ℕ} → T (fits binary64 x) → Is x false n → 1 ≤ n → (r : ℕ) × Is (squareRoot x) false r × Root n r
+pub root-units : {x : Float} {n : ℕ} → T (fits binary64 x) → Is x false n → 1 ≤ n → (r : ℕ) × Is (square_root x) false r × Root n r
 root-units {x = nan} t i l = absurd i.val
 root-units {x = inf s} t i l = absurd i.val
 root-units {x = fin true m e} t i l = absurd (true≢false i.val.0)
 root-units {x = fin false zero e} {n} t i l = absurd (lt_irrefl 0 (subst (λ (z : ℕ). 0 < z) (sym i.val.1 ∙ ap (λ (z : ℕ). z * unit) (zero-mul (up e)) ∙ zero-mul unit) (mul-pos l (down_pos e))))
 root-units {x = fin false (suc m) e} {n} t i l = (v.0, v.1, record { least = b.0; most = b.1; whole = w })
   where
-    c : CorrectlyRounded (fin false (suc m) e) (squareRoot (fin false (suc m) e))
+    c : CorrectlyRounded (fin false (suc m) e) (square_root (fin false (suc m) e))
     c = root-nearest m e t
 
-    v : (r : ℕ) × Is (squareRoot (fin false (suc m) e)) false r × (r * (1 * down c.h) ≡ c.q * up c.h * unit)
-    v = value-units (squareRoot (fin false (suc m) e)) (c.q * up c.h) (1 * down c.h) (root-fits (fin false (suc m) e) t) c.result
+    v : (r : ℕ) × Is (square_root (fin false (suc m) e)) false r × (r * (1 * down c.h) ≡ c.q * up c.h * unit)
+    v = value-units (square_root (fin false (suc m) e)) (c.q * up c.h) (1 * down c.h) (root-fits (fin false (suc m) e) t) c.result
 
     k : n * (4 * down (c.h +ℤ c.h)) ≡ c.N * up (c.h +ℤ c.h) * unit
     k = argument-units (suc m) (up e) (down e) n c.N (up (c.h +ℤ c.h)) (down (c.h +ℤ c.h)) unit (down_pos e) c.argument.1 i.val.1

@@ -12,8 +12,8 @@ use lib.ListN.{length, get_or}
 use lib.Ieee.{Float, nan, binary64, unlike, div, lt, fits}
 use borrow.Author.Tests.{lt-ltb, le-ltb}
 use Rattle.arithmetic.specs.declared.Marked.{Marked}
-use Rattle.arithmetic.specs.Numbers.{plusZero, magnitude, is_zero, is_finite}
-use Rattle.arithmetic.specs.Marks.{given, marked, markedDiv}
+use Rattle.arithmetic.specs.Numbers.{plus_zero, magnitude, is_zero, is_finite}
+use Rattle.arithmetic.specs.Marks.{given, marked, marked_div}
 use Rattle.arithmetic.proofs.MarkLaws.{div_value}
 use Rattle.algebra.specs.Kind.{floats, marks}
 use Rattle.algebra.specs.Product.{at}
@@ -48,7 +48,7 @@ record Largest (xs : List Float) (p q : ℕ) (s : Float) : Type 0 where
 largest-is : (p : ℕ) (xs : List Float) → ((b : ℕ) → b < p → (t : Bool) × (a : ℕ) × Is (get_or xs b nan) t a) → Largest xs p p (largest p xs)
 unfolding largest
 largest-is p xs u =
-    fold-steps (λ q s. Largest xs p q s) 0 p (λ j s. cond (lt s (magnitude (get_or xs j nan))) (magnitude (get_or xs j nan)) s) plusZero (omega arith)
+    fold-steps (λ q s. Largest xs p q s) 0 p (λ j s. cond (lt s (magnitude (get_or xs j nan))) (magnitude (get_or xs j nan)) s) plus_zero (omega arith)
     (record { size = 0; is = nil-units; most = λ b h t a i. absurd (omega arith); met = inl refl })
     (λ j h l s r. step j s l r)
   where
@@ -80,23 +80,23 @@ largest-is p xs u =
             (record { size = r.size; is = r.is; most = most r.size (le_refl r.size) (omega arith); met = r.met })
 
 -- ---- a divided cell
-over-cell : (p : ℕ) (l : Rows) (i j : ℕ) → lt plusZero (largest p (get_or l i [])) ≡ true → (divided_cell marks p l i j).value ≡ div binary64 (at floats l i j) (largest p (get_or l i []))
+over-cell : (p : ℕ) (l : Rows) (i j : ℕ) → lt plus_zero (largest p (get_or l i [])) ≡ true → (divided_cell marks p l i j).value ≡ div binary64 (at floats l i j) (largest p (get_or l i []))
 unfolding divided_cell
 over-cell p l i j e = rw e (div_value (given (at floats l i j)) (given (largest p (get_or l i []))))
 
-as-cell : (p : ℕ) (l : Rows) (i j : ℕ) → lt plusZero (largest p (get_or l i [])) ≡ false → (divided_cell marks p l i j).value ≡ at floats l i j
+as-cell : (p : ℕ) (l : Rows) (i j : ℕ) → lt plus_zero (largest p (get_or l i [])) ≡ false → (divided_cell marks p l i j).value ≡ at floats l i j
 unfolding divided_cell
 as-cell p l i j e = rw e
 
 value-at : (rows p : ℕ) (l : Rows) (i j : ℕ) → rows ≤ 6 → p ≤ 6 → i < rows → j < p → at floats (values marks 6 6 rows p (divided marks rows p l)) i j ≡ (divided_cell marks p l i j).value
 unfolding values divided
 value-at rows p l i j R C h k =
-    table_at plusZero 6 6 rows p _ i j nan h k R C
-    ∙ ap (λ (x : Marked). x.value) (table_at (given plusZero) 6 6 rows p (divided_cell marks p l) i j (marked nan false) h k R C)
+    table_at plus_zero 6 6 rows p _ i j nan h k R C
+    ∙ ap (λ (x : Marked). x.value) (table_at (given plus_zero) 6 6 rows p (divided_cell marks p l) i j (marked nan false) h k R C)
 
 values-six : (rows p : ℕ) (d : List (List Marked)) → length (values marks 6 6 rows p d) ≡ 6
 unfolding values
-values-six rows p d = length-table plusZero 6 6 rows p (λ i j. (at marks d i j).value)
+values-six rows p d = length-table plus_zero 6 6 rows p (λ i j. (at marks d i j).value)
 
 -- a / n, for a at most n
 quotient-most : (a n U : ℕ) → a ≤ n → a * U ≤ U * 2 ^ 0 * n
@@ -123,7 +123,7 @@ module _ {rows p : ℕ} {l : Rows} (R : rows ≤ 6) (P : p ≤ 6) (c : Contrast 
       n : ℕ
       n = s.size
 
-      test : lt plusZero (largest p (get_or l i [])) ≡ ltb 0 n
+      test : lt plus_zero (largest p (get_or l i [])) ≡ ltb 0 n
       test = lt-units nil-units s.is
 
       u : (s : Bool) × (n : ℕ) × Is (at floats l i j) s n
@@ -163,7 +163,7 @@ module _ {rows p : ℕ} {l : Rows} (R : rows ≤ 6) (P : p ≤ 6) (c : Contrast 
       above : 0 < n
       above = lt_of_lt_of_le cell-pos (s.most c.j c.in_columns u.0 u.1 u.2)
 
-      test : lt plusZero (largest p (get_or l c.i [])) ≡ true
+      test : lt plus_zero (largest p (get_or l c.i [])) ≡ true
       test = lt-units nil-units s.is ∙ lt-ltb 0 n above
 
       go : (n ≡ 0) ⊎ ((b : ℕ) × (b < p) × (t : Bool) × Is (at floats l c.i b) t n) → (b : ℕ) × (b < p) × Least (divided_cell marks p l c.i b).value 0

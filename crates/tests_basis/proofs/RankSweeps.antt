@@ -12,17 +12,17 @@ use lib.Pow.{pow_mono}
 use lib.ListN.{length, get_or, set, length-set}
 use lib.Seq.{get_or-set_same, get_or-set_other}
 use lib.Ieee.{Float, nan, binary64, unlike, add, mul}
-use Rattle.arithmetic.specs.Numbers.{plusZero, is_zero}
+use Rattle.arithmetic.specs.Numbers.{plus_zero, is_zero}
 use Rattle.algebra.specs.Fold.{fold}
 use Rattle.algebra.specs.Table.{row}
 use Rattle.algebra.specs.Kind.{floats}
 use Rattle.algebra.specs.Product.{at, sum}
-use Rattle.algebra.specs.Jacobi.{two, ratio, tangent, cosine, sine, turnedFirst, turnedSecond}
+use Rattle.algebra.specs.Jacobi.{two, ratio, tangent, cosine, sine, turned_first, turned_second}
 use Rattle.algebra.proofs.FoldLaws.{fold-steps}
 use Rattle.algebra.proofs.TableLaws.{row_at}
 use Rattle.algebra.proofs.JacobiCount.{pairs, pairs-less, pairs_small}
 use Rattle.algebra.specs.Small.{Rows}
-use Rattle.tests.specs.Basis.{row_dot, turn_rows, turn_pair, pairs_to, sweepTo, sweepsTo}
+use Rattle.tests.specs.Basis.{row_dot, turn_rows, turn_pair, pairs_to, sweep_to, sweeps_to}
 use Rattle.tests_basis.proofs.RankRounding.{fl, fl-ge}
 use Rattle.tests_basis.proofs.RankUnits.{unit, unit-pos, Is, zero-units, nil-units, mul-rounds, div-rounds}
 use Rattle.tests_basis.proofs.RankBounds.{Most, most-less, rounds-most, product-most, mul_most, add_most, sub-most}
@@ -56,13 +56,13 @@ good_more {k = k} {l} h g =
     }
 
 -- ---- dot products
-nothing : (b : ℕ) → Most plusZero b
+nothing : (b : ℕ) → Most plus_zero b
 nothing b = record { sign = false; size = 0; is = nil-units; most = omega arith }
 
 sum-most : (n b : ℕ) (f : ℕ → Float) → b + n < 1024 → ((k : ℕ) → k < n → Most (f k) (unit * 2 ^ b)) → Most (sum floats n f) (unit * 2 ^ (b + n))
 unfolding sum
 sum-most n b f h g =
-    fold-steps (λ k x. Most x (unit * 2 ^ (b + k))) 0 n (λ k s. add binary64 s (f k)) plusZero (omega arith) (nothing (unit * 2 ^ (b + 0)))
+    fold-steps (λ k x. Most x (unit * 2 ^ (b + k))) 0 n (λ k s. add binary64 s (f k)) plus_zero (omega arith) (nothing (unit * 2 ^ (b + 0)))
     (λ k u l x m. subst (λ (z : ℕ). Most (add binary64 x (f k)) (unit * 2 ^ z)) (next k)
     (add_most (b + k) (omega arith) m (most-less (mul-le-mul_left unit (pow_mono (more k))) (g k l))))
   where
@@ -126,24 +126,24 @@ module _ (i j : ℕ) (m : Rows) (r q : List Float) (six : length m ≡ 6) (I : i
 
 module _ (p i j : ℕ) (c s : Float) (m : Rows) (six : length m ≡ 6) (C : p ≤ 6) (I : i < j) (J : j < 6) where
   abbrev f : ℕ → Float
-  f b = turnedFirst floats c s (at floats m i b) (at floats m j b)
+  f b = turned_first floats c s (at floats m i b) (at floats m j b)
 
   abbrev g : ℕ → Float
-  g b = turnedSecond floats c s (at floats m i b) (at floats m j b)
+  g b = turned_second floats c s (at floats m i b) (at floats m j b)
 
   abbrev r : List Float
-  r = row plusZero 6 p f
+  r = row plus_zero 6 p f
 
   abbrev q : List Float
-  q = row plusZero 6 p g
+  q = row plus_zero 6 p g
 
   turned-first : (b : ℕ) → b < p → at floats (turn_rows p i j c s m) i b ≡ f b
   unfolding turn_rows
-  turned-first b h = ap (λ (x : List Float). get_or x b nan) (first-row i j m r q six I J) ∙ row_at plusZero 6 p f b nan h C
+  turned-first b h = ap (λ (x : List Float). get_or x b nan) (first-row i j m r q six I J) ∙ row_at plus_zero 6 p f b nan h C
 
   turned-second : (b : ℕ) → b < p → at floats (turn_rows p i j c s m) j b ≡ g b
   unfolding turn_rows
-  turned-second b h = ap (λ (x : List Float). get_or x b nan) (second-row i j m r q six I J) ∙ row_at plusZero 6 p g b nan h C
+  turned-second b h = ap (λ (x : List Float). get_or x b nan) (second-row i j m r q six I J) ∙ row_at plus_zero 6 p g b nan h C
 
   turned-other : (a b : ℕ) → (a ≡ i → ⊥) → (a ≡ j → ⊥) → at floats (turn_rows p i j c s m) a b ≡ at floats m a b
   unfolding turn_rows
@@ -188,7 +188,7 @@ module _ {rows p k : ℕ} {m : Rows} (R : rows ≤ 6) (P : p ≤ 6) (K : k ≤ 4
         sizes (inl x) = inl (subst (λ (z : ℕ). unit ≤ z * 2 ^ k) (same_size x.is (g.cells i b IR l).is) x.least)
         sizes (inr x) = inr (subst (λ (z : ℕ). unit ≤ z * 2 ^ k) (same_size x.is (g.cells j b J l).is) x.least)
 
-        go : Least (turnedFirst floats c s (at floats m i b) (at floats m j b)) (suc k) ⊎ Least (turnedSecond floats c s (at floats m i b) (at floats m j b)) (suc k)
+        go : Least (turned_first floats c s (at floats m i b) (at floats m j b)) (suc k) ⊎ Least (turned_second floats c s (at floats m i b) (at floats m j b)) (suc k)
             → Good rows p (suc k) (turn_rows p i j c s m)
         go (inl x) =
             record { six = turned-six p i j c s m g.six P I J6; cells = new-cell; i = i; j = b; in_rows = IR; in_columns = l; large = least_at (turned-first p i j c s m g.six P I J6 b l) x }
@@ -243,8 +243,8 @@ module _ {rows p : ℕ} (R : rows ≤ 6) (P : p ≤ 6) where
     good : Good rows p k m
     few : k + pairs (rows - i) ≤ n
 
-  good-sweep : (k : ℕ) (m : Rows) → k + pairs rows ≤ 450 → Good rows p k m → Good rows p (k + pairs rows) (sweepTo rows rows p m)
-  unfolding sweepTo
+  good-sweep : (k : ℕ) (m : Rows) → k + pairs rows ≤ 450 → Good rows p k m → Good rows p (k + pairs rows) (sweep_to rows rows p m)
+  unfolding sweep_to
   good-sweep k m l g = good_more (le_trans (native.Mathlib.Nat.le-add_right t.k (pairs (rows - rows))) t.few) t.good
     where
       start : Turns (k + pairs rows) 0 m
@@ -259,11 +259,11 @@ module _ {rows p : ℕ} (R : rows ≤ 6) (P : p ≤ 6) where
       t : Turns (k + pairs rows) rows (fold 0 rows (λ i x. pairs_to rows p i x) m)
       t = fold-steps (λ i x. Turns (k + pairs rows) i x) 0 rows (λ i x. pairs_to rows p i x) m (omega arith) start (λ i a b x y. step i x b y)
 
-  pub good-sweeps : (m : Rows) → Good rows p 0 m → Good rows p 450 (sweepsTo 30 rows p m)
-  unfolding sweepsTo
+  pub good-sweeps : (m : Rows) → Good rows p 0 m → Good rows p 450 (sweeps_to 30 rows p m)
+  unfolding sweeps_to
   good-sweeps m g =
       good_more (bound 30 (lit≤ tt))
-      (fold-steps (λ i x. Good rows p (i * pairs rows) x) 0 30 (λ i x. sweepTo rows rows p x) m (omega arith) (good_more (omega arith) g)
+      (fold-steps (λ i x. Good rows p (i * pairs rows) x) 0 30 (λ i x. sweep_to rows rows p x) m (omega arith) (good_more (omega arith) g)
       (λ i a b x y. good_more (le_of_eq (next i (pairs rows))) (good-sweep (i * pairs rows) x (le_trans (le_of_eq (next i (pairs rows))) (bound (i + 1) (omega arith))) y)))
     where
       next : (i n : ℕ) → i * n + n ≡ (i + 1) * n

@@ -10,7 +10,7 @@ use lib.Pow.{pow_pos, pow_mono, pow-add}
 use lib.Ieee.{Float, nan, inf, fin, binary64, unlike, down, add, sub, mul}
 use lib.Ieee.Fits.{down_pos}
 use Rattle.algebra.specs.Kind.{floats}
-use Rattle.algebra.specs.Jacobi.{turnedFirst, turnedSecond}
+use Rattle.algebra.specs.Jacobi.{turned_first, turned_second}
 use Rattle.tests_basis.proofs.RankRounding.{fl, Near, fl-near}
 use Rattle.tests_basis.proofs.RankUnits.{unit, unit-pos, Is, Rounds, apart, mul-rounds}
 use Rattle.tests_basis.proofs.RankBounds.{Most, fl-least, rounds-most, product-most, mul_most, add_most, sub-most, add_rounds, sub-rounds, either-double}
@@ -151,12 +151,12 @@ module _ {c s : Float} {C : ℕ} (co : Cosine c C) (si : Most s (unit * 2 ^ 0)) 
   cos : Most c (unit * 2 ^ 0)
   cos = record { sign = false; size = C; is = co.is; most = co.most }
 
-  pub first-most : Most (turnedFirst floats c s x y) (unit * 2 ^ suc k)
-  unfolding turnedFirst
+  pub first-most : Most (turned_first floats c s x y) (unit * 2 ^ suc k)
+  unfolding turned_first
   first-most = sub-most k (room-one k K) (part-most k K cos mx) (part-most k K si my)
 
-  pub second-most : Most (turnedSecond floats c s x y) (unit * 2 ^ suc k)
-  unfolding turnedSecond
+  pub second-most : Most (turned_second floats c s x y) (unit * 2 ^ suc k)
+  unfolding turned_second
   second-most = add_most k (room-one k K) (part-most k K si mx) (part-most k K cos my)
 
   -- a number that is half of M at least, before its rounding
@@ -171,8 +171,8 @@ module _ {c s : Float} {C : ℕ} (co : Cosine c C) (si : Most s (unit * 2 ^ 0)) 
       grow : (U M E K L : ℕ) → L ≡ 2 * K → U ≤ M * K → M * K ≤ 2 * E * K → U * 1 ≤ E * L
       grow U M E K L e h g = omega (arith, ap (λ (z : ℕ). E * z) e, h, g)
 
-  pub turn-least : (unit ≤ mx.size * 2 ^ k) ⊎ (unit ≤ my.size * 2 ^ k) → Least (turnedFirst floats c s x y) (suc k) ⊎ Least (turnedSecond floats c s x y) (suc k)
-  unfolding turnedFirst turnedSecond
+  pub turn-least : (unit ≤ mx.size * 2 ^ k) ⊎ (unit ≤ my.size * 2 ^ k) → Least (turned_first floats c s x y) (suc k) ⊎ Least (turned_second floats c s x y) (suc k)
+  unfolding turned_first turned_second
   turn-least w = go (dec_le X Y)
     where
       X : ℕ

@@ -12,7 +12,7 @@ use lib.Ieee.Fits.{up_pos, down_pos, round_is}
 use lib.Ieee.Exact.{HasValue}
 use lib.Ieee.Order.{drop, kept}
 use lib.Ieee.Scale.{grid, overflow}
-use Rattle.arithmetic.specs.Numbers.{is_finite, magnitude, is_zero, one, plusZero}
+use Rattle.arithmetic.specs.Numbers.{is_finite, magnitude, is_zero, one, plus_zero}
 use Rattle.arithmetic.proofs.RangeTest.{test-of-zero}
 use Rattle.arithmetic.proofs.Operations.{grain}
 use Rattle.arithmetic.proofs.Rounding.{round_val}
@@ -273,5 +273,5 @@ pub one-units : Is one false unit
 unfolding unit
 one-units = record { val = (refl, refl) }
 
-pub nil-units : Is plusZero false 0
+pub nil-units : Is plus_zero false 0
 nil-units = record { val = (refl, native.Mathlib.Nat.zero-mul unit) }

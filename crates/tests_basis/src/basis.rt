@@ -2,15 +2,15 @@
 ghost use Rattle.std.specs.Prelude.{◌≡◌, cond, ◌+◌, ◌<◌, ◌≤◌, min, max, get_or};
 ghost use Rattle.std.specs.Float.{binary64};
 ghost use Rattle.std.specs.Float.Ieee.{mul, div, lt};
-ghost use Rattle.arithmetic.specs.Numbers.{plusZero};
+ghost use Rattle.arithmetic.specs.Numbers.{plus_zero};
 ghost use Rattle.arithmetic.specs.Marks.{marked};
 ghost use Rattle.algebra.specs.Fold.{fold};
 ghost use Rattle.algebra.specs.Table.{row};
 ghost use Rattle.algebra.specs.Kind.{floats, marks};
 ghost use Rattle.algebra.specs.Product.{at, sum};
-ghost use Rattle.algebra.specs.Jacobi.{ratio, tangent, turnedFirst, turnedSecond};
+ghost use Rattle.algebra.specs.Jacobi.{ratio, tangent, turned_first, turned_second};
 ghost use Rattle.tests.specs.Order.{index_at};
-ghost use Rattle.tests.specs.Basis.{largest, divided_cell, divided, pairs_to, sweepTo, sweepsTo, norms, singular, tolerance, rank_of, basis_rows, contrast_basis};
+ghost use Rattle.tests.specs.Basis.{largest, divided_cell, divided, pairs_to, sweep_to, sweeps_to, norms, singular, tolerance, rank_of, basis_rows, contrast_basis};
 
 use arithmetic::Marked;
 use arithmetic::plain::{is_zero, magnitude, of_count};
@@ -84,7 +84,7 @@ pub fn row_dot(p: usize, x: [f64; 6], y: [f64; 6]) -> f64
 // The first of two rows turned by c and s.
 fn first_turned(p: usize, x: [f64; 6], y: [f64; 6], c: f64, s: f64) -> [f64; 6]
     requires { p ≤ 6 }
-    ensures { result ≡ row plusZero 6 p (λ k. turnedFirst floats c s (get_or x k floats.void) (get_or y k floats.void)) }
+    ensures { result ≡ row plus_zero 6 p (λ k. turned_first floats c s (get_or x k floats.void) (get_or y k floats.void)) }
 {
     let mut out = [0.0; 6];
     for k in 0..p {
@@ -96,7 +96,7 @@ fn first_turned(p: usize, x: [f64; 6], y: [f64; 6], c: f64, s: f64) -> [f64; 6]
 // The second of two rows turned by c and s.
 fn second_turned(p: usize, x: [f64; 6], y: [f64; 6], c: f64, s: f64) -> [f64; 6]
     requires { p ≤ 6 }
-    ensures { result ≡ row plusZero 6 p (λ k. turnedSecond floats c s (get_or x k floats.void) (get_or y k floats.void)) }
+    ensures { result ≡ row plus_zero 6 p (λ k. turned_second floats c s (get_or x k floats.void) (get_or y k floats.void)) }
 {
     let mut out = [0.0; 6];
     for k in 0..p {
@@ -137,7 +137,7 @@ pub fn pairs(rows: usize, p: usize, i: usize, m: [[f64; 6]; 6]) -> [[f64; 6]; 6]
 // A sweep over all pairs.
 pub fn sweep(rows: usize, p: usize, m: [[f64; 6]; 6]) -> [[f64; 6]; 6]
     requires { (rows ≤ 6) × (p ≤ 6) }
-    ensures { result ≡ sweepTo rows rows p m }
+    ensures { result ≡ sweep_to rows rows p m }
 {
     let mut out = m;
     for i in 0..rows {
@@ -150,7 +150,7 @@ pub fn sweep(rows: usize, p: usize, m: [[f64; 6]; 6]) -> [[f64; 6]; 6]
 // The 30 sweeps, whether or not the last ones still turn a pair.
 pub fn sweeps(rows: usize, p: usize, m: [[f64; 6]; 6]) -> [[f64; 6]; 6]
     requires { (rows ≤ 6) × (p ≤ 6) }
-    ensures { result ≡ sweepsTo 30 rows p m }
+    ensures { result ≡ sweeps_to 30 rows p m }
 {
     let mut out = m;
     for i in 0..30usize {
@@ -234,7 +234,7 @@ pub fn rank_of(rows: usize, p: usize, ns: [f64; 6]) -> usize
 // A row of p cells over its norm.
 fn over_norm(p: usize, x: [f64; 6], norm: f64) -> [f64; 6]
     requires { p ≤ 6 }
-    ensures { result ≡ row plusZero 6 p (λ j. div binary64 (get_or x j floats.void) norm) }
+    ensures { result ≡ row plus_zero 6 p (λ j. div binary64 (get_or x j floats.void) norm) }
 {
     let mut out = [0.0; 6];
     for j in 0..p {
@@ -246,7 +246,7 @@ fn over_norm(p: usize, x: [f64; 6], norm: f64) -> [f64; 6]
 // The row in place k, over its norm: where it stands is looked up once.
 fn basis_row(rows: usize, p: usize, m: [[f64; 6]; 6], ns: [f64; 6], k: usize) -> [f64; 6]
     requires { (rows ≤ 6) × (p ≤ 6) }
-    ensures { result ≡ row plusZero 6 p (λ j. div binary64 (at floats m (index_at rows ns k) j) (singular rows ns k)) }
+    ensures { result ≡ row plus_zero 6 p (λ j. div binary64 (at floats m (index_at rows ns k) j) (singular rows ns k)) }
 {
     let i = index_at(rows, ns, k);
     let x = m[i];
@@ -292,7 +292,7 @@ pub fn contrast_basis(
     seen: &mut bool,
 ) -> [[f64; 6]; 6]
     requires { (rows ≤ 6) × (p ≤ 6) }
-    ensures { (record { rows = result; rank = rank.new; seen = marked plusZero seen.new } ≡ contrast_basis marks rows p l) × (rank.new ≤ 6) }
+    ensures { (record { rows = result; rank = rank.new; seen = marked plus_zero seen.new } ≡ contrast_basis marks rows p l) × (rank.new ≤ 6) }
 {
     let d = divided(rows, p, l);
     let all = algebra_products_marked::cells::all_marks(d, rows, p, given(0.0));

@@ -1,15 +1,15 @@
 // The components of a test of several rows: eigenvalues in falling order, and what belongs to each.
 ghost use Rattle.std.specs.Prelude.{◌≡◌, [], ◌≤◌, ◌<◌, get_or};
-ghost use Rattle.arithmetic.specs.Numbers.{plusZero};
-ghost use Rattle.arithmetic.specs.Marks.{given, markedMul, markedDiv};
+ghost use Rattle.arithmetic.specs.Numbers.{plus_zero};
+ghost use Rattle.arithmetic.specs.Marks.{given, marked_mul, marked_div};
 ghost use Rattle.algebra.specs.Table.{row};
 ghost use Rattle.algebra.specs.Kind.{marks};
 ghost use Rattle.algebra.specs.Product.{at, sum, cell};
 ghost use Rattle.tests.specs.declared.Number.TheVariants.{Is};
 ghost use Rattle.tests.specs.Answer.{float_of};
 ghost use Rattle.tests.specs.Order.{index_at};
-ghost use Rattle.tests.specs.VarianceDf.{entry_at, gradientSeen};
-ghost use Rattle.tests.specs.Satterthwaite.{eigenvalues, notPositive, variancesOf, directionsOf, projected, squaresOver, jxAll, gradientAt, capped, componentDf, componentDfs, anyNone, severalDf, componentsSeen};
+ghost use Rattle.tests.specs.VarianceDf.{entry_at, gradient_seen};
+ghost use Rattle.tests.specs.Satterthwaite.{eigenvalues, not_positive, variances_of, directions_of, projected, squares_over, jx_all, gradient_at, capped, component_df, component_dfs, any_none, several_df, components_seen};
 
 use crate::pooled::{get_fstat_ddf, tolerance};
 use crate::variance::{gradient_seen, no_marks, variance_df};
@@ -39,7 +39,7 @@ pub fn eigenvalues(d: [[Marked; 6]; 6], q: usize) -> [f64; 6]
 // Whether any eigenvalue is not finite or not above zero.
 pub fn not_positive(es: [f64; 6], q: usize) -> bool
     requires { q ≤ 6 }
-    ensures { result ≡ notPositive q es }
+    ensures { result ≡ not_positive q es }
 {
     let mut any = false;
     for i in 0..q {
@@ -60,7 +60,7 @@ pub fn variance_at(d: [[Marked; 6]; 6], es: [f64; 6], q: usize, k: usize) -> Mar
 // The eigenvalues in falling order.
 pub fn variances_of(d: [[Marked; 6]; 6], es: [f64; 6], q: usize) -> [Marked; 6]
     requires { q ≤ 6 }
-    ensures { result ≡ variancesOf marks q es d }
+    ensures { result ≡ variances_of marks q es d }
 {
     let mut out = no_marks();
     for k in 0..q {
@@ -81,7 +81,7 @@ pub fn direction_cell(v: [[Marked; 6]; 6], es: [f64; 6], q: usize, r: usize, k: 
 // The eigenvectors as columns, in the order of their eigenvalues.
 pub fn directions_of(v: [[Marked; 6]; 6], es: [f64; 6], q: usize) -> [[Marked; 6]; 6]
     requires { q ≤ 6 }
-    ensures { result ≡ directionsOf marks q es v }
+    ensures { result ≡ directions_of marks q es v }
 {
     let mut out = zeros();
     for r in 0..q {
@@ -104,7 +104,7 @@ pub fn projected(x: [[Marked; 6]; 6], ld: [[Marked; 6]; 6], q: usize) -> [[Marke
 // What component k adds to F.
 pub fn square_over(y: [[Marked; 6]; 6], es: [Marked; 6], k: usize) -> Marked
     requires { k < 6 }
-    ensures { result ≡ markedDiv (markedMul (at marks y k 0) (at marks y k 0)) (entry_at marks es k) }
+    ensures { result ≡ marked_div (marked_mul (at marks y k 0) (at marks y k 0)) (entry_at marks es k) }
 {
     div(mul(y[k][0], y[k][0]), es[k])
 }
@@ -112,7 +112,7 @@ pub fn square_over(y: [[Marked; 6]; 6], es: [Marked; 6], k: usize) -> Marked
 // The sum of what the components add to F.
 pub fn squares_sum(y: [[Marked; 6]; 6], es: [Marked; 6], q: usize) -> Marked
     requires { q ≤ 6 }
-    ensures { result ≡ sum marks q (λ k. markedDiv (markedMul (at marks y k 0) (at marks y k 0)) (entry_at marks es k)) }
+    ensures { result ≡ sum marks q (λ k. marked_div (marked_mul (at marks y k 0) (at marks y k 0)) (entry_at marks es k)) }
 {
     let mut sum = zero_of();
     for k in 0..q {
@@ -124,7 +124,7 @@ pub fn squares_sum(y: [[Marked; 6]; 6], es: [Marked; 6], q: usize) -> Marked
 // F of several rows.
 pub fn squares_over(y: [[Marked; 6]; 6], es: [Marked; 6], q: usize) -> Marked
     requires { q ≤ 6 }
-    ensures { result ≡ squaresOver marks q y es }
+    ensures { result ≡ squares_over marks q y es }
 {
     div(squares_sum(y, es, q), given(of_count(q)))
 }
@@ -137,7 +137,7 @@ pub fn jx_all(
     q: usize,
 ) -> [[[Marked; 6]; 6]; 4]
     requires { (n ≤ 4) × (q ≤ 6) }
-    ensures { result ≡ jxAll marks n q js x }
+    ensures { result ≡ jx_all marks n q js x }
 {
     let blank = zeros();
     let mut out = [blank; 4];
@@ -173,7 +173,7 @@ pub fn gradient_of(
     k: usize,
 ) -> [Marked; 6]
     requires { (n ≤ 4) × (q ≤ 6) × (k < 6) }
-    ensures { result ≡ row (given plusZero) 6 n (λ i. cell marks q xt (get_or jx i []) k k) }
+    ensures { result ≡ row (given plus_zero) 6 n (λ i. cell marks q xt (get_or jx i []) k k) }
 {
     let mut out = no_marks();
     for i in 0..n {
@@ -191,7 +191,7 @@ pub fn gradient_at(
     k: usize,
 ) -> [Marked; 6]
     requires { (n ≤ 4) × (q ≤ 6) × (k < 6) }
-    ensures { result ≡ gradientAt marks n q x jx k }
+    ensures { result ≡ gradient_at marks n q x jx k }
 {
     let turned = transpose(x, q, q);
     gradient_of(turned, jx, n, q, k)
@@ -239,7 +239,7 @@ pub fn component_df(
     k: usize,
 ) -> Number
     requires { (n ≤ 4) × (q ≤ 6) × (k < 6) }
-    ensures { result ≡ componentDf marks c n q a es x jx k }
+    ensures { result ≡ component_df marks c n q a es x jx k }
 {
     let gradient = gradient_at(x, jx, n, q, k);
     let df = variance_df(es[k], gradient, a, n);
@@ -257,7 +257,7 @@ pub fn component_dfs(
     q: usize,
 ) -> [f64; 6]
     requires { (n ≤ 4) × (q ≤ 6) }
-    ensures { result ≡ componentDfs marks c n q a es x jx }
+    ensures { result ≡ component_dfs marks c n q a es x jx }
 {
     let mut out = [0.0; 6];
     for k in 0..q {
@@ -269,7 +269,7 @@ pub fn component_dfs(
 // Whether any component has no df.
 pub fn any_none(nu: [f64; 6], q: usize) -> bool
     requires { q ≤ 6 }
-    ensures { result ≡ anyNone q nu }
+    ensures { result ≡ any_none q nu }
 {
     let mut any = false;
     for k in 0..q {
@@ -281,7 +281,7 @@ pub fn any_none(nu: [f64; 6], q: usize) -> bool
 // The df of several rows.
 pub fn several_df(nu: [f64; 6], q: usize) -> Number
     requires { q ≤ 6 }
-    ensures { result ≡ severalDf q nu }
+    ensures { result ≡ several_df q nu }
 {
     if any_none(nu, q) {
         return Number::None;
@@ -300,7 +300,7 @@ pub fn component_seen(
     seen: Marked,
 ) -> Marked
     requires { (n ≤ 4) × (q ≤ 6) × (k < 6) }
-    ensures { result ≡ gradientSeen marks n (entry_at marks es k) (gradientAt marks n q x jx k) seen }
+    ensures { result ≡ gradient_seen marks n (entry_at marks es k) (gradient_at marks n q x jx k) seen }
 {
     let gradient = gradient_at(x, jx, n, q, k);
     gradient_seen(es[k], gradient, n, seen)
@@ -316,7 +316,7 @@ pub fn components_seen(
     seen: Marked,
 ) -> Marked
     requires { (n ≤ 4) × (q ≤ 6) }
-    ensures { result ≡ componentsSeen marks n q es x jx seen }
+    ensures { result ≡ components_seen marks n q es x jx seen }
 {
     let mut all = seen;
     for k in 0..q {

@@ -1,13 +1,13 @@
 // The degrees of freedom of several components taken together.
 ghost use Rattle.std.specs.Prelude.{◌≡◌, ◌≤◌};
-ghost use Rattle.tests.specs.PooledDf.{tolerance, allWithin, anyLow, expected, pooled, getFstatDdf};
+ghost use Rattle.tests.specs.PooledDf.{tolerance, all_within, any_low, expected, pooled, get_fstat_ddf};
 
 use arithmetic::plain::{magnitude, of_count};
 
 // Whether all lie strictly within `tol` of the first.
 pub fn all_within(nu: [f64; 6], n: usize, tol: f64) -> bool
     requires { n ≤ 6 }
-    ensures { result ≡ allWithin n nu tol }
+    ensures { result ≡ all_within n nu tol }
 {
     let mut all = true;
     for i in 0..n {
@@ -20,7 +20,7 @@ pub fn all_within(nu: [f64; 6], n: usize, tol: f64) -> bool
 // Whether any is 2 or less.
 pub fn any_low(nu: [f64; 6], n: usize) -> bool
     requires { n ≤ 6 }
-    ensures { result ≡ anyLow n nu }
+    ensures { result ≡ any_low n nu }
 {
     let mut any = false;
     for i in 0..n {
@@ -45,7 +45,7 @@ pub fn expected(nu: [f64; 6], n: usize) -> f64
 // Equality is tested before 2, so that 1 and 1 give 1.
 pub fn get_fstat_ddf(nu: [f64; 6], n: usize, tol: f64) -> f64
     requires { n ≤ 6 }
-    ensures { result ≡ getFstatDdf n nu tol }
+    ensures { result ≡ get_fstat_ddf n nu tol }
 {
     let alone = n == 1;
     if alone | all_within(nu, n, tol) {

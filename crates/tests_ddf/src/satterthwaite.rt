@@ -2,7 +2,7 @@
 ghost use Rattle.std.specs.Prelude.{◌≡◌, ◌≤◌};
 ghost use Rattle.algebra.specs.Kind.{marks};
 ghost use Rattle.algebra.specs.Product.{at};
-ghost use Rattle.tests.specs.Satterthwaite.{gradientOne, satterthwaite};
+ghost use Rattle.tests.specs.Satterthwaite.{gradient_one, satterthwaite};
 ghost use Rattle.tests_ddf.specs.joints.Parts.{inputs_of, start_seen_of, rotations_seen_of, one_entry_of, components_entry_of, several_entry_of, several_outcome_of};
 
 use crate::components::{
@@ -22,7 +22,7 @@ use tests::{Entry, number_of};
 // The gradient of one row's variance.
 pub fn gradient_one(js: [[[Marked; 6]; 6]; 4], n: usize) -> [Marked; 6]
     requires { n ≤ 4 }
-    ensures { result ≡ gradientOne marks n js }
+    ensures { result ≡ gradient_one marks n js }
 {
     let mut out = no_marks();
     for i in 0..n {

@@ -2,7 +2,7 @@
 ghost use Rattle.std.specs.Prelude.{◌≡◌, ◌≤◌};
 ghost use Rattle.algebra.specs.Kind.{marks};
 ghost use Rattle.algebra.specs.Product.{product};
-ghost use Rattle.tests.specs.Satterthwaite.{column, contrastOf, transformed, transformedAll};
+ghost use Rattle.tests.specs.Satterthwaite.{column, contrast_of, transformed, transformed_all};
 ghost use Rattle.tests_ddf.specs.joints.Parts.{start_seen_of};
 
 use algebra_products_marked::cells::{all_marks, given_cells, zeros};
@@ -41,7 +41,7 @@ pub fn contrast_of(
     q: usize,
 ) -> [[Marked; 6]; 6]
     requires { (p ≤ 6) × (q ≤ 6) }
-    ensures { result ≡ contrastOf marks p q l beta beta_h }
+    ensures { result ≡ contrast_of marks p q l beta beta_h }
 {
     let first = applied(l, beta, p, q);
     let second = applied(l, beta_h, p, q);
@@ -66,7 +66,7 @@ pub fn transform_contrast(
     q: usize,
 ) -> [[[Marked; 6]; 6]; 4]
     requires { (n ≤ 4) × (p ≤ 6) × (q ≤ 6) }
-    ensures { result ≡ transformedAll marks n p q l js }
+    ensures { result ≡ transformed_all marks n p q l js }
 {
     let blank = zeros();
     let mut out = [blank; 4];

@@ -2,12 +2,12 @@
 ghost use Rattle.std.specs.Prelude.{◌≡◌, ◌≤◌, ◌<◌, replicate};
 ghost use Rattle.std.specs.Float.{binary64};
 ghost use Rattle.std.specs.Float.Ieee.{mul};
-ghost use Rattle.arithmetic.specs.Numbers.{plusZero};
+ghost use Rattle.arithmetic.specs.Numbers.{plus_zero};
 ghost use Rattle.arithmetic.specs.Marks.{given, also};
 ghost use Rattle.algebra.specs.Fold.{fold};
 ghost use Rattle.algebra.specs.Kind.{floats, marks};
 ghost use Rattle.algebra.specs.Product.{at};
-ghost use Rattle.tests.specs.VarianceDf.{entry_at, relativeGradient, gradientValues, relativeVariance, dfOfRelative, varianceDf, gradientSeen};
+ghost use Rattle.tests.specs.VarianceDf.{entry_at, relative_gradient, gradient_values, relative_variance, df_of_relative, variance_df, gradient_seen};
 
 use arithmetic::Marked;
 use arithmetic_steps::{also, div, zero_of};
@@ -16,7 +16,7 @@ use tests::both::is_positive;
 
 // Six zeros, for rows of marked numbers.
 pub fn no_marks() -> [Marked; 6]
-    ensures { result ≡ replicate 6 (given plusZero) }
+    ensures { result ≡ replicate 6 (given plus_zero) }
 {
     let zero = zero_of();
     [zero; 6]
@@ -25,7 +25,7 @@ pub fn no_marks() -> [Marked; 6]
 // g, the gradient in units of the variance: squares of tiny or large variances do not arise.
 pub fn relative_gradient(variance: Marked, gradient: [Marked; 6], n: usize) -> [Marked; 6]
     requires { n ≤ 6 }
-    ensures { result ≡ relativeGradient marks n variance gradient }
+    ensures { result ≡ relative_gradient marks n variance gradient }
 {
     let mut out = no_marks();
     for i in 0..n {
@@ -47,7 +47,7 @@ pub fn qform_term(g: [Marked; 6], a: [[f64; 6]; 6], j: usize, k: usize) -> f64
 // r, over all pairs of parameters, row after row.
 pub fn qform_grad(g: [Marked; 6], a: [[f64; 6]; 6], n: usize) -> f64
     requires { n ≤ 6 }
-    ensures { result ≡ relativeVariance floats n (gradientValues marks n g) a }
+    ensures { result ≡ relative_variance floats n (gradient_values marks n g) a }
 {
     let mut sum = 0.0;
     for j in 0..n {
@@ -60,7 +60,7 @@ pub fn qform_grad(g: [Marked; 6], a: [[f64; 6]; 6], n: usize) -> f64
 
 // 2/r, or none.
 pub fn df_of_relative(r: f64) -> Number
-    ensures { result ≡ dfOfRelative r }
+    ensures { result ≡ df_of_relative r }
 {
     if is_positive(r) {
         return Number::Is(2.0 / r);
@@ -71,7 +71,7 @@ pub fn df_of_relative(r: f64) -> Number
 // The degrees of freedom of a variance; none for one that is not finite and positive.
 pub fn variance_df(variance: Marked, gradient: [Marked; 6], a: [[f64; 6]; 6], n: usize) -> Number
     requires { n ≤ 6 }
-    ensures { result ≡ varianceDf marks n a variance gradient }
+    ensures { result ≡ variance_df marks n a variance gradient }
 {
     if is_positive(variance.value) {
         let g = relative_gradient(variance, gradient, n);
@@ -95,7 +95,7 @@ pub fn row_seen(g: [Marked; 6], n: usize, seen: Marked) -> Marked
 // `seen`, with the marks of g counted where g is made.
 pub fn gradient_seen(variance: Marked, gradient: [Marked; 6], n: usize, seen: Marked) -> Marked
     requires { n ≤ 6 }
-    ensures { result ≡ gradientSeen marks n variance gradient seen }
+    ensures { result ≡ gradient_seen marks n variance gradient seen }
 {
     if is_positive(variance.value) {
         let g = relative_gradient(variance, gradient, n);

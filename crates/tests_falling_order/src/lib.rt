@@ -2,12 +2,12 @@
 #![tactic(auto)]
 
 ghost use Rattle.std.specs.Prelude.{◌≡◌, cond, ◌+◌, ◌<◌, ◌≤◌, eqb};
-ghost use Rattle.tests.specs.Order.{comesBefore, place_in, index_at};
+ghost use Rattle.tests.specs.Order.{comes_before, place_in, index_at};
 
 // Whether number j stands before number i: it is larger, or equal with the lower index.
 pub fn comes_before(xs: [f64; 6], j: usize, i: usize) -> bool
     requires { (j < 6) × (i < 6) }
-    ensures { result ≡ comesBefore xs j i }
+    ensures { result ≡ comes_before xs j i }
 {
     let larger = xs[i] < xs[j];
     let equal = xs[i] == xs[j];

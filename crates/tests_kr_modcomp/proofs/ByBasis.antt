@@ -5,7 +5,7 @@ use mathlib.Core.List.{List}
 use lib.ListN.{replicate}
 use lib.Ieee.{Float}
 use Rattle.arithmetic.specs.declared.Marked.{Marked}
-use Rattle.arithmetic.specs.Numbers.{plusZero}
+use Rattle.arithmetic.specs.Numbers.{plus_zero}
 use Rattle.arithmetic_cutoffs.specs.declared.Cutoffs.{Cutoffs}
 use Rattle.algebra.specs.Kind.{marks}
 use Rattle.algebra.specs.Small.{Rows}
@@ -19,6 +19,6 @@ module _ (c : Cutoffs) (s : Scaled Marked) (beta : List Float) where
   unfolding contrast_test
   contrast-is beta_h rows l m rank seen e = ap (λ (b : Basis Marked). tested marks c s beta beta_h b) e
 
-  pub coefficient-is : (i : ℕ) (l : Rows) → l ≡ unit_row s.p i → contrast_test marks c s beta (replicate 6 plusZero) 1 l ≡ coefficient_test marks c s beta i
+  pub coefficient-is : (i : ℕ) (l : Rows) → l ≡ unit_row s.p i → contrast_test marks c s beta (replicate 6 plus_zero) 1 l ≡ coefficient_test marks c s beta i
   unfolding contrast_test coefficient_test
-  coefficient-is i l e = ap (λ (x : Rows). tested marks c s beta (replicate 6 plusZero) (contrast_basis marks 1 s.p x)) e
+  coefficient-is i l e = ap (λ (x : Rows). tested marks c s beta (replicate 6 plus_zero) (contrast_basis marks 1 s.p x)) e

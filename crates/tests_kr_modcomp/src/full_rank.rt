@@ -6,7 +6,7 @@ ghost use Rattle.algebra.specs.Elimination.{refused};
 ghost use Rattle.algebra.specs.Small.{sandwich};
 ghost use Rattle.tests.specs.KenwardRoger.{scaled_ps, difference, theta_of, u_of, u_stack, u_values, wald_many, tested, unit_row};
 ghost use Rattle.tests_kr_modcomp.specs.joints.Parts.{scaled_of, basis_of, scaling_seen_of, wald_of, wald_number_of, theta_seen_of, wald_seen_of, entry_of, wald_entry_of, theta_entry_of};
-ghost use Rattle.tests.specs.Both.{stackSeen};
+ghost use Rattle.tests.specs.Both.{stack_seen};
 
 use adjustment_response_units::scaled_down;
 use algebra_elimination_marked::solve;
@@ -95,7 +95,7 @@ pub fn u_split(
     plain: &mut [[[f64; 6]; 6]; 4],
 ) -> Marked
     requires { (n ≤ 4) × (p ≤ 6) }
-    ensures value { result ≡ stackSeen marks n p (u_stack marks n p tp ps phi) seen }
+    ensures value { result ≡ stack_seen marks n p (u_stack marks n p tp ps phi) seen }
     ensures plain_after { plain.new ≡ u_values marks n p (u_stack marks n p tp ps phi) }
 {
     let blank = algebra_products::zeros();

@@ -4,7 +4,7 @@
 ghost use Rattle.std.specs.Prelude.{◌≡◌, ◌≤◌, ◌<◌, [], get_or};
 ghost use Rattle.std.specs.Float.{nan, binary64};
 ghost use Rattle.std.specs.Float.Ieee.{mul};
-ghost use Rattle.arithmetic.specs.Numbers.{plusZero, one, ofCount};
+ghost use Rattle.arithmetic.specs.Numbers.{plus_zero, one, of_count};
 ghost use Rattle.algebra.specs.Fold.{fold};
 ghost use Rattle.algebra.specs.Table.{row};
 ghost use Rattle.algebra.specs.Kind.{floats};
@@ -40,7 +40,7 @@ pub fn spur(m: [[f64; 6]; 6], p: usize) -> f64
 // The traces of n matrices, each taken once for all the pairs that it is in.
 pub fn traces(us: &[[[f64; 6]; 6]; 4], n: usize, p: usize) -> [f64; 4]
     requires { (n ≤ 4) × (p ≤ 6) }
-    ensures { result ≡ row plusZero 4 n (λ i. trace floats p (get_or us.now i [])) }
+    ensures { result ≡ row plus_zero 4 n (λ i. trace floats p (get_or us.now i [])) }
 {
     let mut out = [0.0; 4];
     for i in 0..n {
@@ -83,7 +83,7 @@ pub fn a2_term(us: &[[[f64; 6]; 6]; 4], w: &[[f64; 6]; 6], p: usize, i: usize, j
 // The sum of a1 over the pairs i ≤ j, row after row, from the traces.
 fn a1_sum(w: &[[f64; 6]; 6], ts: &[f64; 4], n: usize) -> f64
     requires { n ≤ 4 }
-    ensures { result ≡ fold 0 n (λ i s. fold i n (λ j s. floats.plus s (mul binary64 (mul binary64 (weight w.now i j) (get_or ts.now i nan)) (get_or ts.now j nan))) s) plusZero }
+    ensures { result ≡ fold 0 n (λ i s. fold i n (λ j s. floats.plus s (mul binary64 (mul binary64 (weight w.now i j) (get_or ts.now i nan)) (get_or ts.now j nan))) s) plus_zero }
 {
     let mut sum = 0.0;
     for i in 0..n {
@@ -258,7 +258,7 @@ pub fn positive(x: f64) -> Number
 // qρ − 1.
 pub fn excess_of(c: Cutoffs, q: usize, a1: f64, a2: f64) -> f64
     requires { q ≤ 6 }
-    ensures { result ≡ floats.minus (floats.times (ofCount q) (rho_of c q a1 a2)) one }
+    ensures { result ≡ floats.minus (floats.times (of_count q) (rho_of c q a1 a2)) one }
 {
     of_count(q) * rho_of(c, q, a1, a2) - 1.0
 }

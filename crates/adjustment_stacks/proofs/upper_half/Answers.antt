@@ -3,7 +3,7 @@ use Rattle.adjustment_work.specs.joints.Steps.{ie_at, upper_cell, upper}
 use Rattle.algebra_products.proofs.LoopLaws.{table-end}
 use Rattle.algebra.specs.Table.{table}
 use Rattle.algebra.proofs.TableLaws.{table_none, Filling, filling-none, filling-more, filling-row}
-use Rattle.arithmetic.specs.Numbers.{plusZero}
+use Rattle.arithmetic.specs.Numbers.{plus_zero}
 use borrow.Author.Rules.{rules}
 use native.Mathlib.Omega.{arith}
 use mathlib.Core.Path.{◌≡◌}

@@ -1,7 +1,7 @@
 -- Not needed to check document 01: names that join the code to its definitions.
 -- Steps between S and IE, on the lent slices: where the code reads S, the Hs and the Os, and what its loops hold on the way.
 use Rattle.std.specs.Prelude.{ℕ, ◌+◌, cond, List, leb, set, Float}
-use Rattle.arithmetic.specs.Numbers.{plusZero}
+use Rattle.arithmetic.specs.Numbers.{plus_zero}
 use Rattle.algebra.specs.Fold.{fold}
 use Rattle.algebra.specs.Table.{table}
 use Rattle.algebra.specs.Kind.{floats}
@@ -43,7 +43,7 @@ ie_at s n p N phi ps qs work r t = ie_cell p (k_cell n (h_at s n work r) (h_at s
 
 -- the cells with r ≤ t, and zeros below the diagonal
 unfoldable pub upper_cell : (ℕ → ℕ → Float) → ℕ → ℕ → Float
-upper_cell f r t = cond (leb r t) (f r t) plusZero
+upper_cell f r t = cond (leb r t) (f r t) plus_zero
 
 unfoldable pub upper : ℕ → (ℕ → ℕ → Float) → Rows
-upper N f = table plusZero 6 6 N N (upper_cell f)
+upper N f = table plus_zero 6 6 N N (upper_cell f)

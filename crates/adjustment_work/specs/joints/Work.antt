@@ -3,7 +3,7 @@
 -- Document 01: "Σ = sum of factor × G; S = L⁻ᵀL⁻¹ from its Cholesky L. H_r = G_r S". The work slice has six squares of s rows of s numbers: Σ in square 0, S in square 1, H_r in
 -- square 2 + r. The narrow slice has six parts of s rows of 6 numbers: S X in part 0, O_r in part 1 + r, O_rᵀS in part 5, by rows of n.
 use Rattle.std.specs.Prelude.{ℕ, ◌+◌, ◌*◌, ◌≤◌, Bool, cond, List, eqb, replicate, Float}
-use Rattle.arithmetic.specs.Numbers.{plusZero}
+use Rattle.arithmetic.specs.Numbers.{plus_zero}
 use Rattle.algebra.specs.Fold.{fold}
 use Rattle.algebra_large.specs.joints.Slab.{rows_at, put_rows}
 use Rattle.algebra.specs.Small.{Rows}
@@ -33,7 +33,7 @@ design_of n p x xs z zs columns weighted weights blocks count theta =
 
 -- nothing but +0
 unfoldable pub zeros : ℕ → List Float
-zeros len = replicate len plusZero
+zeros len = replicate len plus_zero
 
 -- the k matrices f 0, .., f (k - 1), of n rows and c columns with row stride s: matrix r stands b (o + r) elements from the start
 unfoldable pub put_stack : ℕ → ℕ → ℕ → ℕ → ℕ → ℕ → (ℕ → Rows) → List Float → List Float

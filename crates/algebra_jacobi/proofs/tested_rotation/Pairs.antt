@@ -5,19 +5,19 @@ use mathlib.Core.Bool.{Bool, true, false, cond}
 use mathlib.Core.List.{List, []}
 use lib.ListN.{get_or}
 use lib.Ieee.{Float}
-use Rattle.arithmetic.specs.Numbers.{plusZero, is_zero}
+use Rattle.arithmetic.specs.Numbers.{plus_zero, is_zero}
 use Rattle.algebra.specs.Kind.{Arith, floats}
 use Rattle.algebra.specs.Product.{at}
-use Rattle.algebra.specs.Jacobi.{rotate, rotateTested, squared, bound}
+use Rattle.algebra.specs.Jacobi.{rotate, rotate_tested, squared, bound}
 use Rattle.algebra_jacobi.specs.joints.States.{state_of}
 use Rattle.algebra_jacobi.specs.joints.Tested.{rotates, seen_after, rotated_pair}
 
 -- plain numbers have no mark to count
-pub seen_plain : (limit pp qq pq : Float) → plusZero ≡ seen_after floats limit pp qq pq plusZero
+pub seen_plain : (limit pp qq pq : Float) → plus_zero ≡ seen_after floats limit pp qq pq plus_zero
 unfolding seen_after
 seen_plain limit pp qq pq = go (is_zero pq)
   where
-    go : (z : Bool) → plusZero ≡ cond z plusZero plusZero
+    go : (z : Bool) → plus_zero ≡ cond z plus_zero plus_zero
     go true = refl
     go false = refl
 
@@ -34,7 +34,7 @@ module _ {A : Type 0} (N : Arith A) (limit : Float) (R C n p q : ℕ) (both : Li
   pub rotate-is : rotate N limit R C n p q (state_of both count seen)
       ≡ cond (rotates N limit pp qq pq) (state_of (rotated_pair N R C n p q both) (count + 1) (seen_after N limit pp qq pq seen))
       (state_of both count (seen_after N limit pp qq pq seen))
-  unfolding rotate rotateTested squared bound rotates seen_after rotated_pair
+  unfolding rotate rotate_tested squared bound rotates seen_after rotated_pair
   rotate-is = go (is_zero (N.value pq)) refl
     where
       go : (z : Bool) → is_zero (N.value pq) ≡ z → rotate N limit R C n p q (state_of both count seen)

@@ -10,6 +10,6 @@ module _ {A : Type 0} (N : Arith A) where
   chosen_cell p q first second i j byP byQ here =
       cond (eqb i p) (cond (eqb j p) first (cond (eqb j q) (zero_of N) byP)) (cond (eqb i q) (cond (eqb j q) second (cond (eqb j p) (zero_of N) byQ)) here)
 
-  -- `rotatedCell` where the two new diagonal cells are given
+  -- `rotated_cell` where the two new diagonal cells are given
   abbrev pub mirroring_cell : ℕ → ℕ → A → A → List (List A) → ℕ → ℕ → A
   mirroring_cell p q first second w i j = chosen_cell p q first second i j (at N w j p) (at N w j q) (at N w i j)

@@ -5,7 +5,7 @@ use Rattle.std.specs.Float.Ieee.{lt}
 use Rattle.arithmetic.specs.Numbers.{is_zero}
 use Rattle.algebra.specs.Kind.{Arith}
 use Rattle.algebra.specs.Product.{at}
-use Rattle.algebra.specs.Jacobi.{ratio, tangent, cosine, sine, turnColumns, rotated}
+use Rattle.algebra.specs.Jacobi.{ratio, tangent, cosine, sine, turn_columns, rotated}
 
 module _ {A : Type 0} (N : Arith A) where
   -- the two sides of the rotation test
@@ -30,4 +30,4 @@ module _ {A : Type 0} (N : Arith A) where
       let t : A = tangent N (ratio N (at N m p p) (at N m q q) (at N m p q)) in
       let c : A = cosine N t in
       let s : A = sine N t c in
-      rotated N R C n p q t c s m ∷ turnColumns N n p q c s (get_or both 1 []) ∷ []
+      rotated N R C n p q t c s m ∷ turn_columns N n p q c s (get_or both 1 []) ∷ []

@@ -2,7 +2,7 @@
 -- Steps inside the large matrices' functions: what a row holds after a part of its work. The contracts of whole matrices cite none of these.
 use Rattle.std.specs.Prelude.{ℕ, ◌+◌, ◌-◌, ◌*◌, cond, List, ltb, eqb, get_or, set, Float}
 use Rattle.std.specs.Float.{nan}
-use Rattle.arithmetic.specs.Numbers.{plusZero, one}
+use Rattle.arithmetic.specs.Numbers.{plus_zero, one}
 use Rattle.algebra.specs.Fold.{fold}
 use Rattle.algebra.specs.Table.{row}
 use Rattle.algebra.specs.Kind.{floats}
@@ -20,11 +20,11 @@ known_less hi xs d t p i x k = fold (i + 1) hi (λ j y. floats.minus y (floats.t
 
 -- the last h rows of x replaced by those of the solution, from the last; `back_to` starts with zeros
 unfoldable pub back_over : ℕ → ℕ → ℕ → List (List Float) → List (List Float) → List (List Float)
-back_over h n cols m x = fold 0 h (λ h x. set x (n - 1 - h) (row plusZero cols cols (back_cell floats n m x (n - 1 - h)))) x
+back_over h n cols m x = fold 0 h (λ h x. set x (n - 1 - h) (row plus_zero cols cols (back_cell floats n m x (n - 1 - h)))) x
 
 -- Document 01: "Inverse: B = identity": cell j of row i of a matrix beside the identity, where the matrix's row stands at b
 unfoldable pub joined_cell : ℕ → List Float → ℕ → ℕ → ℕ → Float
-joined_cell n xs b i j = cond (ltb j n) (get_or xs (b + j) nan) (cond (eqb i (j - n)) one plusZero)
+joined_cell n xs b i j = cond (ltb j n) (get_or xs (b + j) nan) (cond (eqb i (j - n)) one plus_zero)
 
 -- Document 01: "K_rs = sum over i, j of H_r[j,i] × H_s[i,j]": x with the terms of one i joined
 unfoldable pub crossed : ℕ → List (List Float) → List (List Float) → ℕ → Float → Float

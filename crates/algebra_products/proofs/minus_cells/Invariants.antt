@@ -2,7 +2,7 @@ use Prim.Native.Nat.{◌≤◌, ◌<◌, ◌-◌}
 use mathlib.Core.Path.{◌≡◌, refl}
 use Rattle.algebra.specs.Table.{table}
 use Rattle.algebra.specs.Kind.{floats, zero_of}
-use Rattle.algebra.specs.Product.{at, minusCells}
+use Rattle.algebra.specs.Product.{at, minus_cells}
 use Rattle.algebra.proofs.TableLaws.{table_none, Filling, filling-none, filling-more, filling-row}
 use Rattle.algebra_products.proofs.LoopLaws.{table-end}
 use borrow.Author.Rules.{rules}

@@ -2,7 +2,7 @@
 use Prim.Native.Nat.{◌≤◌, ◌<◌, ◌-◌}
 use mathlib.Core.Path.{◌≡◌, ◌∙◌}
 use Rattle.algebra.specs.Kind.{marks, zero_of}
-use Rattle.algebra.specs.Product.{sumCells, like_cells}
+use Rattle.algebra.specs.Product.{sum_cells, like_cells}
 use Rattle.algebra.specs.Fold.{fold}
 use Rattle.algebra.proofs.FoldLaws.{fold_start, fold_next}
 use Rattle.algebra_products.proofs.LoopLaws.{like_step, rows_to, rows_none, rows_more, rows_end}
@@ -23,5 +23,5 @@ pub loop-i-preserved : goal.loop-i-preserved
 loop-i-preserved c = (omega arith, rows_more _ _ _ _ _ _ _ c.loop-i.invariant.1 c.loop-j.invariant.2 c.loop-j.invariant.1 c.loop-j-test.false)
 
 pub returns : goal.returns
-unfolding like_cells sumCells
+unfolding like_cells sum_cells
 returns c = rows_end _ _ _ _ _ _ c.loop-i.invariant.0 c.loop-i-test.false c.loop-i.invariant.1

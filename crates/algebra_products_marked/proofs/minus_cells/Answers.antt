@@ -3,7 +3,7 @@ use Prim.Native.Nat.{◌≤◌, ◌<◌, ◌-◌}
 use mathlib.Core.Path.{◌≡◌}
 use Rattle.algebra.specs.Table.{table}
 use Rattle.algebra.specs.Kind.{marks, zero_of}
-use Rattle.algebra.specs.Product.{at, minusCells}
+use Rattle.algebra.specs.Product.{at, minus_cells}
 use Rattle.algebra.proofs.TableLaws.{table_none, Filling, filling-none, filling-more, filling-row}
 use Rattle.algebra_products.proofs.LoopLaws.{table-end}
 use borrow.Author.Rules.{rules}
@@ -23,5 +23,5 @@ pub loop-i-preserved : goal.loop-i-preserved
 loop-i-preserved c = (omega arith, filling-row c.loop-j.invariant.2 c.loop-j.invariant.1 c.loop-j-test.false)
 
 pub returns : goal.returns
-unfolding minusCells
+unfolding minus_cells
 returns c = table-end _ _ _ _ _ _ _ _ c.loop-i.invariant.0 c.loop-i-test.false c.loop-i.invariant.1

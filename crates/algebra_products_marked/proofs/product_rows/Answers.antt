@@ -3,7 +3,6 @@ use Prim.Native.Nat.{◌≤◌, ◌<◌, ◌-◌}
 use mathlib.Core.Path.{◌≡◌, ◌∙◌}
 use mathlib.Core.Bool.{false}
 use mathlib.Core.List.{[]}
-use mathlib.Core.Logic.{⊎_elim}
 use lib.ListN.{get_or}
 use Rattle.algebra.specs.Table.{table}
 use Rattle.algebra.specs.Kind.{marks, zero_of}
@@ -16,6 +15,7 @@ use Rattle.algebra_products_marked.proofs.CellMarkLaws.{RowSums, row-sums-none, 
 use borrow.Author.Rules.{rules}
 use native.Mathlib.Omega.{arith}
 use Rattle.algebra_products_marked.proofs.product_rows.Goals as goal
+use Rattle.algebra_products_marked.proofs.product_rows.Goals.{then-not-adds_nothing, else-not-adds_nothing}
 
 pub loop-i-init : goal.loop-i-init
 loop-i-init c = (omega arith, table_none _ _ _ _ _ _ c.zeros-out.ensures)
@@ -37,20 +37,20 @@ loop-j-preserved c = (
 
 pub loop-k-preserved : goal.loop-k-preserved
 loop-k-preserved c =
-    ⊎_elim
-    (λ w. (
-      omega arith,
-      omega arith,
-      turn-taken (omega arith) c.loop-k.invariant.2 (c.join_marks-row.ensures ∙ rw c.reported.ensures)
-          (w.3 ∙ gaining-end results w.1.inv.2 w.2.left w.1.inv.4),
-    ))
-    (λ w. (
-      omega arith,
-      omega arith,
-      turn-idle (omega arith) c.loop-k.invariant.2 (omega arith) c.requires.4 (c.adds_nothing.ensures ∙ rw c.value_of-v.ensures) w.0.left
-          (c.join_marks-row.ensures ∙ rw c.reported.ensures) w.1,
-    ))
-    c.if-not-adds_nothing.branch
+    elim c.if-not-adds_nothing.branch [
+      | then-not-adds_nothing w ↦ (
+        omega arith,
+        omega arith,
+        turn-taken (omega arith) c.loop-k.invariant.2 (c.join_marks-row.ensures ∙ rw c.reported.ensures)
+            (w.sums-is ∙ gaining-end results w.loop-j.invariant.2 w.loop-j-test.false w.loop-j.invariant.4),
+      )
+      | else-not-adds_nothing w ↦ (
+        omega arith,
+        omega arith,
+        turn-idle (omega arith) c.loop-k.invariant.2 (omega arith) c.requires.4 (c.adds_nothing.ensures ∙ rw c.value_of-v.ensures) w.if-not-adds_nothing.false
+            (c.join_marks-row.ensures ∙ rw c.reported.ensures) w.sums-is,
+      )
+    ]
 
 pub loop-j-2-init : goal.loop-j-2-init
 loop-j-2-init c = (omega arith, omega arith, filling-none (omega arith) c.loop-i.invariant.1)

@@ -1,8 +1,8 @@
 -- `algebra_rotation::turned_first` meets its contract.
 use mathlib.Core.Path.{refl}
-use Rattle.algebra.specs.Jacobi.{turnedFirst}
+use Rattle.algebra.specs.Jacobi.{turned_first}
 use Rattle.algebra_rotation.proofs.turned_first.Goals as goal
 
 pub returns : goal.returns
-unfolding turnedFirst
+unfolding turned_first
 returns c = refl

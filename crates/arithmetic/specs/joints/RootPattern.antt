@@ -1,5 +1,5 @@
 -- Not needed to check document 01: names that join the code to its definitions.
--- The square root of a positive finite number by its bit pattern: what the code computes. That it is `squareRoot` is a law, not a definition.
+-- The square root of a positive finite number by its bit pattern: what the code computes. That it is `square_root` is a law, not a definition.
 use Rattle.std.specs.Prelude.{ℕ, zero, suc, ◌+◌, ◌-◌, ◌*◌, ◌/◌, ◌%◌, ◌^◌}
 use Rattle.arithmetic.specs.SquareRoot.{missing_digits, radicand, rounded}
 

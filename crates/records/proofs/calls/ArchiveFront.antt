@@ -11,7 +11,7 @@ use lib.Seq.{sets, sets-eq, get_or-append-add, get_or-drop}
 use borrow.Author.Tests.{eqb-true}
 use Rattle.records.specs.format.Bytes.{byte}
 use Rattle.records.specs.readers.Archive.{archive_bytes}
-use Rattle.records.specs.readers.CutoffTable.{cutoffsIn}
+use Rattle.records.specs.readers.CutoffTable.{cutoffs_in}
 use Rattle.records.specs.calls.ArchiveCall.{series_archive, series_refusal, archiving_call, told, archiving_refusal, archiving_returned, archiving_written, left_archive}
 use Rattle.records.proofs.calls.CallLaws.{call-accepted, accepted-fills}
 use Rattle.records.proofs.calls.ArchiveLengths.{archiving-length}
@@ -40,7 +40,7 @@ module _ (l xs : List ℕ) (room : length xs ≤ length l) where
 
 module _ (w : ℕ) (lab s lent : List ℕ) (e : archiving_refusal w lab s lent ≡ 0) where
   abbrev file : List ℕ
-  file = archive_bytes (series_archive (cutoffsIn lab) s)
+  file = archive_bytes (series_archive (cutoffs_in lab) s)
 
   returned-length : archiving_returned w lab s lent ≡ length file
   unfolding told
@@ -60,7 +60,7 @@ module _ (w : ℕ) (lab s lent : List ℕ) (e : archiving_refusal w lab s lent �
       let d = lent_length in
       omega arith
 
-  pub archiving-front : (i : ℕ) → i < archiving_returned w lab s lent → byte (archiving_written w lab s lent) i ≡ byte (archive_bytes (series_archive (cutoffsIn lab) s)) i
+  pub archiving-front : (i : ℕ) → i < archiving_returned w lab s lent → byte (archiving_written w lab s lent) i ≡ byte (archive_bytes (series_archive (cutoffs_in lab) s)) i
   archiving-front i h = let b = returned-length in rw written_is (put_front lent file lent-room i (omega arith))
 
   pub archiving-rest : (i : ℕ) → archiving_returned w lab s lent ≤ i → byte (archiving_written w lab s lent) i ≡ byte lent i
@@ -70,6 +70,6 @@ module _ (w : ℕ) (lab s lent : List ℕ) (e : archiving_refusal w lab s lent �
   pub archive-left : left_archive w lab s lent ≡ file
   archive-left = rw (returned-length, written_is, front-is lent file lent-room) (front-taken file (drop (length file) lent))
 
-  pub archived-series : series_refusal w (cutoffsIn lab) s ≡ 0
+  pub archived-series : series_refusal w (cutoffs_in lab) s ≡ 0
   unfolding series_refusal
   archived-series = (call-accepted (archiving_call w s) lab lent e).2

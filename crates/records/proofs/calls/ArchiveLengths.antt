@@ -12,13 +12,13 @@ use Rattle.algebra.specs.Reasons.{first}
 use Rattle.algebra.proofs.ReasonLaws.{Line, Iff}
 use Rattle.adjustment.specs.Adjusted.{adjustment_reasons}
 use Rattle.records.specs.format.Scan.{total}
-use Rattle.records.specs.format.Kinds.{kindAt, width, archive_kinds}
+use Rattle.records.specs.format.Kinds.{kind_at, width, archive_kinds}
 use Rattle.records.specs.format.Cells.{slots, first_slot, slot_count}
-use Rattle.records.specs.format.File.{lengthReasons, formReasons}
-use Rattle.records.specs.format.Order.{orderReasons}
+use Rattle.records.specs.format.File.{length_reasons, form_reasons}
+use Rattle.records.specs.format.Order.{order_reasons}
 use Rattle.records.specs.readers.Series as series
 use Rattle.records.specs.readers.Archive.{Archive, sizes_at, archive_content, archive_bytes}
-use Rattle.records.specs.readers.CutoffTable.{table_reasons, cutoffsIn}
+use Rattle.records.specs.readers.CutoffTable.{table_reasons, cutoffs_in}
 use Rattle.records.specs.calls.Call.{call_reasons, call_returned}
 use Rattle.records.specs.calls.ArchiveCall.{series_archive, series_reasons, series_refusal, archiving_call, told, archiving_refusal, archiving_returned}
 use Rattle.records.proofs.format.ScanLaws.{and-true}
@@ -28,7 +28,7 @@ use Rattle.records.proofs.promises.ArchiveBack.{archive_kinds_of, series-archiva
 
 -- ---- the records: Φ and Φ_A, scaled and not, the Ps, scaled and not, W, sigma2
 archive-slot-count : (p N : ℕ) → slot_count (archive_kinds (sizes_at p N)) ≡ 4 * (p * p) + 2 * (N * (p * p)) + N * N + 1
-unfolding first_slot total slots width kindAt archive_kinds sizes_at
+unfolding first_slot total slots width kind_at archive_kinds sizes_at
 archive-slot-count p N = omega arith
 
 -- "7,184 bytes": of sizes within the limits at most 449 records
@@ -81,7 +81,7 @@ first_below b (x ∷ l) h e = let p = and-true (ltb x.0 b) (all_numbers_below b 
 -- ---- the writer
 module _ (w : ℕ) (lab s lent : List ℕ) where
   -- what refuses no call refuses no series
-  archiving-series : archiving_refusal w lab s lent ≡ 0 → series_refusal w (cutoffsIn lab) s ≡ 0
+  archiving-series : archiving_refusal w lab s lent ≡ 0 → series_refusal w (cutoffs_in lab) s ≡ 0
   unfolding series_refusal
   archiving-series e = (call-accepted (archiving_call w s) lab lent e).2
 
@@ -91,13 +91,13 @@ module _ (w : ℕ) (lab s lent : List ℕ) where
   unfolding told
   archiving-length e =
       let h = archiving-series e in
-      let a = series-archivable w (cutoffsIn lab) s h in
-      let l = length-within (series_archive (cutoffsIn lab) s) a.some_coefficients a.coefficients_below a.some_parameters a.parameters_below in
+      let a = series-archivable w (cutoffs_in lab) s h in
+      let l = length-within (series_archive (cutoffs_in lab) s) a.some_coefficients a.coefficients_below a.some_parameters a.parameters_below in
       rw e (l.least, l.whole, l.most)
 
   -- or a number
   refusal-below : archiving_refusal w lab s lent < 128
-  unfolding call_returned call_reasons table_reasons series_reasons series.reasons lengthReasons orderReasons formReasons series.block_reasons series.size_reasons series.valueReasons adjustment_reasons
+  unfolding call_returned call_reasons table_reasons series_reasons series.reasons length_reasons order_reasons form_reasons series.block_reasons series.size_reasons series.value_reasons adjustment_reasons
   refusal-below = first_below 128 (call_reasons (archiving_call w s) lab lent) (omega arith) refl
 
   pub archiving-number : (archiving_refusal w lab s lent ≡ 0 → ⊥) → archiving_returned w lab s lent < 128

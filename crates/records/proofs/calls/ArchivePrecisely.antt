@@ -14,10 +14,10 @@ use Rattle.algebra.specs.Reasons.{first}
 use Rattle.algebra.proofs.ReasonLaws.{Line, Gives, NoneHolds, Iff, Precisely, first-append}
 use Rattle.adjustment.specs.Adjusted.{adjustment_reasons}
 use Rattle.records.specs.format.Scan.{any}
-use Rattle.records.specs.format.File.{count, lengthReasons, formReasons}
-use Rattle.records.specs.format.Order.{falls, orderReasons}
+use Rattle.records.specs.format.File.{count, length_reasons, form_reasons}
+use Rattle.records.specs.format.Order.{falls, order_reasons}
 use Rattle.records.specs.readers.Reader.{content_reasons}
-use Rattle.records.specs.readers.CutoffTable.{badTable, cutoffsIn}
+use Rattle.records.specs.readers.CutoffTable.{bad_table, cutoffs_in}
 use Rattle.records.specs.calls.Call.{call_reasons}
 use Rattle.records.specs.readers.Series as series
 use Rattle.records.specs.readers.Archive as archive
@@ -38,58 +38,58 @@ pub record WriterPrecisely (r : ℕ) (l : List Line) : Type 0 where
 
 -- 1; 14; 2, 12, 2, 13, 3 to 8 of the series; 9, 10, 10, 4 of the adjustment
 pub archiving-precisely : (w : ℕ) (lab s lent : List ℕ) → WriterPrecisely (archiving_returned w lab s lent) (call_reasons (archiving_call w s) lab lent)
-unfolding series_reasons series.reasons lengthReasons orderReasons formReasons series.block_reasons series.size_reasons series.valueReasons adjustment_reasons
+unfolding series_reasons series.reasons length_reasons order_reasons form_reasons series.block_reasons series.size_reasons series.value_reasons adjustment_reasons
 archiving-precisely w lab s lent =
     let p = call-precisely (archiving_call w s) lab lent refl in
     record { refused = λ n z l. iff-then (archiving-refuses w lab s lent n z l) (p.refused n z); accepted = iff-then (archiving-accepts w lab s lent) p.accepted }
 
 -- 14, precisely where the table is not accepted
-pub archiving-fourteen : (w : ℕ) (lab s lent : List ℕ) → Iff (archiving_returned w lab s lent ≡ 14) ((length lent ≡ 7184) × (badTable lab ≡ true))
-unfolding series_reasons series.reasons lengthReasons orderReasons formReasons series.block_reasons series.size_reasons series.valueReasons adjustment_reasons
+pub archiving-fourteen : (w : ℕ) (lab s lent : List ℕ) → Iff (archiving_returned w lab s lent ≡ 14) ((length lent ≡ 7184) × (bad_table lab ≡ true))
+unfolding series_reasons series.reasons length_reasons order_reasons form_reasons series.block_reasons series.size_reasons series.value_reasons adjustment_reasons
 archiving-fourteen w lab s lent =
     iff-then (archiving-refuses w lab s lent 14 (λ z. omega arith) (omega arith)) (by_length (length lent) 7184 (call-fourteen (archiving_call w s) lab lent refl))
 
 -- 12 and 13 of the series, precisely under their conditions
 pub archiving-twelve : (w : ℕ) (lab s lent : List ℕ)
-    → Iff (archiving_returned w lab s lent ≡ 12) ((length lent ≡ 7184) × (badTable lab ≡ false) × (length s % 16 ≡ 0) × (falls s ≡ true))
-unfolding series_reasons series.reasons lengthReasons orderReasons formReasons series.block_reasons series.size_reasons series.valueReasons adjustment_reasons
+    → Iff (archiving_returned w lab s lent ≡ 12) ((length lent ≡ 7184) × (bad_table lab ≡ false) × (length s % 16 ≡ 0) × (falls s ≡ true))
+unfolding series_reasons series.reasons length_reasons order_reasons form_reasons series.block_reasons series.size_reasons series.value_reasons adjustment_reasons
 archiving-twelve w lab s lent =
     iff-then (archiving-refuses w lab s lent 12 (λ z. omega arith) (omega arith))
     (past-both (length lent) 7184 (call-gives (archiving_call w s) lab lent 12 (λ z. omega arith) (λ z. omega arith))
-    (file-twelve (length s) (falls s) (content_reasons (series.reader w) s ++ adjustment_reasons (cutoffsIn lab) (series.design s) (series.phi s) (series.sigma2 s)) refl))
+    (file-twelve (length s) (falls s) (content_reasons (series.reader w) s ++ adjustment_reasons (cutoffs_in lab) (series.design s) (series.phi s) (series.sigma2 s)) refl))
 
 pub archiving-thirteen : (w : ℕ) (lab s lent : List ℕ)
-    → Iff (archiving_returned w lab s lent ≡ 13) ((length lent ≡ 7184) × (badTable lab ≡ false) × (file_refusal w s ≡ 0) × (any (count s) (series.miscounted s) ≡ true))
-unfolding series_reasons series.reasons lengthReasons orderReasons formReasons series.block_reasons series.size_reasons series.valueReasons adjustment_reasons
+    → Iff (archiving_returned w lab s lent ≡ 13) ((length lent ≡ 7184) × (bad_table lab ≡ false) × (file_refusal w s ≡ 0) × (any (count s) (series.miscounted s) ≡ true))
+unfolding series_reasons series.reasons length_reasons order_reasons form_reasons series.block_reasons series.size_reasons series.value_reasons adjustment_reasons
 archiving-thirteen w lab s lent =
     iff-then (archiving-refuses w lab s lent 13 (λ z. omega arith) (omega arith))
     (past-both (length lent) 7184 (call-gives (archiving_call w s) lab lent 13 (λ z. omega arith) (λ z. omega arith))
-    (file-thirteen w s ((series.size_reasons s ++ series.valueReasons s) ++ adjustment_reasons (cutoffsIn lab) (series.design s) (series.phi s) (series.sigma2 s)) refl))
+    (file-thirteen w s ((series.size_reasons s ++ series.value_reasons s) ++ adjustment_reasons (cutoffs_in lab) (series.design s) (series.phi s) (series.sigma2 s)) refl))
 
 -- ---- the test from an archive
 -- 1; 14; 2, 12, 2, 4, 5, 2 of the archive; 2, 12, 2, 4, 8 of the second file; a test's 10
 pub testing-precisely : (lab s t answer : List ℕ) → Precisely (testing_returned lab s t answer) (call_reasons (testing_call s t) lab answer)
-unfolding from_archive_reasons archive_test_reasons archive.reasons archive.valueReasons archive.scaled_reasons second.reasons second.formed_for second.valueReasons lengthReasons orderReasons formReasons
+unfolding from_archive_reasons archive_test_reasons archive.reasons archive.value_reasons archive.scaled_reasons second.reasons second.formed_for second.value_reasons length_reasons order_reasons form_reasons
 testing-precisely lab s t answer = call-precisely (testing_call s t) lab answer refl
 
-pub testing-fourteen : (lab s t answer : List ℕ) → Iff (testing_returned lab s t answer ≡ 14) ((length answer ≡ 168) × (badTable lab ≡ true))
-unfolding from_archive_reasons archive_test_reasons archive.reasons archive.valueReasons archive.scaled_reasons second.reasons second.formed_for second.valueReasons lengthReasons orderReasons formReasons
+pub testing-fourteen : (lab s t answer : List ℕ) → Iff (testing_returned lab s t answer ≡ 14) ((length answer ≡ 168) × (bad_table lab ≡ true))
+unfolding from_archive_reasons archive_test_reasons archive.reasons archive.value_reasons archive.scaled_reasons second.reasons second.formed_for second.value_reasons length_reasons order_reasons form_reasons
 testing-fourteen lab s t answer = by_length (length answer) 168 (call-fourteen (testing_call s t) lab answer refl)
 
 -- 12, precisely where the archive falls, or where it is accepted and the second file falls
 archive-twelve : (s : List ℕ) → Iff (archive.refusal s ≡ 12) ((length s % 16 ≡ 0) × (falls s ≡ true))
-unfolding archive.refusal archive.reasons archive.valueReasons archive.scaled_reasons lengthReasons orderReasons formReasons
+unfolding archive.refusal archive.reasons archive.value_reasons archive.scaled_reasons length_reasons order_reasons form_reasons
 archive-twelve s = file-twelve (length s) (falls s) (content_reasons archive.reader s) refl
 
 later-twelve : (c : Cutoffs) (s t : List ℕ) → Iff (first (second.reasons (archive.coefficients s) t ++ archive_test_reasons c s t) ≡ 12) ((length t % 16 ≡ 0) × (falls t ≡ true))
-unfolding archive_test_reasons second.reasons second.formed_for second.valueReasons lengthReasons orderReasons formReasons
+unfolding archive_test_reasons second.reasons second.formed_for second.value_reasons length_reasons order_reasons form_reasons
 later-twelve c s t = file-twelve (length t) (falls t) (content_reasons (second.reader (archive.coefficients s)) t ++ archive_test_reasons c s t) refl
 
 abbrev pub EitherFalls : List ℕ → List ℕ → Type 0
 EitherFalls s t = ((length s % 16 ≡ 0) × (falls s ≡ true)) ⊎ ((archive.refusal s ≡ 0) × (length t % 16 ≡ 0) × (falls t ≡ true))
 
 from-archive-twelve : (c : Cutoffs) (s t : List ℕ) → Iff (first (from_archive_reasons c s t) ≡ 12) (EitherFalls s t)
-unfolding from_archive_reasons archive.refusal archive.reasons archive.valueReasons archive.scaled_reasons lengthReasons orderReasons formReasons
+unfolding from_archive_reasons archive.refusal archive.reasons archive.value_reasons archive.scaled_reasons length_reasons order_reasons form_reasons
 from-archive-twelve c s t = record { to = λ e. to (eqb (archive.refusal s) 0) refl (sym parted ∙ e); from = from }
   where
     later : List Line
@@ -106,10 +106,10 @@ from-archive-twelve c s t = record { to = λ e. to (eqb (archive.refusal s) 0) r
     from (inl p) = parted ∙ rw ((archive-twelve s).from p)
     from (inr p) = parted ∙ rw p.0 ((later-twelve c s t).from (p.1, p.2))
 
-pub testing-twelve : (lab s t answer : List ℕ) → Iff (testing_returned lab s t answer ≡ 12) ((length answer ≡ 168) × (badTable lab ≡ false) × EitherFalls s t)
+pub testing-twelve : (lab s t answer : List ℕ) → Iff (testing_returned lab s t answer ≡ 12) ((length answer ≡ 168) × (bad_table lab ≡ false) × EitherFalls s t)
 testing-twelve lab s t answer =
     let i = call-gives (testing_call s t) lab answer 12 (λ z. omega arith) (λ z. omega arith) in
-    let j = from-archive-twelve (cutoffsIn lab) s t in
+    let j = from-archive-twelve (cutoffs_in lab) s t in
     record {
       to = λ e. let p = i.to e in (eqb-true (length answer) 168 p.0, p.1, j.to p.2);
       from = λ p. i.from (eq-eqb (length answer) 168 p.0, p.1, j.from p.2);

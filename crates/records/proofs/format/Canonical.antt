@@ -14,11 +14,11 @@ use Rattle.records.specs.declared.Field.{Field}
 use Rattle.records.specs.declared.Field.TheVariants.{Index, Number, Unused}
 use Rattle.records.specs.format.Bytes.{byte, word, long, bytes_of}
 use Rattle.records.specs.format.Scan.{any}
-use Rattle.records.specs.format.Kinds.{holds, width, indexOf, Table, kindAt, kind_numbers}
+use Rattle.records.specs.format.Kinds.{holds, width, index_of, Table, kind_at, kind_numbers}
 use Rattle.records.specs.format.Cells.{slot_count, slot}
-use Rattle.records.specs.format.File.{count, kind_of, row_of, column_of, padding_of, count_of, bits_of, cell_row, cell_column, cell_count, beyond, isCell, has, missing}
-use Rattle.records.specs.format.Order.{numbersMatrix, standsBefore, falls}
-use Rattle.records.specs.format.Written.{recordOf, Content, field_of, cell_record, file_of}
+use Rattle.records.specs.format.File.{count, kind_of, row_of, column_of, padding_of, count_of, bits_of, cell_row, cell_column, cell_count, beyond, is_cell, has, missing}
+use Rattle.records.specs.format.Order.{numbers_matrix, stands_before, falls}
+use Rattle.records.specs.format.Written.{record_of, Content, field_of, cell_record, file_of}
 use Rattle.records.proofs.format.ScanLaws.{any_none, any-none-cells, any_found, climbs}
 use Rattle.records.proofs.format.Slots.{within, Inside, sized_inside, slot-below, slot-cell}
 use Rattle.records.proofs.format.WrittenLaws.{length-file, byte-file}
@@ -127,7 +127,7 @@ module _ (s : List ℕ) (bytes : (i : ℕ) → byte s i < 256) where
       ap (bytes_of 8) e ∙ bytes-little 8 (λ o. byte s (a + o)) (λ o. bytes (a + o))
 
   -- so the record of a record's own fields has its bytes
-  pub record-back : (i o : ℕ) → padding_of s i ≡ 0 → o < 16 → byte (recordOf (kind_of s i) (row_of s i) (column_of s i) (count_of s i) (bits_of s i)) o ≡ byte s (16 * i + o)
+  pub record-back : (i o : ℕ) → padding_of s i ≡ 0 → o < 16 → byte (record_of (kind_of s i) (row_of s i) (column_of s i) (count_of s i) (bits_of s i)) o ≡ byte s (16 * i + o)
   unfolding listed
   record-back i o p l = ap (λ (b : List ℕ). byte b o) whole ∙ byte-listed 16 (λ o. byte s (16 * i + o)) o l
     where
@@ -137,12 +137,12 @@ module _ (s : List ℕ) (bytes : (i : ℕ) → byte s i < 256) where
       bits : bytes_of 8 (bits_of s i) ≡ listed 8 (λ o. byte s (16 * i + (8 + o)))
       bits = bytes-long (16 * i + 8) ∙ listed_same 8 (λ o. byte s (16 * i + 8 + o)) (λ o. byte s (16 * i + (8 + o))) (λ o. ap (byte s) (on (16 * i) 8 o))
 
-      whole : recordOf (kind_of s i) (row_of s i) (column_of s i) (count_of s i) (bits_of s i) ≡ listed 16 (λ o. byte s (16 * i + o))
+      whole : record_of (kind_of s i) (row_of s i) (column_of s i) (count_of s i) (bits_of s i) ≡ listed 16 (λ o. byte s (16 * i + o))
       whole = ap₂ (λ (x : ℕ) (y : List ℕ). x ∷ row_of s i ∷ column_of s i ∷ y) (ap (byte s) (sym (add-zero (16 * i)))) (ap₂ (λ (x : ℕ) (y : List ℕ). x ∷ y) (sym p) (ap₂ ◌++◌ number bits))
 
 -- ---- a field that tells its cells apart is written as it was read
-field_back : (g : Field) (x y : ℕ) → tells g ≡ true → holds g x ≡ true → field_of g (indexOf g x) y ≡ x
-unfolding holds indexOf field_of
+field_back : (g : Field) (x y : ℕ) → tells g ≡ true → holds g x ≡ true → field_of g (index_of g x) y ≡ x
+unfolding holds index_of field_of
 field_back (Index limit) x y e h = refl
 field_back Number x y e h = absurd (false≢true e)
 field_back Unused x y e h = sym (eqb-true x 0 h)
@@ -168,14 +168,14 @@ module _ (t : Table) (s : List ℕ) (f : ℕ → ℕ → ℕ → ℕ → Content
   near : (i : ℕ) → i < count s → beyond t s i ≡ false
   near i l = any_none (count s) (beyond t s) i l w.sized
 
-  inside : (i : ℕ) → i < count s → Inside (kindAt t (kind_of s i)) (cell_count t s i) (cell_row t s i) (cell_column t s i)
+  inside : (i : ℕ) → i < count s → Inside (kind_at t (kind_of s i)) (cell_count t s i) (cell_row t s i) (cell_column t s i)
   inside i l = sized_inside t s i (near i l)
 
   -- some record names each cell
-  cell-had : (k n r c : ℕ) → k < kind_numbers → Inside (kindAt t k) n r c → has t s k n r c ≡ true
+  cell-had : (k n r c : ℕ) → k < kind_numbers → Inside (kind_at t k) n r c → has t s k n r c ≡ true
   unfolding missing
   cell-had k n r c l v =
-      let z = kindAt t k in
+      let z = kind_at t k in
       let full = (orderly-at t k w.table).full in
       let none = any_none kind_numbers (missing t s) k l w.complete in
       let cells = rw full at none in
@@ -186,7 +186,7 @@ module _ (t : Table) (s : List ℕ) (f : ℕ → ℕ → ℕ → ℕ → Content
   unfolding has
   attained j l =
       let x = cell-of t j l in
-      let y = any_found (count s) (isCell t s x.kind x.number x.row x.column) (cell-had x.kind x.number x.row x.column x.below x.inside) in
+      let y = any_found (count s) (is_cell t s x.kind x.number x.row x.column) (cell-had x.kind x.number x.row x.column x.below x.inside) in
       record {
         index = y.index;
         below = y.below;
@@ -201,8 +201,8 @@ module _ (t : Table) (s : List ℕ) (f : ℕ → ℕ → ℕ → ℕ → Content
         short = λ i l. slot-below t (kind_of s i) (cell_count t s i) (cell_row t s i) (cell_column t s i) kind_numbers (inside i l) (w.kinds i l);
         rises = λ i l.
             let e = before-slot t s i (i + 1) w.table (near i (omega arith)) (near (i + 1) l) in
-            let b = any_none (count s - 1) (λ i. not (standsBefore s i (i + 1))) i (omega arith) w.order in
-            ltb-true (named i) (named (i + 1)) (sym e ∙ not-false (standsBefore s i (i + 1)) b);
+            let b = any_none (count s - 1) (λ i. not (stands_before s i (i + 1))) i (omega arith) w.order in
+            ltb-true (named i) (named (i + 1)) (sym e ∙ not-false (stands_before s i (i + 1)) b);
         reaches = attained;
       }
 
@@ -215,20 +215,20 @@ module _ (t : Table) (s : List ℕ) (f : ℕ → ℕ → ℕ → ℕ → Content
 
   -- its cell is written as the record that it is
   cell-back : (i : ℕ) → i < count s
-      → cell_record (kindAt t (kind_of s i)) (kind_of s i) (cell_count t s i) (cell_row t s i) (cell_column t s i) (f (kind_of s i) (cell_count t s i) (cell_row t s i) (cell_column t s i))
-      ≡ recordOf (kind_of s i) (row_of s i) (column_of s i) (count_of s i) (bits_of s i)
+      → cell_record (kind_at t (kind_of s i)) (kind_of s i) (cell_count t s i) (cell_row t s i) (cell_column t s i) (f (kind_of s i) (cell_count t s i) (cell_row t s i) (cell_column t s i))
+      ≡ record_of (kind_of s i) (row_of s i) (column_of s i) (count_of s i) (bits_of s i)
   unfolding cell_record beyond
   cell-back i l =
       let k = kind_of s i in
-      let z = kindAt t k in
+      let z = kind_at t k in
       let v = f k (cell_count t s i) (cell_row t s i) (cell_column t s i) in
       let o = orderly-at t k w.table in
       let h = within z s i (near i l) in
       let r : field_of z.row (cell_row t s i) v.row ≡ row_of s i = field_back z.row (row_of s i) v.row o.row h.row in
       let c : field_of z.column (cell_column t s i) v.column ≡ column_of s i = field_back z.column (column_of s i) v.column o.column h.column in
-      let n : field_of z.count (cell_count t s i) v.count ≡ count_of s i = field_back z.count (count_of s i) v.count (told-count z.count (numbersMatrix k) o.number) h.number in
-      ap₂ (λ (x y : ℕ). recordOf k x y (field_of z.count (cell_count t s i) v.count) v.bits) r c
-      ∙ ap₂ (λ (x y : ℕ). recordOf k (row_of s i) (column_of s i) x y) n (w.says i l)
+      let n : field_of z.count (cell_count t s i) v.count ≡ count_of s i = field_back z.count (count_of s i) v.count (told-count z.count (numbers_matrix k) o.number) h.number in
+      ap₂ (λ (x y : ℕ). record_of k x y (field_of z.count (cell_count t s i) v.count) v.bits) r c
+      ∙ ap₂ (λ (x y : ℕ). record_of k (row_of s i) (column_of s i) x y) n (w.says i l)
 
   -- each byte of a record is the written file's
   byte-back : (i o : ℕ) → i < count s → o < 16 → byte s (16 * i + o) ≡ byte (file_of t f) (16 * i + o)

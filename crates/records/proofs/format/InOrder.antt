@@ -11,10 +11,10 @@ use borrow.Author.Tests.{eqb-true, eq-eqb, ne_eqb, lt-ltb, le-ltb, not-true}
 use Rattle.records.specs.declared.Field.{Field}
 use Rattle.records.specs.declared.Field.TheVariants.{Index, Number, Unused}
 use Rattle.records.specs.declared.Kind.{Kind}
-use Rattle.records.specs.format.Kinds.{holds, width, indexOf, Table, kindAt}
+use Rattle.records.specs.format.Kinds.{holds, width, index_of, Table, kind_at}
 use Rattle.records.specs.format.Cells.{first_slot, slot_count, offset, slot}
 use Rattle.records.specs.format.File.{count, kind_of, row_of, column_of, count_of, cell_row, cell_column, cell_count, beyond}
-use Rattle.records.specs.format.Order.{numbersMatrix, matrixOf, then_by, standsBefore, falls}
+use Rattle.records.specs.format.Order.{numbers_matrix, matrix_of, then_by, stands_before, falls}
 use Rattle.records.specs.format.Written.{Content, file_of}
 use Rattle.records.proofs.format.ScanLaws.{and-true, none_any}
 use Rattle.records.proofs.format.Slots.{within, Inside, sized_inside, packed, slot-below}
@@ -36,7 +36,7 @@ tells_count Unused numbers = true
 
 -- a kind, by its number; no cell of it may be absent
 abbrev pub orderly_kind : ℕ → Kind → Bool
-orderly_kind k z = tells_count z.count (numbersMatrix k) && tells z.row && tells z.column && not z.sparse
+orderly_kind k z = tells_count z.count (numbers_matrix k) && tells z.row && tells z.column && not z.sparse
 
 abbrev pub orderly : Table → Bool
 orderly [] = true
@@ -44,39 +44,39 @@ orderly (e ∷ t) = orderly_kind e.0 e.1 && orderly t
 
 -- so each kind of it, a kind that is not listed too
 pub record Orderly (k : ℕ) (z : Kind) : Type 0 where
-  pub number : tells_count z.count (numbersMatrix k) ≡ true
+  pub number : tells_count z.count (numbers_matrix k) ≡ true
   pub row : tells z.row ≡ true
   pub column : tells z.column ≡ true
   pub full : z.sparse ≡ false
 
 orderly-kind : (k : ℕ) (z : Kind) → orderly_kind k z ≡ true → Orderly k z
 orderly-kind k z e =
-    let a = and-true (tells_count z.count (numbersMatrix k) && tells z.row && tells z.column) (not z.sparse) e in
-    let b = and-true (tells_count z.count (numbersMatrix k) && tells z.row) (tells z.column) a.0 in
-    let c = and-true (tells_count z.count (numbersMatrix k)) (tells z.row) b.0 in
+    let a = and-true (tells_count z.count (numbers_matrix k) && tells z.row && tells z.column) (not z.sparse) e in
+    let b = and-true (tells_count z.count (numbers_matrix k) && tells z.row) (tells z.column) a.0 in
+    let c = and-true (tells_count z.count (numbers_matrix k)) (tells z.row) b.0 in
     record { number = c.0; row = c.1; column = b.1; full = not-true z.sparse a.1 }
 
-pub orderly-at : (t : Table) (k : ℕ) → orderly t ≡ true → Orderly k (kindAt t k)
-unfolding kindAt
+pub orderly-at : (t : Table) (k : ℕ) → orderly t ≡ true → Orderly k (kind_at t k)
+unfolding kind_at
 orderly-at [] k h = record { number = refl; row = refl; column = refl; full = refl }
 orderly-at (e ∷ t) k h =
     let p = and-true (orderly_kind e.0 e.1) (orderly t) h in
     go p.0 (orderly-at t k p.1) (eqb k e.0) refl
   where
-    go : orderly_kind e.0 e.1 ≡ true → Orderly k (kindAt t k) → (b : Bool) → eqb k e.0 ≡ b → Orderly k (cond b e.1 (kindAt t k))
+    go : orderly_kind e.0 e.1 ≡ true → Orderly k (kind_at t k) → (b : Bool) → eqb k e.0 ≡ b → Orderly k (cond b e.1 (kind_at t k))
     go x y true q = orderly-kind k e.1 (ap (λ (j : ℕ). orderly_kind j e.1) (eqb-true k e.0 q) ∙ x)
     go x y false q = y
 
 -- ---- what a field holds is the index by which it names its cell
-pub told : (g : Field) (x : ℕ) → tells g ≡ true → holds g x ≡ true → x ≡ indexOf g x
-unfolding holds indexOf
+pub told : (g : Field) (x : ℕ) → tells g ≡ true → holds g x ≡ true → x ≡ index_of g x
+unfolding holds index_of
 told (Index limit) x e h = refl
 told Number x e h = absurd (false≢true e)
 told Unused x e h = eqb-true x 0 h
 
 -- of a count the order reads nothing else
-told-matrix : (g : Field) (b : Bool) (x : ℕ) → tells_count g b ≡ true → holds g x ≡ true → cond b x 0 ≡ indexOf g x
-unfolding holds indexOf
+told-matrix : (g : Field) (b : Bool) (x : ℕ) → tells_count g b ≡ true → holds g x ≡ true → cond b x 0 ≡ index_of g x
+unfolding holds index_of
 told-matrix (Index limit) true x e h = refl
 told-matrix (Index limit) false x e h = absurd (false≢true e)
 told-matrix Number b x e h = absurd (false≢true e)
@@ -121,7 +121,7 @@ by-offset z n r c n' r' c' w w' =
     place n r c R C = omega arith
 
 -- and of any kinds as their slots
-by-slot : (t : Table) (k n r c k' n' r' c' : ℕ) → Inside (kindAt t k) n r c → Inside (kindAt t k') n' r' c'
+by-slot : (t : Table) (k n r c k' n' r' c' : ℕ) → Inside (kind_at t k) n r c → Inside (kind_at t k') n' r' c'
     → then_by k k' (then_by n n' (then_by r r' (ltb c c'))) ≡ ltb (slot t k n r c) (slot t k' n' r' c')
 unfolding slot
 by-slot t k n r c k' n' r' c' w w' = go (dec_lt k k') (dec_lt k' k)
@@ -133,8 +133,8 @@ by-slot t k n r c k' n' r' c' w w' = go (dec_lt k k') (dec_lt k' k)
         rw (le-ltb k k' (omega arith), ne_eqb k k' (λ e. omega arith)) (sym (le-ltb (slot t k n r c) (slot t k' n' r' c') (omega arith)))
     go (no h) (no g) =
         let q : k ≡ k' = omega arith in
-        let v : Inside (kindAt t k') n r c = rw q at w in
-        rw (q, le-ltb k' k' (omega arith), eq-eqb k' k' refl) (by-offset (kindAt t k') n r c n' r' c' v w' ∙ after (first_slot t k') (offset (kindAt t k') n r c) (offset (kindAt t k') n' r' c'))
+        let v : Inside (kind_at t k') n r c = rw q at w in
+        rw (q, le-ltb k' k' (omega arith), eq-eqb k' k' refl) (by-offset (kind_at t k') n r c n' r' c' v w' ∙ after (first_slot t k') (offset (kind_at t k') n r c) (offset (kind_at t k') n' r' c'))
       where
         after : (a x y : ℕ) → ltb x y ≡ ltb (a + x) (a + y)
         after a x y = below (dec_lt x y)
@@ -146,26 +146,26 @@ by-slot t k n r c k' n' r' c' w w' = go (dec_lt k k') (dec_lt k' k)
 -- ---- two records
 -- what the order reads of a record within the table is its cell
 record ReadsCell (t : Table) (s : List ℕ) (i : ℕ) : Type 0 where
-  number : matrixOf s i ≡ cell_count t s i
+  number : matrix_of s i ≡ cell_count t s i
   row : row_of s i ≡ cell_row t s i
   column : column_of s i ≡ cell_column t s i
 
 reads-cell : (t : Table) (s : List ℕ) (i : ℕ) → orderly t ≡ true → beyond t s i ≡ false → ReadsCell t s i
-unfolding beyond matrixOf
+unfolding beyond matrix_of
 reads-cell t s i h b =
-    let z = kindAt t (kind_of s i) in
+    let z = kind_at t (kind_of s i) in
     let o = orderly-at t (kind_of s i) h in
     let w = within z s i b in
     record {
-      number = told-matrix z.count (numbersMatrix (kind_of s i)) (count_of s i) o.number w.number;
+      number = told-matrix z.count (numbers_matrix (kind_of s i)) (count_of s i) o.number w.number;
       row = told z.row (row_of s i) o.row w.row;
       column = told z.column (column_of s i) o.column w.column;
     }
 
 -- THE ORDER OF TWO RECORDS IS THAT OF THEIR CELLS' NUMBERS
 pub before-slot : (t : Table) (s : List ℕ) (i j : ℕ) → orderly t ≡ true → beyond t s i ≡ false → beyond t s j ≡ false
-    → standsBefore s i j ≡ ltb (slot t (kind_of s i) (cell_count t s i) (cell_row t s i) (cell_column t s i)) (slot t (kind_of s j) (cell_count t s j) (cell_row t s j) (cell_column t s j))
-unfolding standsBefore
+    → stands_before s i j ≡ ltb (slot t (kind_of s i) (cell_count t s i) (cell_row t s i) (cell_column t s i)) (slot t (kind_of s j) (cell_count t s j) (cell_row t s j) (cell_column t s j))
+unfolding stands_before
 before-slot t s i j h a b =
     let x = reads-cell t s i h a in
     let y = reads-cell t s j h b in
@@ -177,12 +177,12 @@ before-slot t s i j h a b =
 -- A WRITTEN FILE RISES: record i of it names cell number i
 pub written-rises : (t : Table) (f : ℕ → ℕ → ℕ → ℕ → Content) → Fitting t f → orderly t ≡ true → falls (file_of t f) ≡ false
 unfolding falls
-written-rises t f fit h = none_any (count s - 1) (λ i. not (standsBefore s i (i + 1))) (λ i l. ap not (rises i (let e = count-file t f in omega arith)))
+written-rises t f fit h = none_any (count s - 1) (λ i. not (stands_before s i (i + 1))) (λ i l. ap not (rises i (let e = count-file t f in omega arith)))
   where
     s : List ℕ
     s = file_of t f
 
-    rises : (i : ℕ) → i + 1 < slot_count t → standsBefore s i (i + 1) ≡ true
+    rises : (i : ℕ) → i + 1 < slot_count t → stands_before s i (i + 1) ≡ true
     rises i l =
         let m : i < slot_count t = omega arith in
         before-slot t s i (i + 1) h (file-beyond t f fit i m) (file-beyond t f fit (i + 1) l)

@@ -12,15 +12,15 @@ use Rattle.records.specs.declared.Field.{Field}
 use Rattle.records.specs.declared.Field.TheVariants.{Index, Number, Unused}
 use Rattle.records.specs.declared.Kind.{Kind}
 use Rattle.records.specs.format.Scan.{any}
-use Rattle.records.specs.format.Kinds.{holds, width, indexOf, Table, kindAt}
+use Rattle.records.specs.format.Kinds.{holds, width, index_of, Table, kind_at}
 use Rattle.records.specs.format.Cells.{slots, first_slot, offset, slot}
-use Rattle.records.specs.format.File.{kind_of, row_of, column_of, count_of, out_of, badRecord, beyond, cell_row, cell_column, cell_count, isCell}
+use Rattle.records.specs.format.File.{kind_of, row_of, column_of, count_of, out_of, bad_record, beyond, cell_row, cell_column, cell_count, is_cell}
 use Rattle.records.proofs.format.ScanLaws.{and-true, or-false, same_truth, any-split, total-more, total-le}
 
 -- ---- a field
 -- what it holds names a cell that it tells apart
-pub holds-index : (f : Field) (x : ℕ) → holds f x ≡ true → indexOf f x < width f
-unfolding holds width indexOf
+pub holds-index : (f : Field) (x : ℕ) → holds f x ≡ true → index_of f x < width f
+unfolding holds width index_of
 holds-index (Index limit) x e = ltb-true x limit e
 holds-index Number x e = omega arith
 holds-index Unused x e = omega arith
@@ -45,15 +45,15 @@ pub record Inside (z : Kind) (n r c : ℕ) : Type 0 where
   pub column : c < width z.column
 
 -- a record that is not bad lies within the limits, and one that is not beyond within the sizes
-pub good-within : (t : Table) (s : List ℕ) (i : ℕ) → badRecord t s i ≡ false → out_of (kindAt t (kind_of s i)) s i ≡ false
-unfolding badRecord
+pub good-within : (t : Table) (s : List ℕ) (i : ℕ) → bad_record t s i ≡ false → out_of (kind_at t (kind_of s i)) s i ≡ false
+unfolding bad_record
 good-within t s i e = (or-false _ _ (or-false _ _ e).0).0
 
 -- and so it names a cell of its kind
-pub sized_inside : (t : Table) (s : List ℕ) (i : ℕ) → beyond t s i ≡ false → Inside (kindAt t (kind_of s i)) (cell_count t s i) (cell_row t s i) (cell_column t s i)
+pub sized_inside : (t : Table) (s : List ℕ) (i : ℕ) → beyond t s i ≡ false → Inside (kind_at t (kind_of s i)) (cell_count t s i) (cell_row t s i) (cell_column t s i)
 unfolding beyond
 sized_inside t s i e =
-    let z = kindAt t (kind_of s i) in
+    let z = kind_at t (kind_of s i) in
     let w = within z s i e in
     record { number = holds-index z.count (count_of s i) w.number; row = holds-index z.row (row_of s i) w.row; column = holds-index z.column (column_of s i) w.column }
 
@@ -88,24 +88,24 @@ offset-same z n r c n' r' c' w w' e =
     record { number = y.0; row = y.1; column = x.1 }
 
 -- ---- a cell's slot
-pub slot-below : (t : Table) (k n r c m : ℕ) → Inside (kindAt t k) n r c → k < m → slot t k n r c < first_slot t m
+pub slot-below : (t : Table) (k n r c m : ℕ) → Inside (kind_at t k) n r c → k < m → slot t k n r c < first_slot t m
 unfolding slot first_slot
 slot-below t k n r c m w l =
-    let a = offset-below (kindAt t k) n r c w in
-    let b = total-more k (λ j. slots (kindAt t j)) in
-    let d = total-le (k + 1) m (λ j. slots (kindAt t j)) (omega arith) in
+    let a = offset-below (kind_at t k) n r c w in
+    let b = total-more k (λ j. slots (kind_at t j)) in
+    let d = total-le (k + 1) m (λ j. slots (kind_at t j)) (omega arith) in
     omega arith
 
 slot-from : (t : Table) (k n r c : ℕ) → first_slot t k ≤ slot t k n r c
 unfolding slot
 slot-from t k n r c = omega arith
 
-slot-cells : (t : Table) (k n r c n' r' c' : ℕ) → Inside (kindAt t k) n r c → Inside (kindAt t k) n' r' c' → slot t k n r c ≡ slot t k n' r' c' → Same n r c n' r' c'
+slot-cells : (t : Table) (k n r c n' r' c' : ℕ) → Inside (kind_at t k) n r c → Inside (kind_at t k) n' r' c' → slot t k n r c ≡ slot t k n' r' c' → Same n r c n' r' c'
 unfolding slot
-slot-cells t k n r c n' r' c' w w' e = offset-same (kindAt t k) n r c n' r' c' w w' (omega arith)
+slot-cells t k n r c n' r' c' w w' e = offset-same (kind_at t k) n r c n' r' c' w w' (omega arith)
 
 -- two cells of one slot are the same cell
-pub slot_same : (t : Table) (k n r c k' n' r' c' : ℕ) → Inside (kindAt t k) n r c → Inside (kindAt t k') n' r' c' → slot t k n r c ≡ slot t k' n' r' c' → (k ≡ k') × Same n r c n' r' c'
+pub slot_same : (t : Table) (k n r c k' n' r' c' : ℕ) → Inside (kind_at t k) n r c → Inside (kind_at t k') n' r' c' → slot t k n r c ≡ slot t k' n' r' c' → (k ≡ k') × Same n r c n' r' c'
 slot_same t k n r c k' n' r' c' w w' e = go (dec_lt k k') (dec_lt k' k)
   where
     go : Dec (k < k') → Dec (k' < k) → (k ≡ k') × Same n r c n' r' c'
@@ -113,7 +113,7 @@ slot_same t k n r c k' n' r' c' w w' e = go (dec_lt k k') (dec_lt k' k)
     go (no h) (yes g) = let a = slot-below t k' n' r' c' k w' g in let b = slot-from t k n r c in absurd (omega arith)
     go (no h) (no g) =
         let q : k ≡ k' = omega arith in
-        let v : Inside (kindAt t k') n r c = rw q at w in
+        let v : Inside (kind_at t k') n r c = rw q at w in
         let f : slot t k' n r c ≡ slot t k' n' r' c' = sym (ap (λ (j : ℕ). slot t j n r c) q) ∙ e in
         (q, slot-cells t k' n r c n' r' c' v w' f)
 
@@ -124,22 +124,22 @@ pub record Names (t : Table) (s : List ℕ) (k n r c i : ℕ) : Type 0 where
   pub number : cell_count t s i ≡ n
   pub column : cell_column t s i ≡ c
 
-pub cell-names : (t : Table) (s : List ℕ) (k n r c i : ℕ) → isCell t s k n r c i ≡ true → Names t s k n r c i
-unfolding isCell
+pub cell-names : (t : Table) (s : List ℕ) (k n r c i : ℕ) → is_cell t s k n r c i ≡ true → Names t s k n r c i
+unfolding is_cell
 cell-names t s k n r c i e =
     let f = and-true (eqb (kind_of s i) k && eqb (cell_row t s i) r && eqb (cell_count t s i) n) (eqb (cell_column t s i) c) e in
     let g = and-true (eqb (kind_of s i) k && eqb (cell_row t s i) r) (eqb (cell_count t s i) n) f.0 in
     let h = and-true (eqb (kind_of s i) k) (eqb (cell_row t s i) r) g.0 in
     record { kind = eqb-true _ _ h.0; row = eqb-true _ _ h.1; number = eqb-true _ _ g.1; column = eqb-true _ _ f.1 }
 
-pub names-cell : (t : Table) (s : List ℕ) (k n r c i : ℕ) → Names t s k n r c i → isCell t s k n r c i ≡ true
-unfolding isCell
+pub names-cell : (t : Table) (s : List ℕ) (k n r c i : ℕ) → Names t s k n r c i → is_cell t s k n r c i ≡ true
+unfolding is_cell
 names-cell t s k n r c i w = rw (eq-eqb (kind_of s i) k w.kind, eq-eqb (cell_row t s i) r w.row, eq-eqb (cell_count t s i) n w.number, eq-eqb (cell_column t s i) c w.column)
 
 -- a record within the sizes stands in a cell's slot exactly where it names the cell
-pub slot-cell : (t : Table) (s : List ℕ) (k n r c i : ℕ) → beyond t s i ≡ false → Inside (kindAt t k) n r c → eqb (slot t (kind_of s i) (cell_count t s i) (cell_row t s i) (cell_column t s i)) (slot t k n r c) ≡ isCell t s k n r c i
+pub slot-cell : (t : Table) (s : List ℕ) (k n r c i : ℕ) → beyond t s i ≡ false → Inside (kind_at t k) n r c → eqb (slot t (kind_of s i) (cell_count t s i) (cell_row t s i) (cell_column t s i)) (slot t k n r c) ≡ is_cell t s k n r c i
 slot-cell t s k n r c i g w =
-    same_truth (eqb (slot t (kind_of s i) (cell_count t s i) (cell_row t s i) (cell_column t s i)) (slot t k n r c)) (isCell t s k n r c i)
+    same_truth (eqb (slot t (kind_of s i) (cell_count t s i) (cell_row t s i) (cell_column t s i)) (slot t k n r c)) (is_cell t s k n r c i)
     (λ e.
     let x = slot_same t (kind_of s i) (cell_count t s i) (cell_row t s i) (cell_column t s i) k n r c (sized_inside t s i g) w (eqb-true _ _ e) in
     names-cell t s k n r c i (record { kind = x.0; row = x.1.row; number = x.1.number; column = x.1.column }))

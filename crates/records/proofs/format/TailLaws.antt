@@ -12,12 +12,12 @@ use lib.ListN.{length, take, drop, length-drop}
 use lib.Seq.{get_or-drop, drop-drop, take-add, take_all}
 use lib.Ieee.{binary64, of_bits}
 use borrow.Author.Tests.{eqb-true, eqb-false, ltb-true, not-false, ne_eqb}
-use Rattle.arithmetic.specs.Numbers.{plusZero}
+use Rattle.arithmetic.specs.Numbers.{plus_zero}
 use Rattle.records.specs.format.Bytes.{byte}
 use Rattle.records.specs.format.Scan.{any, most, last}
-use Rattle.records.specs.format.Kinds.{Table, kindAt, width, unread}
-use Rattle.records.specs.format.File.{count, kind_of, row_of, column_of, padding_of, count_of, bits_of, value_of, out_of, badRecord, cell_count, cell_row, cell_column, isCell, again, has, cell, rows, beyond, missing, notFinite}
-use Rattle.records.specs.format.Order.{matrixOf, then_by, standsBefore, falls}
+use Rattle.records.specs.format.Kinds.{Table, kind_at, width, unread}
+use Rattle.records.specs.format.File.{count, kind_of, row_of, column_of, padding_of, count_of, bits_of, value_of, out_of, bad_record, cell_count, cell_row, cell_column, is_cell, again, has, cell, rows, beyond, missing, not_finite}
+use Rattle.records.specs.format.Order.{matrix_of, then_by, stands_before, falls}
 use Rattle.records.specs.format.Written.{sequence, record_at, records_of}
 use Rattle.records.specs.readers.SecondFile.{is_test_kind}
 use Rattle.records.proofs.format.ScanLaws.{any_none, none_any, any_same, any-split, most-same, most-split, most-zero, last-same, last-split, last_none, climbs}
@@ -80,22 +80,22 @@ module _ (s : List ℕ) (m : ℕ) where
   value-tail i = ap (of_bits binary64) (bits-tail i)
 
   -- its order
-  matrix-tail : (i : ℕ) → matrixOf (records_from s m) i ≡ matrixOf s (m + i)
-  unfolding matrixOf
+  matrix-tail : (i : ℕ) → matrix_of (records_from s m) i ≡ matrix_of s (m + i)
+  unfolding matrix_of
   matrix-tail i = rw (kind-tail i, number-tail i)
 
-  stands-tail : (i j : ℕ) → standsBefore (records_from s m) i j ≡ standsBefore s (m + i) (m + j)
-  unfolding standsBefore
+  stands-tail : (i j : ℕ) → stands_before (records_from s m) i j ≡ stands_before s (m + i) (m + j)
+  unfolding stands_before
   stands-tail i j = rw (kind-tail i, kind-tail j, matrix-tail i, matrix-tail j, row-tail i, row-tail j, column-tail i, column-tail j)
 
   -- the tail of a file that rises rises
   pub falls-tail : falls s ≡ false → falls (records_from s m) ≡ false
   unfolding falls
   falls-tail h =
-      none_any (count (records_from s m) - 1) (λ i. not (standsBefore (records_from s m) i (i + 1)))
+      none_any (count (records_from s m) - 1) (λ i. not (stands_before (records_from s m) i (i + 1)))
       (λ i l.
       let e = count-tail in
-      ap not (stands-tail i (i + 1) ∙ ap (standsBefore s (m + i)) (place i)) ∙ any_none (count s - 1) (λ j. not (standsBefore s j (j + 1))) (m + i) (omega arith) h)
+      ap not (stands-tail i (i + 1) ∙ ap (stands_before s (m + i)) (place i)) ∙ any_none (count s - 1) (λ j. not (stands_before s j (j + 1))) (m + i) (omega arith) h)
     where
       place : (i : ℕ) → m + (i + 1) ≡ m + i + 1
       place i = omega arith
@@ -112,10 +112,10 @@ then_by-le x y rest e = go (ltb x y) refl (eqb x y) refl e
 
 -- so a record's kind is no less than an earlier one's
 kinds-rise : (s : List ℕ) → falls s ≡ false → (i j : ℕ) → i ≤ j → j < count s → kind_of s i ≤ kind_of s j
-unfolding falls standsBefore
+unfolding falls stands_before
 kinds-rise s h =
     climbs (count s) (kind_of s)
-    (λ i l. then_by-le (kind_of s i) (kind_of s (i + 1)) _ (not-false _ (any_none (count s - 1) (λ k. not (standsBefore s k (k + 1))) i (omega arith) h)))
+    (λ i l. then_by-le (kind_of s i) (kind_of s (i + 1)) _ (not-false _ (any_none (count s - 1) (λ k. not (stands_before s k (k + 1))) i (omega arith) h)))
 
 -- of the first n records those of kinds below b, the first so many, stand before the others
 pub record Parted (s : List ℕ) (b n : ℕ) : Type 0 where
@@ -191,12 +191,12 @@ tests-tail s x whole low = records-tail is_test_kind s x.place x.inside whole (�
 
 -- ---- of the kinds from b on the tail has what the file has
 -- a record of another kind does not name the cell
-is_cell-other : (t : Table) (s : List ℕ) (k n r c i : ℕ) → (kind_of s i ≡ k → ⊥) → isCell t s k n r c i ≡ false
-unfolding isCell
+is_cell-other : (t : Table) (s : List ℕ) (k n r c i : ℕ) → (kind_of s i ≡ k → ⊥) → is_cell t s k n r c i ≡ false
+unfolding is_cell
 is_cell-other t s k n r c i h = rw (ne_eqb (kind_of s i) k h)
 
 -- no cell of a kind that the table does not read is missing
-pub missing-unread : (t : Table) (s : List ℕ) (k : ℕ) → kindAt t k ≡ unread → missing t s k ≡ false
+pub missing-unread : (t : Table) (s : List ℕ) (k : ℕ) → kind_at t k ≡ unread → missing t s k ≡ false
 unfolding missing any width
 missing-unread t s k e = rw e
 
@@ -232,27 +232,27 @@ module _ (s : List ℕ) (b : ℕ) (x : Parted s b (count s)) where
       ∙ ap (λ (n : ℕ). most n (λ i. cond (eqb (kind_of s i) k) (row_of s i + 1) 0)) count-parted
 
   -- and its values
-  pub not_finite-parted : (i : ℕ) → notFinite u i ≡ notFinite s (m + i)
-  unfolding notFinite
+  pub not_finite-parted : (i : ℕ) → not_finite u i ≡ not_finite s (m + i)
+  unfolding not_finite
   not_finite-parted i = rw (bits-tail s m i)
 
   -- by a table t of the file and a table v of the tail that say the same of these kinds
-  module _ (t v : Table) (agree : (k : ℕ) → b ≤ k → kindAt v k ≡ kindAt t k) where
+  module _ (t v : Table) (agree : (k : ℕ) → b ≤ k → kind_at v k ≡ kind_at t k) where
     -- a record is bad, lies beyond the sizes, or names a cell, in both or in neither
-    pub bad-parted : (i : ℕ) → i < count u → badRecord v u i ≡ badRecord t s (m + i)
-    unfolding badRecord out_of
+    pub bad-parted : (i : ℕ) → i < count u → bad_record v u i ≡ bad_record t s (m + i)
+    unfolding bad_record out_of
     bad-parted i l = rw (kind-tail s m i, row-tail s m i, column-tail s m i, padding-tail s m i, number-tail s m i, bits-tail s m i, agree (kind_of s (m + i)) (kind-parted i l))
 
     pub beyond-parted : (i : ℕ) → i < count u → beyond v u i ≡ beyond t s (m + i)
     unfolding beyond out_of
     beyond-parted i l = rw (kind-tail s m i, row-tail s m i, column-tail s m i, number-tail s m i, agree (kind_of s (m + i)) (kind-parted i l))
 
-    is_cell-parted : (k n r c i : ℕ) → i < count u → isCell v u k n r c i ≡ isCell t s k n r c (m + i)
-    unfolding isCell
+    is_cell-parted : (k n r c i : ℕ) → i < count u → is_cell v u k n r c i ≡ is_cell t s k n r c (m + i)
+    unfolding is_cell
     is_cell-parted k n r c i l = rw (kind-tail s m i, row-tail s m i, column-tail s m i, number-tail s m i, agree (kind_of s (m + i)) (kind-parted i l))
 
     -- no record before the tail names a cell of such a kind
-    is_cell-before : (k n r c i : ℕ) → b ≤ k → i < m → isCell t s k n r c i ≡ false
+    is_cell-before : (k n r c i : ℕ) → b ≤ k → i < m → is_cell t s k n r c i ≡ false
     is_cell-before k n r c i l a = is_cell-other t s k n r c i (λ e. let z = x.before i a in omega arith)
 
     -- so a cell is named twice, has a record, or is missing, in both or in neither
@@ -260,20 +260,20 @@ module _ (s : List ℕ) (b : ℕ) (x : Parted s b (count s)) where
     unfolding again
     again-parted i l =
         rw (kind-tail s m i, row-tail s m i, column-tail s m i, number-tail s m i, agree (kind_of s (m + i)) (kind-parted i l))
-        (any-later m i (isCell t s (kind_of s (m + i)) (cell_count t s (m + i)) (cell_row t s (m + i)) (cell_column t s (m + i))) (isCell v u (kind_of s (m + i)) (cell_count t s (m + i)) (cell_row t s (m + i)) (cell_column t s (m + i)))
+        (any-later m i (is_cell t s (kind_of s (m + i)) (cell_count t s (m + i)) (cell_row t s (m + i)) (cell_column t s (m + i))) (is_cell v u (kind_of s (m + i)) (cell_count t s (m + i)) (cell_row t s (m + i)) (cell_column t s (m + i)))
         (λ j a. is_cell-before (kind_of s (m + i)) (cell_count t s (m + i)) (cell_row t s (m + i)) (cell_column t s (m + i)) j (kind-parted i l) a)
         (λ j a. is_cell-parted (kind_of s (m + i)) (cell_count t s (m + i)) (cell_row t s (m + i)) (cell_column t s (m + i)) j (omega arith)))
 
     has-parted : (k n r c : ℕ) → b ≤ k → has v u k n r c ≡ has t s k n r c
     unfolding has
     has-parted k n r c l =
-        any-later m (count u) (isCell t s k n r c) (isCell v u k n r c) (λ i a. is_cell-before k n r c i l a) (λ i a. is_cell-parted k n r c i a)
-        ∙ ap (λ (j : ℕ). any j (isCell t s k n r c)) count-parted
+        any-later m (count u) (is_cell t s k n r c) (is_cell v u k n r c) (λ i a. is_cell-before k n r c i l a) (λ i a. is_cell-parted k n r c i a)
+        ∙ ap (λ (j : ℕ). any j (is_cell t s k n r c)) count-parted
 
     pub missing-parted : (k : ℕ) → b ≤ k → missing v u k ≡ missing t s k
     unfolding missing
     missing-parted k l =
-        let z = kindAt t k in
+        let z = kind_at t k in
         rw (agree k l)
         (ap (λ (y : Bool). not z.sparse && y)
         (any_same (width z.count) (λ n. any (width z.row) (λ r. any (width z.column) (λ c. not (has v u k n r c)))) (λ n. any (width z.row) (λ r. any (width z.column) (λ c. not (has t s k n r c))))
@@ -285,5 +285,5 @@ module _ (s : List ℕ) (b : ℕ) (x : Parted s b (count s)) where
     pub cell-parted : (k n r c : ℕ) → b ≤ k → cell v u k n r c ≡ cell t s k n r c
     unfolding cell
     cell-parted k n r c l =
-        last-later m (count u) (isCell t s k n r c) (isCell v u k n r c) (value_of s) (value_of u) plusZero (λ i a. is_cell-before k n r c i l a) (λ i a. is_cell-parted k n r c i a) (λ i a. value-tail s m i)
-        ∙ ap (λ (j : ℕ). last j (isCell t s k n r c) (value_of s) plusZero) count-parted
+        last-later m (count u) (is_cell t s k n r c) (is_cell v u k n r c) (value_of s) (value_of u) plus_zero (λ i a. is_cell-before k n r c i l a) (λ i a. is_cell-parted k n r c i a) (λ i a. value-tail s m i)
+        ∙ ap (λ (j : ℕ). last j (is_cell t s k n r c) (value_of s) plus_zero) count-parted

@@ -11,10 +11,10 @@ use lib.ListN.{length, length-append, get_or-append}
 use lib.Seq.{get_or-append-add}
 use Rattle.records.specs.format.Bytes.{byte, word, long, bytes_of}
 use Rattle.records.specs.format.Scan.{total}
-use Rattle.records.specs.format.Kinds.{Table, kindAt, kind_numbers, width}
+use Rattle.records.specs.format.Kinds.{Table, kind_at, kind_numbers, width}
 use Rattle.records.specs.format.Cells.{slots, first_slot, slot_count, offset, slot}
 use Rattle.records.specs.format.File.{count, kind_of, row_of, column_of, padding_of, count_of, bits_of}
-use Rattle.records.specs.format.Written.{recordOf, Content, field_of, cell_record, sequence, kind_file, file_of}
+use Rattle.records.specs.format.Written.{record_of, Content, field_of, cell_record, sequence, kind_file, file_of}
 use Rattle.records.proofs.format.ScanLaws.{total-more, total-le, total-same, total-constant, total-scaled}
 use Rattle.records.proofs.format.Slots.{Inside, packed, offset-below}
 
@@ -57,7 +57,7 @@ pub record RecordIs (s : List ℕ) (i k r c n b : ℕ) : Type 0 where
   pub bits : bits_of s i ≡ b
 
 -- a record with these sixteen bytes has these fields, where the count and the bits fit theirs
-pub record_is : (s : List ℕ) (i k r c n b : ℕ) → ((o : ℕ) → o < 16 → byte s (16 * i + o) ≡ byte (recordOf k r c n b) o) → n < 2 ^ 32 → b < 2 ^ 64 → RecordIs s i k r c n b
+pub record_is : (s : List ℕ) (i k r c n b : ℕ) → ((o : ℕ) → o < 16 → byte s (16 * i + o) ≡ byte (record_of k r c n b) o) → n < 2 ^ 32 → b < 2 ^ 64 → RecordIs s i k r c n b
 unfolding word long bytes_of
 record_is s i k r c n b h l m =
     record {
@@ -65,8 +65,8 @@ record_is s i k r c n b h l m =
       row = h 1 (lit< tt);
       column = h 2 (lit< tt);
       padding = h 3 (lit< tt);
-      number = word_same (recordOf k r c n b) s (16 * i + 4) 4 (λ o q. ap (byte s) (on i 4 o) ∙ h (4 + o) (omega arith)) ∙ word_bytes n l;
-      bits = long_same (recordOf k r c n b) s (16 * i + 8) 8 (λ o q. ap (byte s) (on i 8 o) ∙ h (8 + o) (omega arith)) ∙ long-bytes b m;
+      number = word_same (record_of k r c n b) s (16 * i + 4) 4 (λ o q. ap (byte s) (on i 4 o) ∙ h (4 + o) (omega arith)) ∙ word_bytes n l;
+      bits = long_same (record_of k r c n b) s (16 * i + 8) 8 (λ o q. ap (byte s) (on i 8 o) ∙ h (8 + o) (omega arith)) ∙ long-bytes b m;
     }
   where
     on : (i a o : ℕ) → 16 * i + a + o ≡ 16 * i + (a + o)
@@ -128,24 +128,24 @@ module _ (counts rows columns w : ℕ) (g : ℕ → ℕ → ℕ → List ℕ) (s
 module _ (t : Table) (f : ℕ → ℕ → ℕ → ℕ → Content) where
   -- a kind's records by count, row and column
   abbrev cell_bytes : ℕ → ℕ → ℕ → ℕ → List ℕ
-  cell_bytes k n r c = cell_record (kindAt t k) k n r c (f k n r c)
+  cell_bytes k n r c = cell_record (kind_at t k) k n r c (f k n r c)
 
   length-cell : (k n r c : ℕ) → length (cell_bytes k n r c) ≡ 16
   unfolding cell_record bytes_of
   length-cell k n r c = refl
 
   -- in its kind, by count, row and column
-  pub length-kind : (k : ℕ) → length (kind_file t f k) ≡ 16 * slots (kindAt t k)
+  pub length-kind : (k : ℕ) → length (kind_file t f k) ≡ 16 * slots (kind_at t k)
   unfolding kind_file slots
   length-kind k =
-      let z = kindAt t k in
+      let z = kind_at t k in
       let e = length-sheets (width z.count) (width z.row) (width z.column) 16 (cell_bytes k) (length-cell k) in
       e ∙ omega arith
 
-  pub byte-kind : (k n r c o : ℕ) → Inside (kindAt t k) n r c → o < 16 → byte (kind_file t f k) (16 * offset (kindAt t k) n r c + o) ≡ byte (cell_record (kindAt t k) k n r c (f k n r c)) o
+  pub byte-kind : (k n r c o : ℕ) → Inside (kind_at t k) n r c → o < 16 → byte (kind_file t f k) (16 * offset (kind_at t k) n r c + o) ≡ byte (cell_record (kind_at t k) k n r c (f k n r c)) o
   unfolding kind_file offset
   byte-kind k n r c o w l =
-      let z = kindAt t k in
+      let z = kind_at t k in
       ap (byte (kind_file t f k)) (place n r c o (width z.row) (width z.column))
       ∙ byte-sheets (width z.count) (width z.row) (width z.column) 16 (cell_bytes k) (length-cell k) n r c o w.number w.row w.column l
     where
@@ -155,7 +155,7 @@ module _ (t : Table) (f : ℕ → ℕ → ℕ → ℕ → Content) where
   -- in the file, after the kinds before
   length-kinds : (m : ℕ) → total m (λ k. length (kind_file t f k)) ≡ 16 * first_slot t m
   unfolding first_slot
-  length-kinds m = total-same m (λ k. length (kind_file t f k)) (λ k. 16 * slots (kindAt t k)) (λ k l. length-kind k) ∙ total-scaled m 16 (λ k. slots (kindAt t k))
+  length-kinds m = total-same m (λ k. length (kind_file t f k)) (λ k. 16 * slots (kind_at t k)) (λ k l. length-kind k) ∙ total-scaled m 16 (λ k. slots (kind_at t k))
 
   -- the kinds below m, and all
   pub length_front : (m : ℕ) → length (sequence m (kind_file t f)) ≡ 16 * first_slot t m
@@ -173,17 +173,17 @@ module _ (t : Table) (f : ℕ → ℕ → ℕ → ℕ → Content) where
   whole-file = let e = length-file in omega arith
 
   -- THE LAW: record number `slot t k n r c` has the sixteen bytes of the cell's record
-  pub byte-file : (k n r c o : ℕ) → k < kind_numbers → Inside (kindAt t k) n r c → o < 16 → byte (file_of t f) (16 * slot t k n r c + o) ≡ byte (cell_record (kindAt t k) k n r c (f k n r c)) o
+  pub byte-file : (k n r c o : ℕ) → k < kind_numbers → Inside (kind_at t k) n r c → o < 16 → byte (file_of t f) (16 * slot t k n r c + o) ≡ byte (cell_record (kind_at t k) k n r c (f k n r c)) o
   unfolding file_of slot
   byte-file k n r c o l w m =
       let e = length-kinds k in
-      let a = offset-below (kindAt t k) n r c w in
-      let p : total k (λ j. length (kind_file t f j)) + (16 * offset (kindAt t k) n r c + o) ≡ 16 * (first_slot t k + offset (kindAt t k) n r c) + o = omega arith in
-      let q : 16 * offset (kindAt t k) n r c + o < length (kind_file t f k) = let b = length-kind k in omega arith in
-      rw (← p) (byte-sequence kind_numbers (kind_file t f) k (16 * offset (kindAt t k) n r c + o) l q ∙ byte-kind k n r c o w m)
+      let a = offset-below (kind_at t k) n r c w in
+      let p : total k (λ j. length (kind_file t f j)) + (16 * offset (kind_at t k) n r c + o) ≡ 16 * (first_slot t k + offset (kind_at t k) n r c) + o = omega arith in
+      let q : 16 * offset (kind_at t k) n r c + o < length (kind_file t f k) = let b = length-kind k in omega arith in
+      rw (← p) (byte-sequence kind_numbers (kind_file t f) k (16 * offset (kind_at t k) n r c + o) l q ∙ byte-kind k n r c o w m)
 
   -- and so its fields
-  pub record-file : (k n r c : ℕ) → k < kind_numbers → Inside (kindAt t k) n r c → field_of (kindAt t k).count n (f k n r c).count < 2 ^ 32 → (f k n r c).bits < 2 ^ 64
-      → RecordIs (file_of t f) (slot t k n r c) k (field_of (kindAt t k).row r (f k n r c).row) (field_of (kindAt t k).column c (f k n r c).column) (field_of (kindAt t k).count n (f k n r c).count) (f k n r c).bits
+  pub record-file : (k n r c : ℕ) → k < kind_numbers → Inside (kind_at t k) n r c → field_of (kind_at t k).count n (f k n r c).count < 2 ^ 32 → (f k n r c).bits < 2 ^ 64
+      → RecordIs (file_of t f) (slot t k n r c) k (field_of (kind_at t k).row r (f k n r c).row) (field_of (kind_at t k).column c (f k n r c).column) (field_of (kind_at t k).count n (f k n r c).count) (f k n r c).bits
   unfolding cell_record
   record-file k n r c l w g h = record_is (file_of t f) (slot t k n r c) k _ _ _ _ (λ o m. byte-file k n r c o l w m) g h

@@ -8,7 +8,7 @@ use lib.Dec.{T, eqb}
 use lib.Ieee.{Float, nan, inf, fin, binary64, is_nan, to_bits}
 use lib.Ieee.Bits.{to_bits-of_bits}
 use borrow.Author.Tests.{eqb-true, not-false}
-use Rattle.arithmetic.specs.Numbers.{plusZero, is_finite}
+use Rattle.arithmetic.specs.Numbers.{plus_zero, is_finite}
 use Rattle.algebra.specs.Kind.{floats}
 use Rattle.algebra.specs.Product.{at}
 use Rattle.algebra.specs.Table.{table}
@@ -17,8 +17,8 @@ use Rattle.algebra.proofs.TableLaws.{table_at}
 use Rattle.adjustment.proofs.WrittenLaws.{stack_at}
 use Rattle.records.specs.format.Bytes.{byte, word, long}
 use Rattle.records.specs.format.Scan.{any}
-use Rattle.records.specs.format.Kinds.{width, valueHolds, kindAt, archive_kinds, archive_table}
-use Rattle.records.specs.format.File.{count, kind_of, padding_of, bits_of, value_of, out_of, badRecord, cell_count, cell_row, cell_column, beyond, notFinite}
+use Rattle.records.specs.format.Kinds.{width, value_holds, kind_at, archive_kinds, archive_table}
+use Rattle.records.specs.format.File.{count, kind_of, padding_of, bits_of, value_of, out_of, bad_record, cell_count, cell_row, cell_column, beyond, not_finite}
 use Rattle.records.specs.readers.Archive.{sizes_at, archived, archive_content, archive_bytes, coefficients, parameters, sizes, kinds, cell_value, archive_of, misscaled, refusal}
 use Rattle.records.proofs.format.ScanLaws.{or-false, any_none, any-none-cells}
 use Rattle.records.proofs.format.Slots.{Inside, sized_inside}
@@ -50,18 +50,18 @@ finite_number (inf s) e = tt
 finite_number (fin s m e) q = tt
 
 -- what is read from a record's bits, and is finite, is written as these bits
-bits_back : (s : List ℕ) (i : ℕ) → ((j : ℕ) → byte s j < 256) → i < count s → any (count s) (notFinite s) ≡ false → to_bits binary64 (value_of s i) ≡ bits_of s i
-unfolding notFinite
+bits_back : (s : List ℕ) (i : ℕ) → ((j : ℕ) → byte s j < 256) → i < count s → any (count s) (not_finite s) ≡ false → to_bits binary64 (value_of s i) ≡ bits_of s i
+unfolding not_finite
 bits_back s i h l f =
-    to_bits-of_bits binary64 (bits_of s i) (long-below s (16 * i + 8) h) (finite_number (value_of s i) (not-false (is_finite (value_of s i)) (any_none (count s) (notFinite s) i l f)))
+    to_bits-of_bits binary64 (bits_of s i) (long-below s (16 * i + 8) h) (finite_number (value_of s i) (not-false (is_finite (value_of s i)) (any_none (count s) (not_finite s) i l f)))
 
 -- ---- an accepted archive
 module _ (s : List ℕ) (h : AcceptedArchive s) where
   -- a scaled number has the bits of what is archived
-  scaled-bits : (k n r c : ℕ) → misscaled s k ≡ false → Inside (kindAt (kinds s) k) n r c → to_bits binary64 (archived (archive_of s) k n r c) ≡ to_bits binary64 (cell_value s k n r c)
+  scaled-bits : (k n r c : ℕ) → misscaled s k ≡ false → Inside (kind_at (kinds s) k) n r c → to_bits binary64 (archived (archive_of s) k n r c) ≡ to_bits binary64 (cell_value s k n r c)
   unfolding misscaled
   scaled-bits k n r c e v =
-      let z = kindAt (kinds s) k in
+      let z = kind_at (kinds s) k in
       let differs : ℕ → ℕ → ℕ → Bool = λ n r c. not (eqb (to_bits binary64 (cell_value s k n r c)) (to_bits binary64 (archived (archive_of s) k n r c))) in
       let none = any-none-cells (width z.count) (width z.row) (width z.column) differs e n r c v.number v.row v.column in
       sym (eqb-true (to_bits binary64 (cell_value s k n r c)) (to_bits binary64 (archived (archive_of s) k n r c)) (not-false (eqb (to_bits binary64 (cell_value s k n r c)) (to_bits binary64 (archived (archive_of s) k n r c))) none))
@@ -69,25 +69,25 @@ module _ (s : List ℕ) (h : AcceptedArchive s) where
   -- every other is what is archived
   phi_number : (r c : ℕ) → r < coefficients s → c < coefficients s → archived (archive_of s) 15 0 r c ≡ cell_value s 15 0 r c
   unfolding archived archive_of
-  phi_number r c l m = let b = (archive-sized s h).coefficients_below in table_at plusZero 6 6 (coefficients s) (coefficients s) (cell_value s 15 0) r c nan l m b b
+  phi_number r c l m = let b = (archive-sized s h).coefficients_below in table_at plus_zero 6 6 (coefficients s) (coefficients s) (cell_value s 15 0) r c nan l m b b
 
   phi_a-number : (r c : ℕ) → r < coefficients s → c < coefficients s → archived (archive_of s) 16 0 r c ≡ cell_value s 16 0 r c
   unfolding archived archive_of
-  phi_a-number r c l m = let b = (archive-sized s h).coefficients_below in table_at plusZero 6 6 (coefficients s) (coefficients s) (cell_value s 16 0) r c nan l m b b
+  phi_a-number r c l m = let b = (archive-sized s h).coefficients_below in table_at plus_zero 6 6 (coefficients s) (coefficients s) (cell_value s 16 0) r c nan l m b b
 
   ps-number : (n r c : ℕ) → n < parameters s → r < coefficients s → c < coefficients s → archived (archive_of s) 17 n r c ≡ cell_value s 17 n r c
   unfolding archived archive_of
   ps-number n r c k l m =
       let b = (archive-sized s h).coefficients_below in
-      ap (λ (x : Rows). at floats x r c) (stack_at 4 (parameters s) (λ i. table plusZero 6 6 (coefficients s) (coefficients s) (cell_value s 17 i)) n k (archive-sized s h).parameters_below)
-      ∙ table_at plusZero 6 6 (coefficients s) (coefficients s) (cell_value s 17 n) r c nan l m b b
+      ap (λ (x : Rows). at floats x r c) (stack_at 4 (parameters s) (λ i. table plus_zero 6 6 (coefficients s) (coefficients s) (cell_value s 17 i)) n k (archive-sized s h).parameters_below)
+      ∙ table_at plus_zero 6 6 (coefficients s) (coefficients s) (cell_value s 17 n) r c nan l m b b
 
   w-number : (r c : ℕ) → r < parameters s → c < parameters s → archived (archive_of s) 14 0 r c ≡ cell_value s 14 0 r c
   unfolding archived archive_of
   w-number r c l m =
       let b = (archive-sized s h).parameters_below in
       let N : parameters s ≤ 6 = omega arith in
-      table_at plusZero 6 6 (parameters s) (parameters s) (cell_value s 14 0) r c nan l m N N
+      table_at plus_zero 6 6 (parameters s) (parameters s) (cell_value s 14 0) r c nan l m N N
 
   sigma2-number : archived (archive_of s) 18 0 0 0 ≡ cell_value s 18 0 0 0
   unfolding archived archive_of
@@ -98,8 +98,8 @@ module _ (s : List ℕ) (h : AcceptedArchive s) where
   none n l = omega arith
 
   -- so each cell has the bits of what is archived
-  archived-bits : (k n r c : ℕ) → Inside (kindAt (kinds s) k) n r c → to_bits binary64 (archived (archive_of s) k n r c) ≡ to_bits binary64 (cell_value s k n r c)
-  unfolding sizes kindAt archive_kinds sizes_at width
+  archived-bits : (k n r c : ℕ) → Inside (kind_at (kinds s) k) n r c → to_bits binary64 (archived (archive_of s) k n r c) ≡ to_bits binary64 (cell_value s k n r c)
+  unfolding sizes kind_at archive_kinds sizes_at width
   archived-bits =
       each-cell (kinds s) (λ k n r c. to_bits binary64 (archived (archive_of s) k n r c) ≡ to_bits binary64 (cell_value s k n r c)) (
         λ n r c v. scaled-bits 11 n r c h.phi_scaled v,
@@ -126,15 +126,15 @@ module _ (s : List ℕ) (h : AcceptedArchive s) where
 
   -- what a record within the limits has: byte 3 is 0
   record-padding : (i : ℕ) → i < count s → padding_of s i ≡ 0
-  unfolding badRecord
+  unfolding bad_record
   record-padding i l =
-      let k = kindAt archive_table (kind_of s i) in
-      let b = any_none (count s) (badRecord archive_table s) i l h.formed.good in
-      let d = or-false (out_of k s i || not (eqb (padding_of s i) 0)) (not (valueHolds k.value (bits_of s i))) b in
+      let k = kind_at archive_table (kind_of s i) in
+      let b = any_none (count s) (bad_record archive_table s) i l h.formed.good in
+      let d = or-false (out_of k s i || not (eqb (padding_of s i) 0)) (not (value_holds k.value (bits_of s i))) b in
       eqb-true (padding_of s i) 0 (not-false (eqb (padding_of s i) 0) (or-false (out_of k s i) (not (eqb (padding_of s i) 0)) d.0).1)
 
   -- its cell is one that the sizes leave
-  record-inside : (i : ℕ) → i < count s → Inside (kindAt (kinds s) (kind_of s i)) (cell_count (kinds s) s i) (cell_row (kinds s) s i) (cell_column (kinds s) s i)
+  record-inside : (i : ℕ) → i < count s → Inside (kind_at (kinds s) (kind_of s i)) (cell_count (kinds s) s i) (cell_row (kinds s) s i) (cell_column (kinds s) s i)
   record-inside i l = sized_inside (kinds s) s i (any_none (count s) (beyond (kinds s) s) i l h.formed.within)
 
   -- so the file is the table's cells in order, and its records say what is archived

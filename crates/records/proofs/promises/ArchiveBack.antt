@@ -12,15 +12,15 @@ use lib.Ieee.Fits.{mul-fits, div-fits}
 use lib.Ieee.Bits.{of_bits-to_bits, to_bits-lt}
 use borrow.Author.Tests.{eq-eqb, lt-ltb, not-false}
 use Rattle.arithmetic.specs.declared.Marked.{Marked}
-use Rattle.arithmetic.specs.Marks.{given, markedMul, markedDiv}
+use Rattle.arithmetic.specs.Marks.{given, marked_mul, marked_div}
 use Rattle.arithmetic.proofs.MarkLaws.{mul-value, div_value}
 use Rattle.arithmetic_cutoffs.specs.declared.Cutoffs.{Cutoffs}
-use Rattle.arithmetic.specs.Numbers.{plusZero, is_finite}
+use Rattle.arithmetic.specs.Numbers.{plus_zero, is_finite}
 use Rattle.algebra.specs.Fold.{fold}
 use Rattle.algebra.specs.Kind.{floats, marks, zero_of}
 use Rattle.algebra.specs.Product.{at, times_number, over_number}
 use Rattle.algebra.specs.Table.{table}
-use Rattle.algebra.specs.Small.{Rows, givenCells}
+use Rattle.algebra.specs.Small.{Rows, given_cells}
 use Rattle.algebra.specs.Reasons.{first}
 use Rattle.algebra.proofs.FoldLaws.{fold-ext}
 use Rattle.algebra.proofs.TableLaws.{table_at, table-ext}
@@ -34,12 +34,12 @@ use Rattle.records.specs.declared.Value.TheVariants.{Float as FloatBits}
 use Rattle.records.specs.declared.Kind.{Kind}
 use Rattle.records.specs.declared.Sizes.{Sizes}
 use Rattle.records.specs.format.Scan.{any}
-use Rattle.records.specs.format.Kinds.{holds, width, valueHolds, Table, kindAt, kind_numbers, archive_kinds, kinds_of, limits, archive_table}
+use Rattle.records.specs.format.Kinds.{holds, width, value_holds, Table, kind_at, kind_numbers, archive_kinds, kinds_of, limits, archive_table}
 use Rattle.records.specs.format.Cells.{slot_count, slot}
-use Rattle.records.specs.format.File.{count, kind_of, row_of, column_of, padding_of, count_of, value_of, out_of, badRecord, again, cell, rows, columns, missing, beyond, notFinite, lengthReasons, formReasons}
-use Rattle.records.specs.format.Order.{numbersMatrix, falls, orderReasons}
+use Rattle.records.specs.format.File.{count, kind_of, row_of, column_of, padding_of, count_of, value_of, out_of, bad_record, again, cell, rows, columns, missing, beyond, not_finite, length_reasons, form_reasons}
+use Rattle.records.specs.format.Order.{numbers_matrix, falls, order_reasons}
 use Rattle.records.specs.format.Written.{Content, field_of, file_of}
-use Rattle.records.specs.readers.Archive.{Archive, sizes_at, archived, archive_content, archive_bytes, coefficients, parameters, sizes, kinds, cell_value, archive_of, misscaled, valueReasons, scaled_reasons, reasons, refusal}
+use Rattle.records.specs.readers.Archive.{Archive, sizes_at, archived, archive_content, archive_bytes, coefficients, parameters, sizes, kinds, cell_value, archive_of, misscaled, value_reasons, scaled_reasons, reasons, refusal}
 use Rattle.records.specs.readers.Shortened.{shortened}
 use Rattle.records.specs.readers.Series as series
 use Rattle.records.specs.calls.KenwardRogerCall.{adjusted}
@@ -59,7 +59,7 @@ use Rattle.records.specs.declared.Shape.TheVariants.{Archived}
 
 -- ---- the cells of a table one by one
 -- what holds of the cells of each line holds of each cell: a kind that is not listed has none
-pub each-cell : (t : Table) (P : ℕ → ℕ → ℕ → ℕ → Type 0) → AllNumbered t (λ k z. (n r c : ℕ) → Inside z n r c → P k n r c) → (k n r c : ℕ) → Inside (kindAt t k) n r c → P k n r c
+pub each-cell : (t : Table) (P : ℕ → ℕ → ℕ → ℕ → Type 0) → AllNumbered t (λ k z. (n r c : ℕ) → Inside z n r c → P k n r c) → (k n r c : ℕ) → Inside (kind_at t k) n r c → P k n r c
 unfolding width
 each-cell t P h k = each-numbered t (λ k z. (n r c : ℕ) → Inside z n r c → P k n r c) h k (λ n r c w. absurd (let l = w.row in omega arith))
 
@@ -84,12 +84,12 @@ limit-written g x y limit e h = ap (λ (z : Field). field_of z x y + 1) e ∙ h
 
 module _ (t : Table) (f : ℕ → ℕ → ℕ → ℕ → Content) (fit : Fitting t f) where
   -- no record lies beyond what its kind has
-  within-limits : (i : ℕ) → i < count (file_of t f) → out_of (kindAt t (kind_of (file_of t f) i)) (file_of t f) i ≡ false
+  within-limits : (i : ℕ) → i < count (file_of t f) → out_of (kind_at t (kind_of (file_of t f) i)) (file_of t f) i ≡ false
   unfolding beyond
   within-limits i m = file-beyond t f fit i (let b = count-file t f in omega arith)
 
   -- the rows of a kind that has a cell are all that the table has; so are the columns
-  file-rows : (k limit n r c : ℕ) → k < kind_numbers → (kindAt t k).row ≡ Index limit → Inside (kindAt t k) n r c → r + 1 ≡ limit → rows (file_of t f) k ≡ limit
+  file-rows : (k limit n r c : ℕ) → k < kind_numbers → (kind_at t k).row ≡ Index limit → Inside (kind_at t k) n r c → r + 1 ≡ limit → rows (file_of t f) k ≡ limit
   unfolding rows
   file-rows k limit n r c l e w q =
       let s = file_of t f in
@@ -97,10 +97,10 @@ module _ (t : Table) (f : ℕ → ℕ → ℕ → ℕ → Content) (fit : Fittin
       let high : rows s k ≤ limit = rows_inside t s within-limits k limit e in
       let low : row_of s (slot t k n r c) < rows s k = field-below-most s k (row_of s) (slot t k n r c) (let a = slot-below t k n r c kind_numbers w l in let b = count-file t f in omega arith) y.kind in
       let here = y.row in
-      let end = limit-written (kindAt t k).row r (f k n r c).row limit e q in
+      let end = limit-written (kind_at t k).row r (f k n r c).row limit e q in
       omega arith
 
-  file-columns : (k limit n r c : ℕ) → k < kind_numbers → (kindAt t k).column ≡ Index limit → Inside (kindAt t k) n r c → c + 1 ≡ limit → columns (file_of t f) k ≡ limit
+  file-columns : (k limit n r c : ℕ) → k < kind_numbers → (kind_at t k).column ≡ Index limit → Inside (kind_at t k) n r c → c + 1 ≡ limit → columns (file_of t f) k ≡ limit
   unfolding columns
   file-columns k limit n r c l e w q =
       let s = file_of t f in
@@ -108,7 +108,7 @@ module _ (t : Table) (f : ℕ → ℕ → ℕ → ℕ → Content) (fit : Fittin
       let high : columns s k ≤ limit = columns-inside t s within-limits k limit e in
       let low : column_of s (slot t k n r c) < columns s k = field-below-most s k (column_of s) (slot t k n r c) (let a = slot-below t k n r c kind_numbers w l in let b = count-file t f in omega arith) y.kind in
       let here = y.column in
-      let end = limit-written (kindAt t k).column c (f k n r c).column limit e q in
+      let end = limit-written (kind_at t k).column c (f k n r c).column limit e q in
       omega arith
 
 -- ---- an archive that can be written: its sizes are within the limits, each of its numbers is a finite f64 number, each matrix is the table of its own cells, and sigma2 is above 0
@@ -119,35 +119,35 @@ pub record Archivable (a : Archive) : Type 0 where
   pub parameters_below : a.parameters ≤ 4
   pub written : (k n r d : ℕ) → ArchiveCell a k n r d → T (fits binary64 (archived a k n r d))
   pub finite : (k n r d : ℕ) → ArchiveCell a k n r d → is_finite (archived a k n r d) ≡ true
-  pub phi_table : table plusZero 6 6 a.coefficients a.coefficients (at floats a.phi) ≡ a.phi
-  pub phi_a_table : table plusZero 6 6 a.coefficients a.coefficients (at floats a.phi_a) ≡ a.phi_a
-  pub ps_table : stack 4 a.parameters (λ r. table plusZero 6 6 a.coefficients a.coefficients (at floats (matrix_at a.ps r))) ≡ a.ps
-  pub w_table : table plusZero 6 6 a.parameters a.parameters (at floats a.w) ≡ a.w
-  pub positive : le a.sigma2 plusZero ≡ false
+  pub phi_table : table plus_zero 6 6 a.coefficients a.coefficients (at floats a.phi) ≡ a.phi
+  pub phi_a_table : table plus_zero 6 6 a.coefficients a.coefficients (at floats a.phi_a) ≡ a.phi_a
+  pub ps_table : stack 4 a.parameters (λ r. table plus_zero 6 6 a.coefficients a.coefficients (at floats (matrix_at a.ps r))) ≡ a.ps
+  pub w_table : table plus_zero 6 6 a.parameters a.parameters (at floats a.w) ≡ a.w
+  pub positive : le a.sigma2 plus_zero ≡ false
 
 -- the table of an archive's sizes
 abbrev pub archive_kinds_of : Archive → Table
 archive_kinds_of a = archive_kinds (sizes_at a.coefficients a.parameters)
 
 -- a cell by the table, and by what an archive has
-archive-cell : (a : Archive) (k n r d : ℕ) → Inside (kindAt (archive_kinds_of a) k) n r d → ArchiveCell a k n r d
+archive-cell : (a : Archive) (k n r d : ℕ) → Inside (kind_at (archive_kinds_of a) k) n r d → ArchiveCell a k n r d
 archive-cell a k n r d w = record { index = w.number; row = w.row; column = w.column }
 
-archive-inside : (a : Archive) (k n r d : ℕ) → ArchiveCell a k n r d → Inside (kindAt (archive_kinds_of a) k) n r d
+archive-inside : (a : Archive) (k n r d : ℕ) → ArchiveCell a k n r d → Inside (kind_at (archive_kinds_of a) k) n r d
 archive-inside a k n r d w = record { number = w.index; row = w.row; column = w.column }
 
 -- its kind is one that the files have
-pub archive-kind-below : (z : Sizes) (k n r d : ℕ) → Inside (kindAt (archive_kinds z) k) n r d → k < kind_numbers
+pub archive-kind-below : (z : Sizes) (k n r d : ℕ) → Inside (kind_at (archive_kinds z) k) n r d → k < kind_numbers
 archive-kind-below z k n r d w = kind-below Archived z k n r d w
 
 -- each field of an archive's kinds tells its cells apart
 pub archive-orderly : (z : Sizes) → orderly (archive_kinds z) ≡ true
-unfolding archive_kinds numbersMatrix
+unfolding archive_kinds numbers_matrix
 archive-orderly z = refl
 
 module _ (a : Archive) (h : Archivable a) where
   -- what the cells say fits their records
-  counts-fit : (k : ℕ) → width (kindAt (archive_kinds_of a) k).count ≤ 2 ^ 32
+  counts-fit : (k : ℕ) → width (kind_at (archive_kinds_of a) k).count ≤ 2 ^ 32
   unfolding archive_kinds sizes_at width
   counts-fit k =
       let one : 1 ≤ 2 ^ 32 = lit≤ tt in
@@ -165,7 +165,7 @@ module _ (a : Archive) (h : Archivable a) where
 
   -- ---- the sizes that are read are the archive's, and so is the table
   pub archive-coefficients : coefficients (archive_bytes a) ≡ a.coefficients
-  unfolding archive_bytes kindAt archive_kinds sizes_at width
+  unfolding archive_bytes kind_at archive_kinds sizes_at width
   archive-coefficients =
       let p = a.coefficients in
       let l = h.some_coefficients in
@@ -175,7 +175,7 @@ module _ (a : Archive) (h : Archivable a) where
       omega arith
 
   archive-parameters : parameters (archive_bytes a) ≡ a.parameters
-  unfolding archive_bytes kindAt archive_kinds sizes_at width
+  unfolding archive_bytes kind_at archive_kinds sizes_at width
   archive-parameters =
       let N = a.parameters in
       let l = h.some_parameters in
@@ -198,39 +198,39 @@ module _ (a : Archive) (h : Archivable a) where
       ∙ of_bits-to_bits binary64 (archived a k n r d) (h.written k n r d w)
 
   -- a matrix of the coefficients comes back, where its cells do
-  square-back : (k : ℕ) (m : Rows) → ((r d : ℕ) → r < a.coefficients → d < a.coefficients → cell_value (archive_bytes a) k 0 r d ≡ at floats m r d) → table plusZero 6 6 a.coefficients a.coefficients (at floats m) ≡ m
-      → table plusZero 6 6 (coefficients (archive_bytes a)) (coefficients (archive_bytes a)) (cell_value (archive_bytes a) k 0) ≡ m
+  square-back : (k : ℕ) (m : Rows) → ((r d : ℕ) → r < a.coefficients → d < a.coefficients → cell_value (archive_bytes a) k 0 r d ≡ at floats m r d) → table plus_zero 6 6 a.coefficients a.coefficients (at floats m) ≡ m
+      → table plus_zero 6 6 (coefficients (archive_bytes a)) (coefficients (archive_bytes a)) (cell_value (archive_bytes a) k 0) ≡ m
   square-back k m e q =
-      ap (λ (p : ℕ). table plusZero 6 6 p p (cell_value (archive_bytes a) k 0)) archive-coefficients
-      ∙ table-ext plusZero 6 6 a.coefficients a.coefficients (cell_value (archive_bytes a) k 0) (at floats m) e
+      ap (λ (p : ℕ). table plus_zero 6 6 p p (cell_value (archive_bytes a) k 0)) archive-coefficients
+      ∙ table-ext plus_zero 6 6 a.coefficients a.coefficients (cell_value (archive_bytes a) k 0) (at floats m) e
       ∙ q
 
   -- so Φ, Φ_A, the Ps, W and sigma2
-  phi-back : table plusZero 6 6 (coefficients (archive_bytes a)) (coefficients (archive_bytes a)) (cell_value (archive_bytes a) 15 0) ≡ a.phi
-  unfolding kindAt archive_kinds sizes_at width archived
+  phi-back : table plus_zero 6 6 (coefficients (archive_bytes a)) (coefficients (archive_bytes a)) (cell_value (archive_bytes a) 15 0) ≡ a.phi
+  unfolding kind_at archive_kinds sizes_at width archived
   phi-back = square-back 15 a.phi (λ r d l m. archive-cells 15 0 r d (record { index = lit< tt; row = l; column = m })) h.phi_table
 
-  phi_a-back : table plusZero 6 6 (coefficients (archive_bytes a)) (coefficients (archive_bytes a)) (cell_value (archive_bytes a) 16 0) ≡ a.phi_a
-  unfolding kindAt archive_kinds sizes_at width archived
+  phi_a-back : table plus_zero 6 6 (coefficients (archive_bytes a)) (coefficients (archive_bytes a)) (cell_value (archive_bytes a) 16 0) ≡ a.phi_a
+  unfolding kind_at archive_kinds sizes_at width archived
   phi_a-back = square-back 16 a.phi_a (λ r d l m. archive-cells 16 0 r d (record { index = lit< tt; row = l; column = m })) h.phi_a_table
 
-  ps-back : stack 4 (parameters (archive_bytes a)) (λ i. table plusZero 6 6 (coefficients (archive_bytes a)) (coefficients (archive_bytes a)) (cell_value (archive_bytes a) 17 i)) ≡ a.ps
-  unfolding kindAt archive_kinds sizes_at width archived
+  ps-back : stack 4 (parameters (archive_bytes a)) (λ i. table plus_zero 6 6 (coefficients (archive_bytes a)) (coefficients (archive_bytes a)) (cell_value (archive_bytes a) 17 i)) ≡ a.ps
+  unfolding kind_at archive_kinds sizes_at width archived
   ps-back =
-      ap₂ (λ (N p : ℕ). stack 4 N (λ i. table plusZero 6 6 p p (cell_value (archive_bytes a) 17 i))) archive-parameters archive-coefficients
-      ∙ stack-ext 4 a.parameters (λ i. table plusZero 6 6 a.coefficients a.coefficients (cell_value (archive_bytes a) 17 i)) (λ i. table plusZero 6 6 a.coefficients a.coefficients (at floats (matrix_at a.ps i)))
-      (λ i b. table-ext plusZero 6 6 a.coefficients a.coefficients (cell_value (archive_bytes a) 17 i) (at floats (matrix_at a.ps i)) (λ r d l m. archive-cells 17 i r d (record { index = b; row = l; column = m })))
+      ap₂ (λ (N p : ℕ). stack 4 N (λ i. table plus_zero 6 6 p p (cell_value (archive_bytes a) 17 i))) archive-parameters archive-coefficients
+      ∙ stack-ext 4 a.parameters (λ i. table plus_zero 6 6 a.coefficients a.coefficients (cell_value (archive_bytes a) 17 i)) (λ i. table plus_zero 6 6 a.coefficients a.coefficients (at floats (matrix_at a.ps i)))
+      (λ i b. table-ext plus_zero 6 6 a.coefficients a.coefficients (cell_value (archive_bytes a) 17 i) (at floats (matrix_at a.ps i)) (λ r d l m. archive-cells 17 i r d (record { index = b; row = l; column = m })))
       ∙ h.ps_table
 
-  w-back : table plusZero 6 6 (parameters (archive_bytes a)) (parameters (archive_bytes a)) (cell_value (archive_bytes a) 14 0) ≡ a.w
-  unfolding kindAt archive_kinds sizes_at width archived
+  w-back : table plus_zero 6 6 (parameters (archive_bytes a)) (parameters (archive_bytes a)) (cell_value (archive_bytes a) 14 0) ≡ a.w
+  unfolding kind_at archive_kinds sizes_at width archived
   w-back =
-      ap (λ (N : ℕ). table plusZero 6 6 N N (cell_value (archive_bytes a) 14 0)) archive-parameters
-      ∙ table-ext plusZero 6 6 a.parameters a.parameters (cell_value (archive_bytes a) 14 0) (at floats a.w) (λ r d l m. archive-cells 14 0 r d (record { index = lit< tt; row = l; column = m }))
+      ap (λ (N : ℕ). table plus_zero 6 6 N N (cell_value (archive_bytes a) 14 0)) archive-parameters
+      ∙ table-ext plus_zero 6 6 a.parameters a.parameters (cell_value (archive_bytes a) 14 0) (at floats a.w) (λ r d l m. archive-cells 14 0 r d (record { index = lit< tt; row = l; column = m }))
       ∙ h.w_table
 
   sigma2-back : cell_value (archive_bytes a) 18 0 0 0 ≡ a.sigma2
-  unfolding kindAt archive_kinds sizes_at width archived
+  unfolding kind_at archive_kinds sizes_at width archived
   sigma2-back = archive-cells 18 0 0 0 (record { index = lit< tt; row = lit< tt; column = lit< tt })
 
   -- so what the file archives is the archive
@@ -240,38 +240,38 @@ module _ (a : Archive) (h : Archivable a) where
 
   -- ---- no reason refuses the file
   -- every value of an archive is an f64's bits
-  value-bits : (k n r d : ℕ) → Inside (kindAt (archive_kinds_of a) k) n r d → (kindAt archive_table k).value ≡ FloatBits
-  unfolding kindAt archive_kinds sizes_at limits
-  value-bits = each-cell (archive_kinds_of a) (λ k n r d. (kindAt archive_table k).value ≡ FloatBits)
+  value-bits : (k n r d : ℕ) → Inside (kind_at (archive_kinds_of a) k) n r d → (kind_at archive_table k).value ≡ FloatBits
+  unfolding kind_at archive_kinds sizes_at limits
+  value-bits = each-cell (archive_kinds_of a) (λ k n r d. (kind_at archive_table k).value ≡ FloatBits)
       (λ n r d w. refl, (λ n r d w. refl, (λ n r d w. refl, (λ n r d w. refl, (λ n r d w. refl, (λ n r d w. refl, (λ n r d w. refl, (λ n r d w. refl, tt))))))))
 
   -- no record is bad: it lies within the sizes, and so within the limits; byte 3 is 0; its value is an f64's bits
-  record-good : (i : ℕ) → i < slot_count (archive_kinds_of a) → badRecord archive_table (file_of (archive_kinds_of a) (archive_content a)) i ≡ false
-  unfolding badRecord out_of beyond valueHolds
+  record-good : (i : ℕ) → i < slot_count (archive_kinds_of a) → bad_record archive_table (file_of (archive_kinds_of a) (archive_content a)) i ≡ false
+  unfolding bad_record out_of beyond value_holds
   record-good i l =
       let s = file_of (archive_kinds_of a) (archive_content a) in
       let x = cell-of (archive_kinds_of a) i l in
       let y = record-fitting (archive_kinds_of a) (archive_content a) archive-fitting x.kind x.number x.row x.column x.below x.inside in
       let kind : kind_of s i ≡ x.kind = ap (λ (j : ℕ). kind_of s j) (sym x.place) ∙ y.kind in
       let padding : padding_of s i ≡ 0 = ap (λ (j : ℕ). padding_of s j) (sym x.place) ∙ y.padding in
-      let z = kindAt (archive_kinds_of a) (kind_of s i) in
-      let u = kindAt archive_table (kind_of s i) in
+      let z = kind_at (archive_kinds_of a) (kind_of s i) in
+      let u = kind_at archive_table (kind_of s i) in
       let v = within z s i (file-beyond (archive_kinds_of a) (archive_content a) archive-fitting i l) in
       let o = orderly-at (archive_kinds_of a) (kind_of s i) (archive-orderly (sizes_at a.coefficients a.parameters)) in
       let b = orderly-at archive_table (kind_of s i) (archive-orderly (limits 1)) in
       let n = narrower (sizes_at a.coefficients a.parameters) (limits 1) (archive-sizes-below a.coefficients a.parameters h.coefficients_below h.parameters_below) Archived (kind_of s i) in
-      let bits : u.value ≡ FloatBits = ap (λ (k : ℕ). (kindAt archive_table k).value) kind ∙ value-bits x.kind x.number x.row x.column x.inside in
+      let bits : u.value ≡ FloatBits = ap (λ (k : ℕ). (kind_at archive_table k).value) kind ∙ value-bits x.kind x.number x.row x.column x.inside in
       rw (
         wider-holds z.row u.row (row_of s i) o.row b.row n.row v.row,
         wider-holds z.column u.column (column_of s i) o.column b.column n.column v.column,
-        wider-holds z.count u.count (count_of s i) (told-count z.count (numbersMatrix (kind_of s i)) o.number) (told-count u.count (numbersMatrix (kind_of s i)) b.number) n.number v.number,
+        wider-holds z.count u.count (count_of s i) (told-count z.count (numbers_matrix (kind_of s i)) o.number) (told-count u.count (numbers_matrix (kind_of s i)) b.number) n.number v.number,
         padding,
         bits,
       )
 
   -- each number is finite
-  record-finite : (i : ℕ) → i < slot_count (archive_kinds_of a) → notFinite (file_of (archive_kinds_of a) (archive_content a)) i ≡ false
-  unfolding notFinite archive_content
+  record-finite : (i : ℕ) → i < slot_count (archive_kinds_of a) → not_finite (file_of (archive_kinds_of a) (archive_content a)) i ≡ false
+  unfolding not_finite archive_content
   record-finite i l =
       let s = file_of (archive_kinds_of a) (archive_content a) in
       let x = cell-of (archive_kinds_of a) i l in
@@ -285,11 +285,11 @@ module _ (a : Archive) (h : Archivable a) where
   scaled-back : (k : ℕ) → misscaled (archive_bytes a) k ≡ false
   unfolding misscaled
   scaled-back k =
-      ap (λ (u : Table). any (width (kindAt u k).count) (λ n. any (width (kindAt u k).row) (λ r. any (width (kindAt u k).column) (λ d. differs n r d)))) archive-kinds
+      ap (λ (u : Table). any (width (kind_at u k).count) (λ n. any (width (kind_at u k).row) (λ r. any (width (kind_at u k).column) (λ d. differs n r d)))) archive-kinds
       ∙ none-any-cells (width z.count) (width z.row) (width z.column) differs (λ n r d ln lr ld. same n r d (record { index = ln; row = lr; column = ld }))
     where
       z : Kind
-      z = kindAt (archive_kinds_of a) k
+      z = kind_at (archive_kinds_of a) k
 
       differs : ℕ → ℕ → ℕ → Bool
       differs n r d = not (eqb (to_bits binary64 (cell_value (archive_bytes a) k n r d)) (to_bits binary64 (archived (archive_of (archive_bytes a)) k n r d)))
@@ -299,7 +299,7 @@ module _ (a : Archive) (h : Archivable a) where
 
   -- so the file is accepted
   archive-accepted : refusal (archive_bytes a) ≡ 0
-  unfolding refusal reasons lengthReasons orderReasons formReasons valueReasons scaled_reasons first archive_bytes
+  unfolding refusal reasons length_reasons order_reasons form_reasons value_reasons scaled_reasons first archive_bytes
   archive-accepted =
       let s = file_of (archive_kinds_of a) (archive_content a) in
       let e = count-file (archive_kinds_of a) (archive_content a) in
@@ -307,12 +307,12 @@ module _ (a : Archive) (h : Archivable a) where
       let f = archive_content a in
       let length-right : not (eqb (length s % 16) 0) ≡ false = ap not (eq-eqb (length s % 16) 0 (whole-file u f)) in
       let order : falls s ≡ false = written-rises u f archive-fitting (archive-orderly (sizes_at a.coefficients a.parameters)) in
-      let good : any (count s) (badRecord archive_table s) ≡ false = none_any (count s) (badRecord archive_table s) (λ i l. record-good i (omega arith)) in
+      let good : any (count s) (bad_record archive_table s) ≡ false = none_any (count s) (bad_record archive_table s) (λ i l. record-good i (omega arith)) in
       let once : any (count s) (again u s) ≡ false = none_any (count s) (again u s) (λ i l. file-again u f archive-fitting i (omega arith)) in
       let complete : any kind_numbers (missing u s) ≡ false = none_any kind_numbers (missing u s) (λ k l. file-missing u f archive-fitting k l) in
       let inside : any (count s) (beyond u s) ≡ false = none_any (count s) (beyond u s) (λ i l. file-beyond u f archive-fitting i (omega arith)) in
-      let finite : any (count s) (notFinite s) ≡ false = none_any (count s) (notFinite s) (λ i l. record-finite i (omega arith)) in
-      let positive : le (archive_of s).sigma2 plusZero ≡ false = ap (λ (b : Archive). le b.sigma2 plusZero) archive-same ∙ h.positive in
+      let finite : any (count s) (not_finite s) ≡ false = none_any (count s) (not_finite s) (λ i l. record-finite i (omega arith)) in
+      let positive : le (archive_of s).sigma2 plus_zero ≡ false = ap (λ (b : Archive). le b.sigma2 plus_zero) archive-same ∙ h.positive in
       let k11 : misscaled s 11 ≡ false = scaled-back 11 in
       let k12 : misscaled s 12 ≡ false = scaled-back 12 in
       let k13 : misscaled s 13 ≡ false = scaled-back 13 in
@@ -376,21 +376,21 @@ finite-output p N phi sigma2 a e =
 
 -- a marked cell's value is the plain product, or quotient
 up-value : (p : ℕ) (m : Rows) (x : Float) (i j : ℕ) → p ≤ 6 → i < p → j < p → (at marks (scaled_up marks p m x) i j).value ≡ mul binary64 (at floats m i j) x
-unfolding scaled_up times_number givenCells
+unfolding scaled_up times_number given_cells
 up-value p m x i j hp h l =
-    let g : List (List Marked) = givenCells marks 6 6 p p m in
+    let g : List (List Marked) = given_cells marks 6 6 p p m in
     ap (λ (a : Marked). a.value)
-    (table_at (zero_of marks) 6 6 p p (λ i j. markedMul (at marks g i j) (given x)) i j marks.void h l hp hp
-    ∙ ap (λ (a : Marked). markedMul a (given x)) (table_at (zero_of marks) 6 6 p p (λ i j. given (at floats m i j)) i j marks.void h l hp hp))
+    (table_at (zero_of marks) 6 6 p p (λ i j. marked_mul (at marks g i j) (given x)) i j marks.void h l hp hp
+    ∙ ap (λ (a : Marked). marked_mul a (given x)) (table_at (zero_of marks) 6 6 p p (λ i j. given (at floats m i j)) i j marks.void h l hp hp))
     ∙ mul-value (given (at floats m i j)) (given x)
 
 down-value : (p : ℕ) (m : Rows) (x : Float) (i j : ℕ) → p ≤ 6 → i < p → j < p → (at marks (scaled_down marks p m x) i j).value ≡ div binary64 (at floats m i j) x
-unfolding scaled_down over_number givenCells
+unfolding scaled_down over_number given_cells
 down-value p m x i j hp h l =
-    let g : List (List Marked) = givenCells marks 6 6 p p m in
+    let g : List (List Marked) = given_cells marks 6 6 p p m in
     ap (λ (a : Marked). a.value)
-    (table_at (zero_of marks) 6 6 p p (λ i j. markedDiv (at marks g i j) (given x)) i j marks.void h l hp hp
-    ∙ ap (λ (a : Marked). markedDiv a (given x)) (table_at (zero_of marks) 6 6 p p (λ i j. given (at floats m i j)) i j marks.void h l hp hp))
+    (table_at (zero_of marks) 6 6 p p (λ i j. marked_div (at marks g i j) (given x)) i j marks.void h l hp hp
+    ∙ ap (λ (a : Marked). marked_div a (given x)) (table_at (zero_of marks) 6 6 p p (λ i j. given (at floats m i j)) i j marks.void h l hp hp))
     ∙ div_value (given (at floats m i j)) (given x)
 
 -- a series that neither the reader nor the adjustment refuses
@@ -405,7 +405,7 @@ module _ (w : ℕ) (c : Cutoffs) (s : List ℕ) (e : series_refusal w c s ≡ 0)
 
   -- nor any of the adjustment's
   pub series-adjusted : adjustment_refusal c (series.design s) (series.phi s) (series.sigma2 s) ≡ 0
-  unfolding series_refusal series_reasons series.refusal series.reasons lengthReasons orderReasons formReasons series.block_reasons series.size_reasons series.valueReasons adjustment_refusal
+  unfolding series_refusal series_reasons series.refusal series.reasons length_reasons order_reasons form_reasons series.block_reasons series.size_reasons series.value_reasons adjustment_refusal
   series-adjusted = sym (first_next (series.reasons w s) (adjustment_reasons c (series.design s) (series.phi s) (series.sigma2 s)) refl series-accepted) ∙ e
 
   -- so each number of the output is finite
@@ -433,7 +433,7 @@ module _ (w : ℕ) (c : Cutoffs) (s : List ℕ) (e : series_refusal w c s ≡ 0)
   all-parts = finite-output (series.coefficients s) (matrices (series.design s)) (series.phi s) (series.sigma2 s) (adjusted c s) output-finite
 
   -- so each number that is archived is an f64 number
-  numbers-written : (k n r d : ℕ) → Inside (kindAt (archive_kinds_of (series_archive c s)) k) n r d → T (fits binary64 (archived (series_archive c s) k n r d))
+  numbers-written : (k n r d : ℕ) → Inside (kind_at (archive_kinds_of (series_archive c s)) k) n r d → T (fits binary64 (archived (series_archive c s) k n r d))
   unfolding series_archive archive_kinds sizes_at width archived adjusted series.design series.as_sent shortened
   numbers-written =
       each-cell (archive_kinds_of (series_archive c s)) (λ k n r d. T (fits binary64 (archived (series_archive c s) k n r d))) (
@@ -454,7 +454,7 @@ module _ (w : ℕ) (c : Cutoffs) (s : List ℕ) (e : series_refusal w c s ≡ 0)
       )
 
   -- and finite: the adjustment's refusal 4 asks for all but Φ and sigma2, and for these the reader's does
-  numbers-finite : (k n r d : ℕ) → Inside (kindAt (archive_kinds_of (series_archive c s)) k) n r d → is_finite (archived (series_archive c s) k n r d) ≡ true
+  numbers-finite : (k n r d : ℕ) → Inside (kind_at (archive_kinds_of (series_archive c s)) k) n r d → is_finite (archived (series_archive c s) k n r d) ≡ true
   unfolding series_archive archive_kinds sizes_at width archived adjusted series.design series.as_sent shortened
   numbers-finite =
       let p : ℕ = series.coefficients s in
@@ -487,9 +487,9 @@ module _ (w : ℕ) (c : Cutoffs) (s : List ℕ) (e : series_refusal w c s ≡ 0)
         ),
       )
 
-  phi-again : table plusZero 6 6 (series.coefficients s) (series.coefficients s) (at floats (series.phi s)) ≡ series.phi s
+  phi-again : table plus_zero 6 6 (series.coefficients s) (series.coefficients s) (at floats (series.phi s)) ≡ series.phi s
   unfolding series.phi
-  phi-again = table-again plusZero 6 6 (series.coefficients s) (series.coefficients s) (series.cell_value s 6) nan p-most p-most
+  phi-again = table-again plus_zero 6 6 (series.coefficients s) (series.coefficients s) (series.cell_value s 6) nan p-most p-most
 
   -- WHAT IS ARCHIVED OF AN ACCEPTED SERIES CAN BE WRITTEN
   pub series-archivable : Archivable (series_archive c s)

@@ -11,14 +11,14 @@ use Rattle.algebra.specs.Reasons.{first}
 use Rattle.algebra.proofs.ReasonLaws.{first-front}
 use Rattle.adjustment.specs.Adjusted.{adjustment_reasons}
 use Rattle.tests.specs.KenwardRoger.{scaled_by, Run}
-use Rattle.records.specs.format.File.{lengthReasons, formReasons}
-use Rattle.records.specs.format.Order.{orderReasons}
+use Rattle.records.specs.format.File.{length_reasons, form_reasons}
+use Rattle.records.specs.format.Order.{order_reasons}
 use Rattle.records.specs.readers.Series as series
 use Rattle.records.specs.readers.Archive as archive
 use Rattle.records.specs.readers.Archive.{archive_bytes}
 use Rattle.records.specs.readers.SecondFile as second
 use Rattle.records.specs.readers.SecondFile.{own_tests}
-use Rattle.records.specs.readers.CutoffTable.{cutoffsIn}
+use Rattle.records.specs.readers.CutoffTable.{cutoffs_in}
 use Rattle.records.specs.calls.KenwardRogerCall.{scaled, run, test_reasons, all_reasons, number, entries, series_call, returned, written}
 use Rattle.records.specs.calls.ArchiveCall.{series_archive, series_reasons, series_refusal, in_response_units, archive_run, archive_test_reasons, from_archive_reasons, from_archive_number, from_archive_entries, testing_call, testing_returned, testing_written}
 use Rattle.records.specs.promises.ArchiveKeeps.{ArchiveKeeps}
@@ -52,7 +52,7 @@ module _ (w : ℕ) (c : Cutoffs) (s : List ℕ) (e : series_refusal w c s ≡ 0)
   tests-taken = ap (λ (p : ℕ). second.refusal p (own_tests s)) coefficients-same ∙ tests-accepted w s (series-accepted w c s e)
 
   from-archive-is : from_archive_number c (archive_bytes (series_archive c s)) (own_tests s) ≡ cond (run c s).refused 10 0
-  unfolding from_archive_number from_archive_reasons archive_test_reasons archive.refusal archive.reasons archive.valueReasons archive.scaled_reasons second.refusal second.reasons second.formed_for second.valueReasons lengthReasons orderReasons formReasons first
+  unfolding from_archive_number from_archive_reasons archive_test_reasons archive.refusal archive.reasons archive.value_reasons archive.scaled_reasons second.refusal second.reasons second.formed_for second.value_reasons length_reasons order_reasons form_reasons first
   from-archive-is =
       let f = archive_bytes (series_archive c s) in
       let t = own_tests s in
@@ -64,24 +64,24 @@ module _ (w : ℕ) (c : Cutoffs) (s : List ℕ) (e : series_refusal w c s ≡ 0)
   number_same = from-archive-is ∙ sym (number_is c s w ∙ rw (series-accepted w c s e, series-adjusted w c s e))
 
 -- with one table on both sides
-module _ (w : ℕ) (lab s : List ℕ) (e : series_refusal w (cutoffsIn lab) s ≡ 0) where
+module _ (w : ℕ) (lab s : List ℕ) (e : series_refusal w (cutoffs_in lab) s ≡ 0) where
   abbrev archived_file : List ℕ
-  archived_file = archive_bytes (series_archive (cutoffsIn lab) s)
+  archived_file = archive_bytes (series_archive (cutoffs_in lab) s)
 
   -- "gives the direct run's answer, mark included": the number that is returned, and the lent bytes
-  answers-alike : (answer : List ℕ) → AnswersAlike (testing_call archived_file (own_tests s)) (series_call w s) (cutoffsIn lab) answer
+  answers-alike : (answer : List ℕ) → AnswersAlike (testing_call archived_file (own_tests s)) (series_call w s) (cutoffs_in lab) answer
   unfolding from_archive_number number from_archive_entries entries
-  answers-alike answer = record { stated = refl; besides = refl; number = number_same w (cutoffsIn lab) s e; full = λ z. rw (number_same w (cutoffsIn lab) s e, run-same w (cutoffsIn lab) s e) }
+  answers-alike answer = record { stated = refl; besides = refl; number = number_same w (cutoffs_in lab) s e; full = λ z. rw (number_same w (cutoffs_in lab) s e, run-same w (cutoffs_in lab) s e) }
 
-archived-number : (w : ℕ) (lab s answer : List ℕ) → series_refusal w (cutoffsIn lab) s ≡ 0 → testing_returned lab (archive_bytes (series_archive (cutoffsIn lab) s)) (own_tests s) answer ≡ returned w lab s answer
+archived-number : (w : ℕ) (lab s answer : List ℕ) → series_refusal w (cutoffs_in lab) s ≡ 0 → testing_returned lab (archive_bytes (series_archive (cutoffs_in lab) s)) (own_tests s) answer ≡ returned w lab s answer
 archived-number w lab s answer e = alike-returned (testing_call (archived_file w lab s e) (own_tests s)) (series_call w s) lab answer (answers-alike w lab s e answer)
 
-archived-bytes : (w : ℕ) (lab s answer : List ℕ) → series_refusal w (cutoffsIn lab) s ≡ 0 → testing_written lab (archive_bytes (series_archive (cutoffsIn lab) s)) (own_tests s) answer ≡ written w lab s answer
+archived-bytes : (w : ℕ) (lab s answer : List ℕ) → series_refusal w (cutoffs_in lab) s ≡ 0 → testing_written lab (archive_bytes (series_archive (cutoffs_in lab) s)) (own_tests s) answer ≡ written w lab s answer
 archived-bytes w lab s answer e = alike-written (testing_call (archived_file w lab s e) (own_tests s)) (series_call w s) lab answer (answers-alike w lab s e answer)
 
 -- a series that the direct call accepts is archived
 pub answered-archived : (w : ℕ) (c : Cutoffs) (s : List ℕ) → number w c s ≡ 0 → series_refusal w c s ≡ 0
-unfolding number all_reasons series_refusal series_reasons series.reasons lengthReasons orderReasons formReasons series.block_reasons series.size_reasons series.valueReasons adjustment_reasons
+unfolding number all_reasons series_refusal series_reasons series.reasons length_reasons order_reasons form_reasons series.block_reasons series.size_reasons series.value_reasons adjustment_reasons
 answered-archived w c s e = first-front (series_reasons w c s) (test_reasons c s) e
 
 -- WHAT IS PROMISED OF AN ARCHIVE

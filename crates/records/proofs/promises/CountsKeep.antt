@@ -18,14 +18,14 @@ use Rattle.adjustment.specs.Adjusted.{adjustment_reasons}
 use Rattle.tests.specs.Answer.{no_entry}
 use Rattle.records.specs.format.Bytes.{byte}
 use Rattle.records.specs.format.Scan.{any}
-use Rattle.records.specs.format.Kinds.{Table, kindAt, indexOf, valueHolds, kenward_roger_kinds, kenward_roger}
-use Rattle.records.specs.format.File.{count, kind_of, row_of, column_of, bits_of, again, rows, notFinite, lengthReasons, formReasons}
-use Rattle.records.specs.format.Order.{orderReasons}
+use Rattle.records.specs.format.Kinds.{Table, kind_at, index_of, value_holds, kenward_roger_kinds, kenward_roger}
+use Rattle.records.specs.format.File.{count, kind_of, row_of, column_of, bits_of, again, rows, not_finite, length_reasons, form_reasons}
+use Rattle.records.specs.format.Order.{order_reasons}
 use Rattle.records.specs.format.Alike.{Alike, Stays}
 use Rattle.records.specs.text.Text.{text_of}
 use Rattle.records.specs.readers.Shortened.{all_torn, shortened}
-use Rattle.records.specs.readers.Series.{block_count, kinds, sigma2, block_of, as_sent, parameter_count, miscounted, bad_size, block_reasons, size_reasons, valueReasons, reasons, refusal, design, phi}
-use Rattle.records.specs.readers.CutoffTable.{badTable, cutoffsIn}
+use Rattle.records.specs.readers.Series.{block_count, kinds, sigma2, block_of, as_sent, parameter_count, miscounted, bad_size, block_reasons, size_reasons, value_reasons, reasons, refusal, design, phi}
+use Rattle.records.specs.readers.CutoffTable.{bad_table, cutoffs_in}
 use Rattle.records.specs.before.Untabled.{untabled_returned}
 use Rattle.records.specs.calls.KenwardRogerCall.{adjusted, scaled, run, test_reasons, all_reasons, number, entries, series_call}
 use Rattle.records.specs.calls.ArchiveCall.{series_archive, series_reasons, archiving_call, told, archiving_returned}
@@ -67,22 +67,22 @@ module _ (s : List ℕ) (h : Countable s) where
 
   -- ---- the reader's reasons
   -- a block's count is one byte, and every other value is as it was
-  values-hold : (w i : ℕ) → valueHolds (kindAt (kenward_roger w) (kind_of s i)).value (bits_of s' i) ≡ valueHolds (kindAt (kenward_roger w) (kind_of s i)).value (bits_of s i)
-  unfolding valueHolds kindAt kenward_roger_kinds
+  values-hold : (w i : ℕ) → value_holds (kind_at (kenward_roger w) (kind_of s i)).value (bits_of s' i) ≡ value_holds (kind_at (kenward_roger w) (kind_of s i)).value (bits_of s i)
+  unfolding value_holds kind_at kenward_roger_kinds
   values-hold w i = go (eqb (kind_of s i) 3) refl
     where
-      go : (b : Bool) → eqb (kind_of s i) 3 ≡ b → valueHolds (kindAt (kenward_roger w) (kind_of s i)).value (bits_of s' i) ≡ valueHolds (kindAt (kenward_roger w) (kind_of s i)).value (bits_of s i)
+      go : (b : Bool) → eqb (kind_of s i) 3 ≡ b → value_holds (kind_at (kenward_roger w) (kind_of s i)).value (bits_of s' i) ≡ value_holds (kind_at (kenward_roger w) (kind_of s i)).value (bits_of s i)
       go true e = let q = eqb-true (kind_of s i) 3 e in rw (q, block-bits i q, (block i q).bare) (lt-ltb (parameter_count s i) 256 (block i q).fits)
-      go false e = ap (valueHolds (kindAt (kenward_roger w) (kind_of s i)).value) (bits-stay s h.0 i (eqb-false (kind_of s i) 3 e))
+      go false e = ap (value_holds (kind_at (kenward_roger w) (kind_of s i)).value) (bits-stay s h.0 i (eqb-false (kind_of s i) 3 e))
 
-  formed : (w : ℕ) → formReasons (kenward_roger w) (kinds s') s' ≡ formReasons (kenward_roger w) (kinds s) s
-  formed w = ap (λ (t : Table). formReasons (kenward_roger w) t s') (same.kinds-same alike) ∙ form-same alike (kenward_roger w) (kinds s) (values-hold w)
+  formed : (w : ℕ) → form_reasons (kenward_roger w) (kinds s') s' ≡ form_reasons (kenward_roger w) (kinds s) s
+  formed w = ap (λ (t : Table). form_reasons (kenward_roger w) t s') (same.kinds-same alike) ∙ form-same alike (kenward_roger w) (kinds s) (values-hold w)
 
-  finite : any (count s') (notFinite s') ≡ any (count s) (notFinite s)
-  unfolding notFinite
-  finite = ap (λ (n : ℕ). any n (notFinite s')) (count_same alike) ∙ any_same (count s) (notFinite s') (notFinite s) (λ i l. go i (eqb (kind_of s i) 3) refl)
+  finite : any (count s') (not_finite s') ≡ any (count s) (not_finite s)
+  unfolding not_finite
+  finite = ap (λ (n : ℕ). any n (not_finite s')) (count_same alike) ∙ any_same (count s) (not_finite s') (not_finite s) (λ i l. go i (eqb (kind_of s i) 3) refl)
     where
-      go : (i : ℕ) (b : Bool) → eqb (kind_of s i) 3 ≡ b → notFinite s' i ≡ notFinite s i
+      go : (i : ℕ) (b : Bool) → eqb (kind_of s i) 3 ≡ b → not_finite s' i ≡ not_finite s i
       go i true e =
           let q = eqb-true (kind_of s i) 3 e in
           let l = (block i q).fits in
@@ -96,8 +96,8 @@ module _ (s : List ℕ) (h : Countable s) where
   variance = same.value_same alike 7 0 0 (stays 7 (λ e. omega arith))
 
   -- one after another, with no block miscounted
-  read-reasons : (w : ℕ) → reasons w s' ≡ lengthReasons s ++ (orderReasons s ++ (formReasons (kenward_roger w) (kinds s) s ++ (((13, false) ∷ []) ++ (size_reasons s ++ valueReasons s))))
-  unfolding reasons orderReasons block_reasons size_reasons valueReasons
+  read-reasons : (w : ℕ) → reasons w s' ≡ length_reasons s ++ (order_reasons s ++ (form_reasons (kenward_roger w) (kinds s) s ++ (((13, false) ∷ []) ++ (size_reasons s ++ value_reasons s))))
+  unfolding reasons order_reasons block_reasons size_reasons value_reasons
   read-reasons w =
       rw (length-same alike, falls-same alike, formed w, counts-right s h.0, same.bad_size-same alike, sent, finite, variance, same.bad_weight-same alike (stays 5 (λ e. omega arith)), same.misfit-same alike, same.zero_contrast-same alike (λ r c. ap is_zero (same.value_same alike 9 r c (stays 9 (λ e. omega arith)))))
 
@@ -109,21 +109,21 @@ module _ (s : List ℕ) (h : Countable s) where
       go i true e = rw (block i (eqb-true (kind_of s i) 3 e)).bare
       go i false e = refl
 
-  bare-reasons : (w : ℕ) → bare_reasons w s ≡ lengthReasons s ++ (orderReasons s ++ ((2, false) ∷ (formReasons (kenward_roger w) (kinds s) s ++ (size_reasons s ++ valueReasons s))))
+  bare-reasons : (w : ℕ) → bare_reasons w s ≡ length_reasons s ++ (order_reasons s ++ ((2, false) ∷ (form_reasons (kenward_roger w) (kinds s) s ++ (size_reasons s ++ value_reasons s))))
   unfolding bare_reasons
   bare-reasons w = rw none-bits
 
   -- so the first that holds is the same, whatever reasons come after them
-  passed_over : (w : ℕ) (rest : List Line) → first ((lengthReasons s ++ (orderReasons s ++ (formReasons (kenward_roger w) (kinds s) s ++ (((13, false) ∷ []) ++ (size_reasons s ++ valueReasons s))))) ++ rest)
-      ≡ first ((lengthReasons s ++ (orderReasons s ++ ((2, false) ∷ (formReasons (kenward_roger w) (kinds s) s ++ (size_reasons s ++ valueReasons s))))) ++ rest)
-  unfolding lengthReasons orderReasons formReasons size_reasons valueReasons first
+  passed_over : (w : ℕ) (rest : List Line) → first ((length_reasons s ++ (order_reasons s ++ (form_reasons (kenward_roger w) (kinds s) s ++ (((13, false) ∷ []) ++ (size_reasons s ++ value_reasons s))))) ++ rest)
+      ≡ first ((length_reasons s ++ (order_reasons s ++ ((2, false) ∷ (form_reasons (kenward_roger w) (kinds s) s ++ (size_reasons s ++ value_reasons s))))) ++ rest)
+  unfolding length_reasons order_reasons form_reasons size_reasons value_reasons first
   passed_over w rest = refl
 
   first-same : (w : ℕ) (rest : List Line) → first (reasons w s' ++ rest) ≡ first (bare_reasons w s ++ rest)
   first-same w rest = ap (λ (x : List Line). first (x ++ rest)) (read-reasons w) ∙ passed_over w rest ∙ ap (λ (x : List Line). first (x ++ rest)) (sym (bare-reasons w))
 
   refusal-same : (w : ℕ) → refusal w s' ≡ first (bare_reasons w s)
-  unfolding refusal reasons bare_reasons lengthReasons orderReasons formReasons block_reasons size_reasons valueReasons first
+  unfolding refusal reasons bare_reasons length_reasons order_reasons form_reasons block_reasons size_reasons value_reasons first
   refusal-same w = first-same w []
 
   -- ---- the numbers of the run
@@ -162,14 +162,14 @@ module _ (s : List ℕ) (h : Countable s) where
       unfolding series_reasons
       archiving-alike lent = record { stated = refl; besides = refl; number = rw (design-same, phi-same, variance) (first-same w (adjustment_reasons c (design s) (phi s) (sigma2 s))); full = λ z. rw archive-same }
 
-  archiving-told : (lab : List ℕ) → badTable lab ≡ false → (w : ℕ) (lent : List ℕ) → archiving_returned w lab s' lent ≡ told (cutoffsIn lab) s (untabled_returned (bare_archiving w s) (cutoffsIn lab) lent)
+  archiving-told : (lab : List ℕ) → bad_table lab ≡ false → (w : ℕ) (lent : List ℕ) → archiving_returned w lab s' lent ≡ told (cutoffs_in lab) s (untabled_returned (bare_archiving w s) (cutoffs_in lab) lent)
   unfolding told
-  archiving-told lab ok w lent = rw (former-returned (archiving_call w s') (bare_archiving w s) lab lent ok (archiving-alike (cutoffsIn lab) w lent), archive-same (cutoffsIn lab))
+  archiving-told lab ok w lent = rw (former-returned (archiving_call w s') (bare_archiving w s) lab lent ok (archiving-alike (cutoffs_in lab) w lent), archive-same (cutoffs_in lab))
 
 -- ---- what was accepted before
 -- the k of a block's record is the block's, where no cell is named twice
 effects-own : (s : List ℕ) (i : ℕ) → i < count s → any (count s) (again (kinds s) s) ≡ false → kind_of s i ≡ 3 → (block_of s (row_of s i)).effects ≡ column_of s i
-unfolding block_of kindAt kenward_roger_kinds indexOf
+unfolding block_of kind_at kenward_roger_kinds index_of
 effects-own s i l once q = rw q at (own-last (kinds s) s (column_of s) 0 i l once)
 
 block_row : (s : List ℕ) (i : ℕ) → i < count s → kind_of s i ≡ 3 → row_of s i < block_count s
@@ -189,7 +189,7 @@ few-parameters k m h = go (eqb k 1) (eqb k 2) refl refl (not-false (eqb k 1 || e
     go false false e f t = absurd (false≢true t)
 
 countable-accepted : (w : ℕ) (s : List ℕ) → first (bare_reasons w s) ≡ 0 → Countable s
-unfolding bare_reasons lengthReasons orderReasons formReasons size_reasons valueReasons bad_size uncountable block_bits
+unfolding bare_reasons length_reasons order_reasons form_reasons size_reasons value_reasons bad_size uncountable block_bits
 countable-accepted w s e =
     let n : NoneHolds (bare_reasons w s) = first-none (bare_reasons w s) refl e in
     let sized : bad_size s ≡ false = (or-false (bad_size s) (all_torn (as_sent s)) (n 7 (lit≤ tt))).0 in
@@ -222,10 +222,10 @@ pub counts-keep : CountsKeep
 counts-keep = record {
   accepted = accepted-counts;
   countable = countable-accepted;
-  same_number = λ w lab s answer ok h. former-returned (series_call w (with_counts s)) (bare_call w s) lab answer ok (counted-alike s h (cutoffsIn lab) w answer);
-  same_bytes = λ w lab s answer ok h. former-written (series_call w (with_counts s)) (bare_call w s) lab answer ok (counted-alike s h (cutoffsIn lab) w answer);
+  same_number = λ w lab s answer ok h. former-returned (series_call w (with_counts s)) (bare_call w s) lab answer ok (counted-alike s h (cutoffs_in lab) w answer);
+  same_bytes = λ w lab s answer ok h. former-written (series_call w (with_counts s)) (bare_call w s) lab answer ok (counted-alike s h (cutoffs_in lab) w answer);
   same_text = λ w c s h. text_same s h c w;
-  same_archive = λ w lab s lent ok h. (archiving-told s h lab ok w lent, former-written (archiving_call w (with_counts s)) (bare_archiving w s) lab lent ok (archiving-alike s h (cutoffsIn lab) w lent));
+  same_archive = λ w lab s lent ok h. (archiving-told s h lab ok w lent, former-written (archiving_call w (with_counts s)) (bare_archiving w s) lab lent ok (archiving-alike s h (cutoffs_in lab) w lent));
   no_block = counts-none;
   never_right = never-right;
 }

@@ -12,18 +12,18 @@ use lib.Dec.{eqb, ltb}
 use lib.ListN.{length}
 use lib.Ieee.{Float, lt}
 use borrow.Author.Tests.{eq-eqb, eqb-true, ltb-true, lt-ltb, not-false}
-use Rattle.arithmetic.specs.Numbers.{plusZero}
+use Rattle.arithmetic.specs.Numbers.{plus_zero}
 use Rattle.algebra.specs.Reasons.{first}
 use Rattle.records.specs.declared.Field.{Field}
 use Rattle.records.specs.declared.Field.TheVariants.{Index, Number, Unused}
 use Rattle.records.specs.declared.Kind.{Kind}
 use Rattle.records.specs.declared.Sizes.{Sizes}
 use Rattle.records.specs.format.Scan.{any}
-use Rattle.records.specs.format.Kinds.{holds, width, indexOf, valueHolds, Table, kindAt, kind_numbers, kenward_roger_kinds, kenward_roger}
-use Rattle.records.specs.format.File.{count, kind_of, row_of, column_of, padding_of, bits_of, out_of, badRecord, cell_count, cell_row, cell_column, isCell, again, has, beyond, missing, notFinite, present, lengthReasons, formReasons}
-use Rattle.records.specs.format.Order.{matrixOf, then_by, standsBefore, falls, orderReasons}
+use Rattle.records.specs.format.Kinds.{holds, width, index_of, value_holds, Table, kind_at, kind_numbers, kenward_roger_kinds, kenward_roger}
+use Rattle.records.specs.format.File.{count, kind_of, row_of, column_of, padding_of, bits_of, out_of, bad_record, cell_count, cell_row, cell_column, is_cell, again, has, beyond, missing, not_finite, present, length_reasons, form_reasons}
+use Rattle.records.specs.format.Order.{matrix_of, then_by, stands_before, falls, order_reasons}
 use Rattle.records.specs.readers.Shortened.{torn, all_torn}
-use Rattle.records.specs.readers.Series.{specimens, z_columns, sizes, kinds, cell_value, sigma2, block_of, as_sent, miscounted, bad_size, bad_weight, misfit, zero_contrast, block_reasons, size_reasons, valueReasons, reasons, refusal}
+use Rattle.records.specs.readers.Series.{specimens, z_columns, sizes, kinds, cell_value, sigma2, block_of, as_sent, miscounted, bad_size, bad_weight, misfit, zero_contrast, block_reasons, size_reasons, value_reasons, reasons, refusal}
 use Rattle.records.specs.promises.TornKeeps.{of_specimen, of_torn, new_row, without_torn}
 use Rattle.records.proofs.format.ScanLaws.{or-false, or-true, any-hit, any_none, none_any, none-any-cells}
 use Rattle.records.proofs.format.Slots.{Inside, Within, within, cell-names, names-cell}
@@ -63,11 +63,11 @@ then_by-keeps x y a b f p = then_by-either x y a p (λ l. then_by-less x y b l) 
 
 module _ (s : List ℕ) where
   -- the order of records may be chained
-  stands-next : (i j k : ℕ) → standsBefore s i j ≡ true → standsBefore s j k ≡ true → standsBefore s i k ≡ true
-  unfolding standsBefore
+  stands-next : (i j k : ℕ) → stands_before s i j ≡ true → stands_before s j k ≡ true → stands_before s i k ≡ true
+  unfolding stands_before
   stands-next i j k =
       then_by-next (kind_of s i) (kind_of s j) (kind_of s k) (by_matrix i j) (by_matrix j k) (by_matrix i k)
-      (then_by-next (matrixOf s i) (matrixOf s j) (matrixOf s k) (by_row i j) (by_row j k) (by_row i k)
+      (then_by-next (matrix_of s i) (matrix_of s j) (matrix_of s k) (by_row i j) (by_row j k) (by_row i k)
       (then_by-next (row_of s i) (row_of s j) (row_of s k) (by_column i j) (by_column j k) (by_column i k)
       (λ a b. let x = ltb-true (column_of s i) (column_of s j) a in let y = ltb-true (column_of s j) (column_of s k) b in lt-ltb (column_of s i) (column_of s k) (omega arith))))
     where
@@ -78,16 +78,16 @@ module _ (s : List ℕ) where
       by_row i j = then_by (row_of s i) (row_of s j) (by_column i j)
 
       by_matrix : ℕ → ℕ → Bool
-      by_matrix i j = then_by (matrixOf s i) (matrixOf s j) (by_row i j)
+      by_matrix i j = then_by (matrix_of s i) (matrix_of s j) (by_row i j)
 
   -- in a file that rises each record stands before every later one
-  rises-on : falls s ≡ false → (i j : ℕ) → i < j → j < count s → standsBefore s i j ≡ true
+  rises-on : falls s ≡ false → (i j : ℕ) → i < j → j < count s → stands_before s i j ≡ true
   unfolding falls
   rises-on h i zero l m = absurd (not-suc-le-zero l)
   rises-on h i (suc j) l m = ⊎_elim (λ q. rw q next) (λ k. stands-next i j (suc j) (rises-on h i j k (omega arith)) next) (eq-or-lt_of_le (le_of_suc-le-suc l))
     where
-      next : standsBefore s j (suc j) ≡ true
-      next = rw add-one at (not-false (standsBefore s j (j + 1)) (any_none (count s - 1) (λ k. not (standsBefore s k (k + 1))) j (omega arith) h))
+      next : stands_before s j (suc j) ≡ true
+      next = rw add-one at (not-false (stands_before s j (j + 1)) (any_none (count s - 1) (λ k. not (stands_before s k (k + 1))) j (omega arith) h))
 
 -- ---- one record
 -- a field that holds a number holds a smaller one
@@ -104,19 +104,19 @@ within-kind z s i v = rw (v.row, v.column, v.number)
 
 -- ---- the cells of a file
 -- two records do not name one cell, where no cell is named twice
-named-once : (t : Table) (s : List ℕ) → any (count s) (again t s) ≡ false → (k n r c i j : ℕ) → i < j → j < count s → isCell t s k n r c j ≡ true → isCell t s k n r c i ≡ false
+named-once : (t : Table) (s : List ℕ) → any (count s) (again t s) ≡ false → (k n r c i j : ℕ) → i < j → j < count s → is_cell t s k n r c j ≡ true → is_cell t s k n r c i ≡ false
 unfolding again
 named-once t s once k n r c i j l m e =
     let v = cell-names t s k n r c j e in
-    rw (v.row, v.number, v.column, v.kind) at (any_none j (isCell t s (kind_of s j) (cell_count t s j) (cell_row t s j) (cell_column t s j)) i l (any_none (count s) (again t s) j m once))
+    rw (v.row, v.number, v.column, v.kind) at (any_none j (is_cell t s (kind_of s j) (cell_count t s j) (cell_row t s j) (cell_column t s j)) i l (any_none (count s) (again t s) j m once))
 
 -- none of a kind is missing, where each has a record or may be absent
-has-complete : (t : Table) (s : List ℕ) (k : ℕ) → ((n r c : ℕ) → Inside (kindAt t k) n r c → (kindAt t k).sparse ≡ false → has t s k n r c ≡ true) → missing t s k ≡ false
+has-complete : (t : Table) (s : List ℕ) (k : ℕ) → ((n r c : ℕ) → Inside (kind_at t k) n r c → (kind_at t k).sparse ≡ false → has t s k n r c ≡ true) → missing t s k ≡ false
 unfolding missing
 has-complete t s k h = go z.sparse refl
   where
     z : Kind
-    z = kindAt t k
+    z = kind_at t k
 
     go : (b : Bool) → z.sparse ≡ b → not b && any (width z.count) (λ n. any (width z.row) (λ r. any (width z.column) (λ c. not (has t s k n r c)))) ≡ false
     go true e = refl
@@ -126,14 +126,14 @@ has-complete t s k h = go z.sparse refl
 
 -- a series of which no reason of the reader's holds is accepted
 accepted-refusal : (w : ℕ) (s : List ℕ) → AcceptedSeries w s → refusal w s ≡ 0
-unfolding refusal reasons lengthReasons orderReasons formReasons block_reasons size_reasons valueReasons first
+unfolding refusal reasons length_reasons order_reasons form_reasons block_reasons size_reasons value_reasons first
 accepted-refusal w s a = rw (a.formed.whole, a.formed.rises, a.formed.good, a.formed.once, a.formed.complete, a.formed.within, a.counted, a.sized, a.pulled, a.finite, a.positive, a.weighed, a.fits, a.nonzero)
 
 -- ---- the order of the file without its torn specimens
 module _ (s : List ℕ) where
   -- a record numbers the matrix that it numbered
-  matrix-taken : (j : ℕ) → j < records_left s → matrixOf (without_torn s) j ≡ matrixOf s (sent_record s j)
-  unfolding matrixOf
+  matrix-taken : (j : ℕ) → j < records_left s → matrix_of (without_torn s) j ≡ matrix_of s (sent_record s j)
+  unfolding matrix_of
   matrix-taken j l = rw ((taken-fields s).kind j l, (taken-fields s).number j l)
 
   -- two records of one kind have their rows in the order in which they were
@@ -153,11 +153,11 @@ module _ (s : List ℕ) where
     row_stays h = (taken-fields s).row i l ∙ ap₂ (λ (k r : ℕ). cond (of_specimen k) (new_row s r) r) e h ∙ sym ((taken-fields s).row j m)
 
   -- so two records stand as they stood
-  stands-taken : (i j : ℕ) → i < records_left s → j < records_left s → standsBefore s (sent_record s i) (sent_record s j) ≡ true → standsBefore (without_torn s) i j ≡ true
-  unfolding standsBefore
+  stands-taken : (i j : ℕ) → i < records_left s → j < records_left s → stands_before s (sent_record s i) (sent_record s j) ≡ true → stands_before (without_torn s) i j ≡ true
+  unfolding stands_before
   stands-taken i j l m h =
       rw ((taken-fields s).kind i l, (taken-fields s).kind j m, matrix-taken i l, matrix-taken j m, (taken-fields s).column i l, (taken-fields s).column j m)
-      (then_by-keeps (kind_of s x) (kind_of s y) (then_by (matrixOf s x) (matrixOf s y) was) (then_by (matrixOf s x) (matrixOf s y) is) (λ e. then_by-keeps (matrixOf s x) (matrixOf s y) was is (λ _. rows e)) h)
+      (then_by-keeps (kind_of s x) (kind_of s y) (then_by (matrix_of s x) (matrix_of s y) was) (then_by (matrix_of s x) (matrix_of s y) is) (λ e. then_by-keeps (matrix_of s x) (matrix_of s y) was is (λ _. rows e)) h)
     where
       x : ℕ
       x = sent_record s i
@@ -184,9 +184,9 @@ module _ (s : List ℕ) where
   -- and it rises where the file as sent does
   rises-taken : falls s ≡ false → falls (without_torn s) ≡ false
   unfolding falls
-  rises-taken h = none_any (count (without_torn s) - 1) (λ j. not (standsBefore (without_torn s) j (j + 1))) (λ j l. ap not (next j (let e = count-taken s in omega arith)))
+  rises-taken h = none_any (count (without_torn s) - 1) (λ j. not (stands_before (without_torn s) j (j + 1))) (λ j l. ap not (next j (let e = count-taken s in omega arith)))
     where
-      next : (j : ℕ) → j + 1 < records_left s → standsBefore (without_torn s) j (j + 1) ≡ true
+      next : (j : ℕ) → j + 1 < records_left s → stands_before (without_torn s) j (j + 1) ≡ true
       next j l =
           stands-taken j (j + 1) (omega arith) l
           (rises-on s h (sent_record s j) (sent_record s (j + 1)) (kept-rises (of_torn s) (count s) j (j + 1) (omega arith) l) (record-below s (j + 1) l))
@@ -201,13 +201,13 @@ module _ (s : List ℕ) where
 -- ---- of a series that the reader accepts
 module _ (w : ℕ) (s : List ℕ) (a : AcceptedSeries w s) where
   -- each record is within the limits and holds a finite number
-  good-taken : (j : ℕ) → j < records_left s → badRecord (kenward_roger w) (without_torn s) j ≡ false
-  unfolding badRecord
+  good-taken : (j : ℕ) → j < records_left s → bad_record (kenward_roger w) (without_torn s) j ≡ false
+  unfolding bad_record
   good-taken j l =
       let i : ℕ = sent_record s j in
-      let z : Kind = kindAt (kenward_roger w) (kind_of s i) in
-      let good : badRecord (kenward_roger w) s i ≡ false = any_none (count s) (badRecord (kenward_roger w) s) i (record-below s j l) a.formed.good in
-      let x = or-false (out_of z s i || not (eqb (padding_of s i) 0)) (not (valueHolds z.value (bits_of s i))) good in
+      let z : Kind = kind_at (kenward_roger w) (kind_of s i) in
+      let good : bad_record (kenward_roger w) s i ≡ false = any_none (count s) (bad_record (kenward_roger w) s) i (record-below s j l) a.formed.good in
+      let x = or-false (out_of z s i || not (eqb (padding_of s i) 0)) (not (value_holds z.value (bits_of s i))) good in
       let y = or-false (out_of z s i) (not (eqb (padding_of s i) 0)) x.0 in
       rw ((taken-fields s).kind j l, (taken-fields s).padding j l, (taken-fields s).bits j l, limited z (within z s i y.0), y.1, x.1)
     where
@@ -220,9 +220,9 @@ module _ (w : ℕ) (s : List ℕ) (a : AcceptedSeries w s) where
             number = rw ((taken-fields s).number j l) v.number;
           })
 
-  finite-taken : (j : ℕ) → j < records_left s → notFinite (without_torn s) j ≡ false
-  unfolding notFinite
-  finite-taken j l = rw ((taken-fields s).bits j l) (any_none (count s) (notFinite s) (sent_record s j) (record-below s j l) a.finite)
+  finite-taken : (j : ℕ) → j < records_left s → not_finite (without_torn s) j ≡ false
+  unfolding not_finite
+  finite-taken j l = rw ((taken-fields s).bits j l) (any_none (count s) (not_finite s) (sent_record s j) (record-below s j l) a.finite)
 
   -- a block has the parameter count that it had
   counted-taken : (j : ℕ) → j < records_left s → miscounted (without_torn s) j ≡ false
@@ -230,15 +230,15 @@ module _ (w : ℕ) (s : List ℕ) (a : AcceptedSeries w s) where
   counted-taken j l = rw ((taken-fields s).kind j l, (taken-fields s).first_value j l, (taken-fields s).column j l) (any_none (count s) (miscounted s) (sent_record s j) (record-below s j l) a.counted)
 
   -- it names a cell that no earlier record names
-  once-cell : (k n r c i j : ℕ) → (of_specimen k ≡ true → r < specimens_left s) → i < j → j < records_left s → isCell (kinds (without_torn s)) (without_torn s) k n r c j ≡ true
-      → isCell (kinds (without_torn s)) (without_torn s) k n r c i ≡ false
+  once-cell : (k n r c i j : ℕ) → (of_specimen k ≡ true → r < specimens_left s) → i < j → j < records_left s → is_cell (kinds (without_torn s)) (without_torn s) k n r c j ≡ true
+      → is_cell (kinds (without_torn s)) (without_torn s) k n r c i ≡ false
   once-cell k n r c i j h m l e =
       is_cell-taken w s a k n r c i h (omega arith)
       ∙ named-once (kinds s) s a.formed.once k n (sent_row s k r) c (sent_record s i) (sent_record s j) (kept-rises (of_torn s) (count s) i j m l) (record-below s j l) (sym (is_cell-taken w s a k n r c j h l) ∙ e)
 
   -- the row that it names is a specimen that is left, where its rows are specimens
   named-below : (j : ℕ) → j < records_left s → of_specimen (kind_of (without_torn s) j) ≡ true → cell_row (kinds (without_torn s)) (without_torn s) j < specimens_left s
-  unfolding indexOf
+  unfolding index_of
   named-below j l e = rw (specimen-rows (sizes (without_torn s)) (kind_of (without_torn s) j) e) (specimen-row-below w s a j l (ap of_specimen (sym ((taken-fields s).kind j l)) ∙ e))
 
   once-taken : (j : ℕ) → j < records_left s → again (kinds (without_torn s)) (without_torn s) j ≡ false
@@ -246,7 +246,7 @@ module _ (w : ℕ) (s : List ℕ) (a : AcceptedSeries w s) where
   once-taken j l =
       let t : List ℕ = without_torn s in
       let T : Table = kinds (without_torn s) in
-      none_any j (isCell T t (kind_of t j) (cell_count T t j) (cell_row T t j) (cell_column T t j))
+      none_any j (is_cell T t (kind_of t j) (cell_count T t j) (cell_row T t j) (cell_column T t j))
       (λ i m. once-cell (kind_of t j) (cell_count T t j) (cell_row T t j) (cell_column T t j) i j (named-below j l) m l
       (names-cell T t (kind_of t j) (cell_count T t j) (cell_row T t j) (cell_column T t j) j (record { kind = refl; row = refl; number = refl; column = refl })))
 
@@ -289,44 +289,44 @@ module _ (w : ℕ) (s : List ℕ) (a : AcceptedSeries w s) where
   unfolding bad_weight of_specimen
   weighed-taken = rw (present-taken w s a, specimens-taken w s a) (go (present s 5) a.weighed)
     where
-      go : (b : Bool) → b && any (specimens s) (λ i. lt (cell_value s 5 i 0) plusZero) ≡ false → b && any (specimens_left s) (λ i. lt (cell_value (without_torn s) 5 i 0) plusZero) ≡ false
+      go : (b : Bool) → b && any (specimens s) (λ i. lt (cell_value s 5 i 0) plus_zero) ≡ false → b && any (specimens_left s) (λ i. lt (cell_value (without_torn s) 5 i 0) plus_zero) ≡ false
       go true h =
-          none_any (specimens_left s) (λ i. lt (cell_value (without_torn s) 5 i 0) plusZero)
-          (λ r l. ap (λ (x : Float). lt x plusZero) (specimen-taken w s a 5 r 0 refl l) ∙ any_none (specimens s) (λ i. lt (cell_value s 5 i 0) plusZero) (sent_specimen s r) (sent-below s r l) h)
+          none_any (specimens_left s) (λ i. lt (cell_value (without_torn s) 5 i 0) plus_zero)
+          (λ r l. ap (λ (x : Float). lt x plus_zero) (specimen-taken w s a 5 r 0 refl l) ∙ any_none (specimens s) (λ i. lt (cell_value s 5 i 0) plus_zero) (sent_specimen s r) (sent-below s r l) h)
       go false h = refl
 
   -- ---- where there are as many columns of Z
   module _ (as_many : z_columns (without_torn s) ≡ z_columns s) where
     -- the table at its sizes says the same of a kind, but for the rows of specimens, which are fewer
     kind-part : {A : Type 0} (part : Kind → A) (k : ℕ) → part_at part (kenward_roger_kinds (with_specimens (specimens_left s) (sizes s))) k ≡ part_at part (kinds s) k
-        → part (kindAt (kinds (without_torn s)) k) ≡ part (kindAt (kinds s) k)
-    kind-part part k e = ap (λ (z : Sizes). part (kindAt (kenward_roger_kinds z) k)) (sizes-taken w s a as_many) ∙ same-part part (kenward_roger_kinds (with_specimens (specimens_left s) (sizes s))) (kinds s) k e
+        → part (kind_at (kinds (without_torn s)) k) ≡ part (kind_at (kinds s) k)
+    kind-part part k e = ap (λ (z : Sizes). part (kind_at (kenward_roger_kinds z) k)) (sizes-taken w s a as_many) ∙ same-part part (kenward_roger_kinds (with_specimens (specimens_left s) (sizes s))) (kinds s) k e
 
-    column-kind : (k : ℕ) → (kindAt (kinds (without_torn s)) k).column ≡ (kindAt (kinds s) k).column
+    column-kind : (k : ℕ) → (kind_at (kinds (without_torn s)) k).column ≡ (kind_at (kinds s) k).column
     unfolding kenward_roger_kinds
     column-kind k = kind-part (λ (u : Kind). u.column) k refl
 
-    count-kind : (k : ℕ) → (kindAt (kinds (without_torn s)) k).count ≡ (kindAt (kinds s) k).count
+    count-kind : (k : ℕ) → (kind_at (kinds (without_torn s)) k).count ≡ (kind_at (kinds s) k).count
     unfolding kenward_roger_kinds
     count-kind k = kind-part (λ (u : Kind). u.count) k refl
 
-    sparse-kind : (k : ℕ) → (kindAt (kinds (without_torn s)) k).sparse ≡ (kindAt (kinds s) k).sparse
+    sparse-kind : (k : ℕ) → (kind_at (kinds (without_torn s)) k).sparse ≡ (kind_at (kinds s) k).sparse
     unfolding kenward_roger_kinds
     sparse-kind k = kind-part (λ (u : Kind). u.sparse) k refl
 
-    row-kind : (k : ℕ) → of_specimen k ≡ false → (kindAt (kinds (without_torn s)) k).row ≡ (kindAt (kinds s) k).row
+    row-kind : (k : ℕ) → of_specimen k ≡ false → (kind_at (kinds (without_torn s)) k).row ≡ (kind_at (kinds s) k).row
     unfolding kenward_roger_kinds of_specimen
     row-kind k e =
         let x = or-false (eqb k 1 || eqb k 2) (eqb k 5) e in
         let y = or-false (eqb k 1) (eqb k 2) x.0 in
         kind-part (λ (u : Kind). u.row) k (rw (y.0, y.1, x.1))
 
-    specimen-row-kind : (k : ℕ) → of_specimen k ≡ true → (kindAt (kinds (without_torn s)) k).row ≡ Index (cond (has_specimens (sizes s) k) (specimens_left s) 0)
-    specimen-row-kind k e = ap (λ (z : Sizes). (kindAt (kenward_roger_kinds z) k).row) (sizes-taken w s a as_many) ∙ specimen-rows (with_specimens (specimens_left s) (sizes s)) k e
+    specimen-row-kind : (k : ℕ) → of_specimen k ≡ true → (kind_at (kinds (without_torn s)) k).row ≡ Index (cond (has_specimens (sizes s) k) (specimens_left s) 0)
+    specimen-row-kind k e = ap (λ (z : Sizes). (kind_at (kenward_roger_kinds z) k).row) (sizes-taken w s a as_many) ∙ specimen-rows (with_specimens (specimens_left s) (sizes s)) k e
 
     -- each record is within the sizes
-    row-held : (j : ℕ) → j < records_left s → holds (kindAt (kinds s) (kind_of s (sent_record s j))).row (row_of s (sent_record s j)) ≡ true
-        → holds (kindAt (kinds (without_torn s)) (kind_of s (sent_record s j))).row (row_of (without_torn s) j) ≡ true
+    row-held : (j : ℕ) → j < records_left s → holds (kind_at (kinds s) (kind_of s (sent_record s j))).row (row_of s (sent_record s j)) ≡ true
+        → holds (kind_at (kinds (without_torn s)) (kind_of s (sent_record s j))).row (row_of (without_torn s) j) ≡ true
     unfolding holds sizes
     row-held j l h = go (of_specimen k) refl
       where
@@ -337,7 +337,7 @@ module _ (w : ℕ) (s : List ℕ) (a : AcceptedSeries w s) where
         left true h m = lt-ltb (row_of (without_torn s) j) (specimens_left s) m
         left false h m = let z = ltb-true (row_of s (sent_record s j)) 0 h in absurd (omega arith)
 
-        go : (b : Bool) → of_specimen k ≡ b → holds (kindAt (kinds (without_torn s)) k).row (row_of (without_torn s) j) ≡ true
+        go : (b : Bool) → of_specimen k ≡ b → holds (kind_at (kinds (without_torn s)) k).row (row_of (without_torn s) j) ≡ true
         go true e = rw (specimen-row-kind k e) (left (has_specimens (sizes s) k) (rw (specimen-rows (sizes s) k e) at h) (specimen-row-below w s a j l e))
         go false e = rw (row-kind k e, unchanged-row s j l e) h
 
@@ -345,9 +345,9 @@ module _ (w : ℕ) (s : List ℕ) (a : AcceptedSeries w s) where
     unfolding beyond
     within-taken j l =
         let i : ℕ = sent_record s j in
-        let v = within (kindAt (kinds s) (kind_of s i)) s i (any_none (count s) (beyond (kinds s) s) i (record-below s j l) a.formed.within) in
+        let v = within (kind_at (kinds s) (kind_of s i)) s i (any_none (count s) (beyond (kinds s) s) i (record-below s j l) a.formed.within) in
         rw ((taken-fields s).kind j l)
-        (within-kind (kindAt (kinds (without_torn s)) (kind_of s i)) (without_torn s) j
+        (within-kind (kind_at (kinds (without_torn s)) (kind_of s i)) (without_torn s) j
         (record {
           row = row-held j l v.row;
           column = rw (column-kind (kind_of s i), (taken-fields s).column j l) v.column;
@@ -355,7 +355,7 @@ module _ (w : ℕ) (s : List ℕ) (a : AcceptedSeries w s) where
         }))
 
     -- none of its cells is missing: the cell of the file as sent is not
-    row-left : (k r : ℕ) → of_specimen k ≡ true → r < width (kindAt (kinds (without_torn s)) k).row → r < specimens_left s
+    row-left : (k r : ℕ) → of_specimen k ≡ true → r < width (kind_at (kinds (without_torn s)) k).row → r < specimens_left s
     unfolding width
     row-left k r e l = go (has_specimens (sizes s) k) (rw (specimen-row-kind k e) at l)
       where
@@ -363,7 +363,7 @@ module _ (w : ℕ) (s : List ℕ) (a : AcceptedSeries w s) where
         go true l = l
         go false l = absurd (omega arith)
 
-    row-sent : (k r : ℕ) → r < width (kindAt (kinds (without_torn s)) k).row → sent_row s k r < width (kindAt (kinds s) k).row
+    row-sent : (k r : ℕ) → r < width (kind_at (kinds (without_torn s)) k).row → sent_row s k r < width (kind_at (kinds s) k).row
     unfolding width sizes
     row-sent k r l = go (of_specimen k) refl
       where
@@ -371,7 +371,7 @@ module _ (w : ℕ) (s : List ℕ) (a : AcceptedSeries w s) where
         sent true l = sent-below s r l
         sent false l = absurd (omega arith)
 
-        go : (b : Bool) → of_specimen k ≡ b → cond b (sent_specimen s r) r < width (kindAt (kinds s) k).row
+        go : (b : Bool) → of_specimen k ≡ b → cond b (sent_specimen s r) r < width (kind_at (kinds s) k).row
         go true e = rw (specimen-rows (sizes s) k e) (sent (has_specimens (sizes s) k) (rw (specimen-row-kind k e) at l))
         go false e = rw (row-kind k e) at l
 
@@ -396,7 +396,7 @@ module _ (w : ℕ) (s : List ℕ) (a : AcceptedSeries w s) where
               record {
                 whole = whole-taken s;
                 rises = rises-taken s a.formed.rises;
-                good = none-taken s (badRecord (kenward_roger w) (without_torn s)) good-taken;
+                good = none-taken s (bad_record (kenward_roger w) (without_torn s)) good-taken;
                 once = none-taken s (again (kinds (without_torn s)) (without_torn s)) once-taken;
                 complete = none_any kind_numbers (missing (kinds (without_torn s)) (without_torn s)) complete-taken;
                 within = none-taken s (beyond (kinds (without_torn s)) (without_torn s)) within-taken;
@@ -404,7 +404,7 @@ module _ (w : ℕ) (s : List ℕ) (a : AcceptedSeries w s) where
           counted = none-taken s (miscounted (without_torn s)) counted-taken;
           sized = sized-taken ∙ a.sized;
           pulled = pulled-taken;
-          finite = none-taken s (notFinite (without_torn s)) finite-taken;
+          finite = none-taken s (not_finite (without_torn s)) finite-taken;
           positive = rw sigma2-taken a.positive;
           weighed = weighed-taken;
           fits = fits-taken ∙ a.fits;

@@ -9,13 +9,13 @@ use lib.Dec.{eqb}
 use lib.ListN.{length, get_or}
 use lib.Ieee.{binary64, of_bits}
 use borrow.Author.Tests.{eq-eqb, eqb-true, ltb-true}
-use Rattle.arithmetic.specs.Numbers.{plusZero}
+use Rattle.arithmetic.specs.Numbers.{plus_zero}
 use Rattle.records.specs.declared.Field.TheVariants.{Index}
 use Rattle.records.specs.declared.Kind.{Kind}
 use Rattle.records.specs.declared.Sizes.{Sizes}
 use Rattle.records.specs.format.Scan.{any, most, last}
-use Rattle.records.specs.format.Kinds.{holds, indexOf, Table, kindAt, unread, kenward_roger_kinds}
-use Rattle.records.specs.format.File.{count, kind_of, row_of, column_of, count_of, value_of, cell_count, cell_row, cell_column, isCell, has, cell, beyond}
+use Rattle.records.specs.format.Kinds.{holds, index_of, Table, kind_at, unread, kenward_roger_kinds}
+use Rattle.records.specs.format.File.{count, kind_of, row_of, column_of, count_of, value_of, cell_count, cell_row, cell_column, is_cell, has, cell, beyond}
 use Rattle.records.specs.readers.Shortened.{torn, kept_specimens}
 use Rattle.records.specs.readers.Series.{specimens, sizes, kinds, cell_value, block_of, as_sent}
 use Rattle.records.specs.promises.TornKeeps.{of_specimen, of_torn, new_row, without_torn}
@@ -43,9 +43,9 @@ specimen-kind P x z weights k e = go (eqb k 1) refl (eqb k 2) refl (eqb k 5) ref
 abbrev pub has_specimens : Sizes → ℕ → Bool
 has_specimens z k = cond (eqb k 5) z.weighted true
 
-pub specimen-rows : (z : Sizes) (k : ℕ) → of_specimen k ≡ true → (kindAt (kenward_roger_kinds z) k).row ≡ Index (cond (has_specimens z k) z.specimens 0)
-unfolding kindAt kenward_roger_kinds
-specimen-rows z = specimen-kind (λ k. (kindAt (kenward_roger_kinds z) k).row ≡ Index (cond (has_specimens z k) z.specimens 0)) refl refl refl
+pub specimen-rows : (z : Sizes) (k : ℕ) → of_specimen k ≡ true → (kind_at (kenward_roger_kinds z) k).row ≡ Index (cond (has_specimens z k) z.specimens 0)
+unfolding kind_at kenward_roger_kinds
+specimen-rows z = specimen-kind (λ k. (kind_at (kenward_roger_kinds z) k).row ≡ Index (cond (has_specimens z k) z.specimens 0)) refl refl refl
 
 -- ---- a part of each kind: two tables that list the same of it say the same of it
 module _ {A : Type 0} (part : Kind → A) where
@@ -53,31 +53,31 @@ module _ {A : Type 0} (part : Kind → A) where
   part_at [] k = part unread
   part_at (e ∷ t) k = cond (eqb k e.0) (part e.1) (part_at t k)
 
-  part-listed : (t : Table) (k : ℕ) → part (kindAt t k) ≡ part_at t k
-  unfolding kindAt
+  part-listed : (t : Table) (k : ℕ) → part (kind_at t k) ≡ part_at t k
+  unfolding kind_at
   part-listed [] k = refl
   part-listed (e ∷ t) k = go (eqb k e.0) (part-listed t k)
     where
-      go : (b : Bool) → part (kindAt t k) ≡ part_at t k → part (cond b e.1 (kindAt t k)) ≡ cond b (part e.1) (part_at t k)
+      go : (b : Bool) → part (kind_at t k) ≡ part_at t k → part (cond b e.1 (kind_at t k)) ≡ cond b (part e.1) (part_at t k)
       go true h = refl
       go false h = h
 
-  pub same-part : (t u : Table) (k : ℕ) → part_at t k ≡ part_at u k → part (kindAt t k) ≡ part (kindAt u k)
+  pub same-part : (t u : Table) (k : ℕ) → part_at t k ≡ part_at u k → part (kind_at t k) ≡ part (kind_at u k)
   same-part t u k e = part-listed t k ∙ e ∙ sym (part-listed u k)
 
 -- by which index a field names a cell does not depend on the sizes
 module _ (y z : Sizes) (k x : ℕ) where
-  index-row : indexOf (kindAt (kenward_roger_kinds y) k).row x ≡ indexOf (kindAt (kenward_roger_kinds z) k).row x
-  unfolding kenward_roger_kinds indexOf
-  index-row = same-part (λ (u : Kind). indexOf u.row x) (kenward_roger_kinds y) (kenward_roger_kinds z) k refl
+  index-row : index_of (kind_at (kenward_roger_kinds y) k).row x ≡ index_of (kind_at (kenward_roger_kinds z) k).row x
+  unfolding kenward_roger_kinds index_of
+  index-row = same-part (λ (u : Kind). index_of u.row x) (kenward_roger_kinds y) (kenward_roger_kinds z) k refl
 
-  index-column : indexOf (kindAt (kenward_roger_kinds y) k).column x ≡ indexOf (kindAt (kenward_roger_kinds z) k).column x
-  unfolding kenward_roger_kinds indexOf
-  index-column = same-part (λ (u : Kind). indexOf u.column x) (kenward_roger_kinds y) (kenward_roger_kinds z) k refl
+  index-column : index_of (kind_at (kenward_roger_kinds y) k).column x ≡ index_of (kind_at (kenward_roger_kinds z) k).column x
+  unfolding kenward_roger_kinds index_of
+  index-column = same-part (λ (u : Kind). index_of u.column x) (kenward_roger_kinds y) (kenward_roger_kinds z) k refl
 
-  index-count : indexOf (kindAt (kenward_roger_kinds y) k).count x ≡ indexOf (kindAt (kenward_roger_kinds z) k).count x
-  unfolding kenward_roger_kinds indexOf
-  index-count = same-part (λ (u : Kind). indexOf u.count x) (kenward_roger_kinds y) (kenward_roger_kinds z) k refl
+  index-count : index_of (kind_at (kenward_roger_kinds y) k).count x ≡ index_of (kind_at (kenward_roger_kinds z) k).count x
+  unfolding kenward_roger_kinds index_of
+  index-count = same-part (λ (u : Kind). index_of u.count x) (kenward_roger_kinds y) (kenward_roger_kinds z) k refl
 
 -- ---- the specimens that are left, and the one that has the new number r
 abbrev pub specimens_left : List ℕ → ℕ
@@ -207,7 +207,7 @@ module _ (w : ℕ) (s : List ℕ) (a : AcceptedSeries w s) where
   pub specimen-below : (i : ℕ) → i < count s → of_specimen (kind_of s i) ≡ true → row_of s i < specimens s
   unfolding beyond holds sizes
   specimen-below i l e =
-      let h = (within (kindAt (kinds s) (kind_of s i)) s i (any_none (count s) (beyond (kinds s) s) i l a.formed.within)).row in
+      let h = (within (kind_at (kinds s) (kind_of s i)) s i (any_none (count s) (beyond (kinds s) s) i l a.formed.within)).row in
       go (has_specimens (sizes s) (kind_of s i)) (rw (specimen-rows (sizes s) (kind_of s i) e) at h)
     where
       go : (b : Bool) → holds (Index (cond b (specimens s) 0)) (row_of s i) ≡ true → row_of s i < specimens s
@@ -229,14 +229,14 @@ module _ (w : ℕ) (s : List ℕ) (a : AcceptedSeries w s) where
 
   row_named : (j r : ℕ) → j < records_left s → (of_specimen (kind_of s (sent_record s j)) ≡ true → r < specimens_left s)
       → eqb (cell_row (kinds (without_torn s)) (without_torn s) j) r ≡ eqb (cell_row (kinds s) s (sent_record s j)) (sent_row s (kind_of s (sent_record s j)) r)
-  unfolding indexOf
+  unfolding index_of
   row_named j r l h = rw ((taken-fields s).kind j l, (taken-fields s).row j l) (go (of_specimen (kind_of s i)) refl)
     where
       i : ℕ
       i = sent_record s j
 
       go : (b : Bool) → of_specimen (kind_of s i) ≡ b
-          → eqb (indexOf (kindAt (kinds (without_torn s)) (kind_of s i)).row (cond b (new_row s (row_of s i)) (row_of s i))) r ≡ eqb (cell_row (kinds s) s i) (cond b (sent_specimen s r) r)
+          → eqb (index_of (kind_at (kinds (without_torn s)) (kind_of s i)).row (cond b (new_row s (row_of s i)) (row_of s i))) r ≡ eqb (cell_row (kinds s) s i) (cond b (sent_specimen s r) r)
       go false e = ap (λ (x : ℕ). eqb x r) (index-row (sizes (without_torn s)) (sizes s) (kind_of s i) (row_of s i))
       go true e =
           rw (specimen-rows (sizes (without_torn s)) (kind_of s i) e, specimen-rows (sizes s) (kind_of s i) e)
@@ -244,8 +244,8 @@ module _ (w : ℕ) (s : List ℕ) (a : AcceptedSeries w s) where
 
   -- so it names a cell where it named that cell
   pub is_cell-taken : (k n r c j : ℕ) → (of_specimen k ≡ true → r < specimens_left s) → j < records_left s
-      → isCell (kinds (without_torn s)) (without_torn s) k n r c j ≡ isCell (kinds s) s k n (sent_row s k r) c (sent_record s j)
-  unfolding isCell
+      → is_cell (kinds (without_torn s)) (without_torn s) k n r c j ≡ is_cell (kinds s) s k n (sent_row s k r) c (sent_record s j)
+  unfolding is_cell
   is_cell-taken k n r c j h l = rw (count-named j l, column-named j l) (ap (λ (x : Bool). x && eqb (cell_count (kinds s) s i) n && eqb (cell_column (kinds s) s i) c) (go (eqb (kind_of s i) k) refl))
     where
       i : ℕ
@@ -262,8 +262,8 @@ module _ (w : ℕ) (s : List ℕ) (a : AcceptedSeries w s) where
           rw (kind, e) (row_named j r l (λ d. h (ap of_specimen (sym q) ∙ d)) ∙ ap (λ (x : ℕ). eqb (cell_row (kinds s) s i) (sent_row s x r)) q)
 
   -- and no record that is taken out names one of these cells
-  is_cell-stays : (k n r c i : ℕ) → (of_specimen k ≡ true → r < specimens_left s) → isCell (kinds s) s k n (sent_row s k r) c i ≡ true → of_torn s i ≡ false
-  unfolding indexOf
+  is_cell-stays : (k n r c i : ℕ) → (of_specimen k ≡ true → r < specimens_left s) → is_cell (kinds s) s k n (sent_row s k r) c i ≡ true → of_torn s i ≡ false
+  unfolding index_of
   is_cell-stays k n r c i h e = let m = cell-names (kinds s) s k n (sent_row s k r) c i e in go (of_specimen k) refl m.kind m.row
     where
       go : (b : Bool) → of_specimen k ≡ b → kind_of s i ≡ k → cell_row (kinds s) s i ≡ cond b (sent_specimen s r) r → of_torn s i ≡ false
@@ -277,16 +277,16 @@ module _ (w : ℕ) (s : List ℕ) (a : AcceptedSeries w s) where
   module _ (k n r c : ℕ) (h : of_specimen k ≡ true → r < specimens_left s) where
     pub has-taken : has (kinds (without_torn s)) (without_torn s) k n r c ≡ has (kinds s) s k n (sent_row s k r) c
     unfolding has
-    has-taken = any-taken s (isCell (kinds (without_torn s)) (without_torn s) k n r c) (isCell (kinds s) s k n (sent_row s k r) c) (λ j l. is_cell-taken k n r c j h l) (λ i l e. is_cell-stays k n r c i h e)
+    has-taken = any-taken s (is_cell (kinds (without_torn s)) (without_torn s) k n r c) (is_cell (kinds s) s k n (sent_row s k r) c) (λ j l. is_cell-taken k n r c j h l) (λ i l e. is_cell-stays k n r c i h e)
 
     read_taken : {A : Type 0} (x y : ℕ → A) (d : A) → ((j : ℕ) → j < records_left s → x j ≡ y (sent_record s j))
-        → last (count (without_torn s)) (isCell (kinds (without_torn s)) (without_torn s) k n r c) x d ≡ last (count s) (isCell (kinds s) s k n (sent_row s k r) c) y d
+        → last (count (without_torn s)) (is_cell (kinds (without_torn s)) (without_torn s) k n r c) x d ≡ last (count s) (is_cell (kinds s) s k n (sent_row s k r) c) y d
     read_taken x y d =
-        last_taken s (isCell (kinds (without_torn s)) (without_torn s) k n r c) (isCell (kinds s) s k n (sent_row s k r) c) x y d (λ j l. is_cell-taken k n r c j h l) (λ i l e. is_cell-stays k n r c i h e)
+        last_taken s (is_cell (kinds (without_torn s)) (without_torn s) k n r c) (is_cell (kinds s) s k n (sent_row s k r) c) x y d (λ j l. is_cell-taken k n r c j h l) (λ i l e. is_cell-stays k n r c i h e)
 
     cell-taken : cell (kinds (without_torn s)) (without_torn s) k n r c ≡ cell (kinds s) s k n (sent_row s k r) c
     unfolding cell
-    cell-taken = read_taken (value_of (without_torn s)) (value_of s) plusZero (λ j l. ap (of_bits binary64) ((taken-fields s).bits j l))
+    cell-taken = read_taken (value_of (without_torn s)) (value_of s) plus_zero (λ j l. ap (of_bits binary64) ((taken-fields s).bits j l))
 
   -- the number in a specimen's cell, and in the cell of another kind; and a block
   pub specimen-taken : (k r c : ℕ) → of_specimen k ≡ true → r < specimens_left s → cell_value (without_torn s) k r c ≡ cell_value s k (sent_specimen s r) c

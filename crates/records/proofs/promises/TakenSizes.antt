@@ -11,8 +11,8 @@ use Rattle.records.specs.declared.Field.{Field}
 use Rattle.records.specs.declared.Field.TheVariants.{Index}
 use Rattle.records.specs.declared.Sizes.{Sizes}
 use Rattle.records.specs.format.Scan.{any, most}
-use Rattle.records.specs.format.Kinds.{width, indexOf, Table, kindAt, kind_numbers, kenward_roger_kinds}
-use Rattle.records.specs.format.File.{count, kind_of, row_of, column_of, isCell, has, rows, columns, present, missing}
+use Rattle.records.specs.format.Kinds.{width, index_of, Table, kind_at, kind_numbers, kenward_roger_kinds}
+use Rattle.records.specs.format.File.{count, kind_of, row_of, column_of, is_cell, has, rows, columns, present, missing}
 use Rattle.records.specs.readers.Shortened.{torn, kept_below}
 use Rattle.records.specs.readers.Series.{specimens, coefficients, z_columns, sizes, kinds, as_sent}
 use Rattle.records.specs.promises.TornKeeps.{of_specimen, of_torn, without_torn, column_lost}
@@ -43,29 +43,29 @@ with_specimens n z =
 -- ---- a cell that has a record
 module _ (t : Table) (s : List ℕ) (k n r c : ℕ) where
   -- each has that its kind has, where none is missing and none may be absent
-  pub complete-has : (kindAt t k).sparse ≡ false → missing t s k ≡ false → Inside (kindAt t k) n r c → has t s k n r c ≡ true
+  pub complete-has : (kind_at t k).sparse ≡ false → missing t s k ≡ false → Inside (kind_at t k) n r c → has t s k n r c ≡ true
   unfolding missing
   complete-has full none v =
-      let z = kindAt t k in
+      let z = kind_at t k in
       let cells = rw full at none in
       not-false (has t s k n r c) (any-none-cells (width z.count) (width z.row) (width z.column) (λ n r c. not (has t s k n r c)) cells n r c v.number v.row v.column)
 
   -- its row and its column are below the kind's, where these are indices
-  had-row : (limit : ℕ) → (kindAt t k).row ≡ Index limit → has t s k n r c ≡ true → r < rows s k
-  unfolding has rows indexOf
+  had-row : (limit : ℕ) → (kind_at t k).row ≡ Index limit → has t s k n r c ≡ true → r < rows s k
+  unfolding has rows index_of
   had-row limit e h =
-      let f = any_found (count s) (isCell t s k n r c) h in
+      let f = any_found (count s) (is_cell t s k n r c) h in
       let m = cell-names t s k n r c f.index f.passes in
-      let b : row_of s f.index ≡ r = ap (λ (y : Field). indexOf y (row_of s f.index)) (sym (ap (λ (j : ℕ). (kindAt t j).row) m.kind ∙ e)) ∙ m.row in
+      let b : row_of s f.index ≡ r = ap (λ (y : Field). index_of y (row_of s f.index)) (sym (ap (λ (j : ℕ). (kind_at t j).row) m.kind ∙ e)) ∙ m.row in
       let l = field-below-most s k (row_of s) f.index f.below m.kind in
       omega arith
 
-  had-column : (limit : ℕ) → (kindAt t k).column ≡ Index limit → has t s k n r c ≡ true → c < columns s k
-  unfolding has columns indexOf
+  had-column : (limit : ℕ) → (kind_at t k).column ≡ Index limit → has t s k n r c ≡ true → c < columns s k
+  unfolding has columns index_of
   had-column limit e h =
-      let f = any_found (count s) (isCell t s k n r c) h in
+      let f = any_found (count s) (is_cell t s k n r c) h in
       let m = cell-names t s k n r c f.index f.passes in
-      let b : column_of s f.index ≡ c = ap (λ (y : Field). indexOf y (column_of s f.index)) (sym (ap (λ (j : ℕ). (kindAt t j).column) m.kind ∙ e)) ∙ m.column in
+      let b : column_of s f.index ≡ c = ap (λ (y : Field). index_of y (column_of s f.index)) (sym (ap (λ (j : ℕ). (kind_at t j).column) m.kind ∙ e)) ∙ m.column in
       let l = field-below-most s k (column_of s) f.index f.below m.kind in
       omega arith
 
@@ -131,7 +131,7 @@ module _ (w : ℕ) (s : List ℕ) (a : AcceptedSeries w s) where
 
   -- X has a record for each specimen and coefficient, and so for each specimen that is left
   has-x : (r c : ℕ) → r < specimens s → c < coefficients s → has (kinds s) s 1 0 r c ≡ true
-  unfolding kindAt kenward_roger_kinds sizes width
+  unfolding kind_at kenward_roger_kinds sizes width
   has-x r c l m = complete-has (kinds s) s 1 0 r c refl (any_none kind_numbers (missing (kinds s) s) 1 (lit< tt) a.formed.complete) (record { number = lit< tt; row = l; column = m })
 
   has-x-left : (r c : ℕ) → r < specimens_left s → c < coefficients s → has (kinds (without_torn s)) (without_torn s) 1 0 r c ≡ true
@@ -140,12 +140,12 @@ module _ (w : ℕ) (s : List ℕ) (a : AcceptedSeries w s) where
 
   -- a weight for each specimen, where there are weights
   has-weight : (r : ℕ) → r < specimens s → present s 5 ≡ true → has (kinds s) s 5 0 r 0 ≡ true
-  unfolding kindAt kenward_roger_kinds sizes width
+  unfolding kind_at kenward_roger_kinds sizes width
   has-weight r l e = complete-has (kinds s) s 5 0 r 0 refl (any_none kind_numbers (missing (kinds s) s) 5 (lit< tt) a.formed.complete) (record { number = lit< tt; row = rw e l; column = lit< tt })
 
   -- so the specimens that are left are its specimens, and its coefficients those that were
   pub specimens-taken : specimens (without_torn s) ≡ specimens_left s
-  unfolding kindAt kenward_roger_kinds rows of_specimen
+  unfolding kind_at kenward_roger_kinds rows of_specimen
   specimens-taken =
       let n : ℕ = specimens_left s in
       let some = some_left in
@@ -154,7 +154,7 @@ module _ (w : ℕ) (s : List ℕ) (a : AcceptedSeries w s) where
       omega arith
 
   pub coefficients-taken : coefficients (without_torn s) ≡ coefficients s
-  unfolding kindAt kenward_roger_kinds
+  unfolding kind_at kenward_roger_kinds
   coefficients-taken =
       let p : ℕ = coefficients s in
       let some = some_left in
@@ -164,7 +164,7 @@ module _ (w : ℕ) (s : List ℕ) (a : AcceptedSeries w s) where
 
   -- there are weights in both or in neither
   pub present-taken : present (without_torn s) 5 ≡ present s 5
-  unfolding kindAt kenward_roger_kinds of_specimen
+  unfolding kind_at kenward_roger_kinds of_specimen
   present-taken = go (eqb (rows s 5) 0) refl
     where
       go : (b : Bool) → eqb (rows s 5) 0 ≡ b → present (without_torn s) 5 ≡ not b

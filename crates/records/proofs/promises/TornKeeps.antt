@@ -7,7 +7,7 @@ use mathlib.Core.List.{List, ◌++◌}
 use native.Mathlib.Omega.{arith}
 use lib.Dec.{eqb}
 use lib.ListN.{length}
-use Rattle.arithmetic.specs.Numbers.{plusZero}
+use Rattle.arithmetic.specs.Numbers.{plus_zero}
 use Rattle.arithmetic_cutoffs.specs.declared.Cutoffs.{Cutoffs}
 use Rattle.algebra.specs.Table.{row, table}
 use Rattle.algebra.specs.Reasons.{first}
@@ -16,12 +16,12 @@ use Rattle.adjustment.specs.Blocks.{no_block}
 use Rattle.adjustment.specs.Adjusted.{adjustment_reasons}
 use Rattle.tests.specs.KenwardRoger.{Run}
 use Rattle.records.specs.format.Scan.{any}
-use Rattle.records.specs.format.File.{count, kind_of, row_of, present, lengthReasons, formReasons}
-use Rattle.records.specs.format.Order.{orderReasons}
+use Rattle.records.specs.format.File.{count, kind_of, row_of, present, length_reasons, form_reasons}
+use Rattle.records.specs.format.Order.{order_reasons}
 use Rattle.records.specs.readers.Shortened.{torn, shortened}
-use Rattle.records.specs.readers.Series.{specimens, coefficients, z_columns, cell_value, as_sent, block_reasons, size_reasons, valueReasons, reasons, refusal, design, phi, sigma2, beta, beta_h, contrast}
+use Rattle.records.specs.readers.Series.{specimens, coefficients, z_columns, cell_value, as_sent, block_reasons, size_reasons, value_reasons, reasons, refusal, design, phi, sigma2, beta, beta_h, contrast}
 use Rattle.records.specs.format.Layout.{answer_bytes}
-use Rattle.records.specs.readers.CutoffTable.{cutoffsIn}
+use Rattle.records.specs.readers.CutoffTable.{cutoffs_in}
 use Rattle.records.specs.text.Text.{text_of}
 use Rattle.records.specs.calls.KenwardRogerCall.{adjusted, scaled, run, test_reasons, all_reasons, number, entries, series_call}
 use Rattle.records.specs.calls.ArchiveCall.{series_archive, series_reasons, series_refusal, archiving_call, told, archiving_returned}
@@ -54,10 +54,10 @@ module _ (w : ℕ) (s : List ℕ) (e : refusal w s ≡ 0) (as_many : z_columns (
 
   -- X, Z and the weights are those of the specimens that are left
   rows_left : (k c : ℕ) → of_specimen k ≡ true
-      → table plusZero (specimens (without_torn s)) c (specimens (without_torn s)) c (cell_value (without_torn s) k) ≡ table plusZero (specimens_left s) c (specimens_left s) c (λ i. cell_value s k (sent_specimen s i))
+      → table plus_zero (specimens (without_torn s)) c (specimens (without_torn s)) c (cell_value (without_torn s) k) ≡ table plus_zero (specimens_left s) c (specimens_left s) c (λ i. cell_value s k (sent_specimen s i))
   rows_left k c q =
       let n : ℕ = specimens_left s in
-      rw (specimens-taken w s a) (table-ext plusZero n c n c (cell_value (without_torn s) k) (λ i. cell_value s k (sent_specimen s i)) (λ i j l _. specimen-taken w s a k i j q l))
+      rw (specimens-taken w s a) (table-ext plus_zero n c n c (cell_value (without_torn s) k) (λ i. cell_value s k (sent_specimen s i)) (λ i j l _. specimen-taken w s a k i j q l))
 
   x-left : (as_sent (without_torn s)).x ≡ (design s).x
   unfolding as_sent of_specimen
@@ -71,7 +71,7 @@ module _ (w : ℕ) (s : List ℕ) (e : refusal w s ≡ 0) (as_many : z_columns (
   unfolding as_sent of_specimen
   weights-left =
       rw (present-taken w s a, specimens-taken w s a)
-      (row-ext plusZero n n (λ i. cell_value (without_torn s) 5 i 0) (λ i. cell_value s 5 (sent_specimen s i) 0) (λ i l. specimen-taken w s a 5 i 0 refl (some (present s 5) i l)))
+      (row-ext plus_zero n n (λ i. cell_value (without_torn s) 5 i 0) (λ i. cell_value s 5 (sent_specimen s i) 0) (λ i l. specimen-taken w s a 5 i 0 refl (some (present s 5) i l)))
       ∙ sym (short-weights s)
     where
       n : ℕ
@@ -94,7 +94,7 @@ module _ (w : ℕ) (s : List ℕ) (e : refusal w s ≡ 0) (as_many : z_columns (
         weights = weights-left i;
         blocks = row no_block 3 (rows_taken s 3 refl i) (blocks-taken w s a i);
         count = rows_taken s 3 refl i;
-        theta = row plusZero 3 (rows_taken s 4 refl i) (λ j. cells-taken w s a 4 refl i j 0);
+        theta = row plus_zero 3 (rows_taken s 4 refl i) (λ j. cells-taken w s a 4 refl i j 0);
       }
 
   -- no specimen of it is torn, so that it is run whole
@@ -142,7 +142,7 @@ module _ (w : ℕ) (s : List ℕ) (e : refusal w s ≡ 0) (as_many : z_columns (
     archive-taken = rw (coefficients-taken w s a, design-taken, phi-taken, sigma2-taken w s a)
 
     series-refusal-taken : series_refusal w c (without_torn s) ≡ series_refusal w c s
-    unfolding series_refusal series_reasons refusal reasons lengthReasons orderReasons formReasons block_reasons size_reasons valueReasons
+    unfolding series_refusal series_reasons refusal reasons length_reasons order_reasons form_reasons block_reasons size_reasons value_reasons
     series-refusal-taken =
         first_next (reasons w (without_torn s)) (adjustment_reasons c (design (without_torn s)) (phi (without_torn s)) (sigma2 (without_torn s))) refl (refusal-taken w s a as_many)
         ∙ rw (design-taken, phi-taken, sigma2-taken w s a) (sym (first_next (reasons w s) (adjustment_reasons c (design s) (phi s) (sigma2 s)) refl e))
@@ -158,7 +158,7 @@ module _ (w : ℕ) (s : List ℕ) (e : refusal w s ≡ 0) (as_many : z_columns (
 
   archiving-told : (lab lent : List ℕ) → archiving_returned w lab (without_torn s) lent ≡ archiving_returned w lab s lent
   unfolding told
-  archiving-told lab lent = rw (alike-returned (archiving_call w (without_torn s)) (archiving_call w s) lab lent (archiving-alike (cutoffsIn lab) lent), archive-taken (cutoffsIn lab))
+  archiving-told lab lent = rw (alike-returned (archiving_call w (without_torn s)) (archiving_call w s) lab lent (archiving-alike (cutoffs_in lab) lent), archive-taken (cutoffs_in lab))
 
 -- ---- where no specimen is torn no record is taken out, and none gets another number
 whole-file : (w : ℕ) (s : List ℕ) → AcceptedSeries w s → any (specimens s) (torn (as_sent s)) ≡ false → without_torn s ≡ s
@@ -179,12 +179,12 @@ pub torn-keeps : TornKeeps
 torn-keeps =
     record {
       none_torn = none-torn;
-      short_number = λ w lab s answer. alike-returned (series_call w s) (design_call w (shortened (as_sent s)) s) lab answer (short-alike w (cutoffsIn lab) s answer);
-      short_bytes = λ w lab s answer. alike-written (series_call w s) (design_call w (shortened (as_sent s)) s) lab answer (short-alike w (cutoffsIn lab) s answer);
-      taken_number = λ w lab s answer e as_many. alike-returned (series_call w (without_torn s)) (series_call w s) lab answer (taken-alike w s e as_many (cutoffsIn lab) answer);
-      taken_bytes = λ w lab s answer e as_many. alike-written (series_call w (without_torn s)) (series_call w s) lab answer (taken-alike w s e as_many (cutoffsIn lab) answer);
+      short_number = λ w lab s answer. alike-returned (series_call w s) (design_call w (shortened (as_sent s)) s) lab answer (short-alike w (cutoffs_in lab) s answer);
+      short_bytes = λ w lab s answer. alike-written (series_call w s) (design_call w (shortened (as_sent s)) s) lab answer (short-alike w (cutoffs_in lab) s answer);
+      taken_number = λ w lab s answer e as_many. alike-returned (series_call w (without_torn s)) (series_call w s) lab answer (taken-alike w s e as_many (cutoffs_in lab) answer);
+      taken_bytes = λ w lab s answer e as_many. alike-written (series_call w (without_torn s)) (series_call w s) lab answer (taken-alike w s e as_many (cutoffs_in lab) answer);
       taken_text = λ w c s e as_many. text-taken w s e as_many c;
-      taken_archive = λ w lab s lent e as_many. (archiving-told w s e as_many lab lent, alike-written (archiving_call w (without_torn s)) (archiving_call w s) lab lent (archiving-alike w s e as_many (cutoffsIn lab) lent));
+      taken_archive = λ w lab s lent e as_many. (archiving-told w s e as_many lab lent, alike-written (archiving_call w (without_torn s)) (archiving_call w s) lab lent (archiving-alike w s e as_many (cutoffs_in lab) lent));
       as_many = λ w s e noneLost. z_columns-taken w s (accepted-series w s e) noneLost;
       taken_none = λ w s e none. whole-file w s (accepted-series w s e) none;
     }

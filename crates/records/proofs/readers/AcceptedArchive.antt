@@ -6,25 +6,25 @@ use mathlib.Core.List.{List}
 use native.Mathlib.Omega.{arith}
 use lib.Dec.{lit≤}
 use lib.Ieee.{le}
-use Rattle.arithmetic.specs.Numbers.{plusZero}
+use Rattle.arithmetic.specs.Numbers.{plus_zero}
 use Rattle.algebra.proofs.ReasonLaws.{NoneHolds, first-none}
 use Rattle.records.specs.format.Scan.{any}
 use Rattle.records.specs.format.Kinds.{limits}
-use Rattle.records.specs.format.File.{count, notFinite}
-use Rattle.records.specs.readers.Archive.{reader, sizes_at, coefficients, parameters, sizes, archive_of, misscaled, valueReasons, scaled_reasons, reasons, refusal}
+use Rattle.records.specs.format.File.{count, not_finite}
+use Rattle.records.specs.readers.Archive.{reader, sizes_at, coefficients, parameters, sizes, archive_of, misscaled, value_reasons, scaled_reasons, reasons, refusal}
 use Rattle.records.proofs.readers.ReaderLaws.{WellFormed, accepted-formed, accepted-own, well_formed}
 use Rattle.records.proofs.readers.Limits.{archive-below}
 
 pub record AcceptedArchive (s : List ℕ) : Type 0 where
   pub formed : WellFormed reader s
-  pub finite : any (count s) (notFinite s) ≡ false
-  pub positive : le (archive_of s).sigma2 plusZero ≡ false
+  pub finite : any (count s) (not_finite s) ≡ false
+  pub positive : le (archive_of s).sigma2 plus_zero ≡ false
   pub phi_scaled : misscaled s 11 ≡ false
   pub phi_a_scaled : misscaled s 12 ≡ false
   pub ps_scaled : misscaled s 13 ≡ false
 
 pub accepted-archive : (s : List ℕ) → refusal s ≡ 0 → AcceptedArchive s
-unfolding refusal reasons valueReasons scaled_reasons
+unfolding refusal reasons value_reasons scaled_reasons
 accepted-archive s e =
     let n : NoneHolds (reader.own s) = first-none (reader.own s) refl (accepted-own reader s e) in
     record {

@@ -11,12 +11,12 @@ use lib.Ieee.Bits.{of_bits-fits}
 use borrow.Author.Tests.{eqb-true, not-false}
 use Rattle.arithmetic.specs.Numbers.{is_finite}
 use Rattle.arithmetic_cutoffs.specs.declared.Cutoffs.{Cutoffs}
-use Rattle.arithmetic_cutoffs.specs.Cutoffs.{decimal, documentCutoffs}
+use Rattle.arithmetic_cutoffs.specs.Cutoffs.{decimal, document_cutoffs}
 use Rattle.records.specs.format.Bytes.{word, long, bytes_of}
 use Rattle.records.specs.format.Scan.{any}
 use Rattle.records.specs.format.File.{kind_of, row_of, column_of, padding_of, count_of, value_of}
 use Rattle.records.specs.format.Written.{sequence}
-use Rattle.records.specs.readers.CutoffTable.{floorOf, badCutoff, badTable, cutoffsIn, cutoff_at, cutoff_bytes, built_in_table}
+use Rattle.records.specs.readers.CutoffTable.{floor_of, bad_cutoff, bad_table, cutoffs_in, cutoff_at, cutoff_bytes, built_in_table}
 use Rattle.algebra.specs.Reasons.{first}
 use Rattle.records.specs.calls.Call.{Call, lengths_fit, call_returned}
 use Rattle.records.proofs.format.ScanLaws.{or-false, any_none}
@@ -30,18 +30,18 @@ pub record CutoffIs (lab : List ℕ) (i : ℕ) : Type 0 where
   pub padding : padding_of lab i ≡ 0
   pub number : count_of lab i ≡ 0
   pub finite : is_finite (value_of lab i) ≡ true
-  pub above : lt (floorOf i) (value_of lab i) ≡ true
+  pub above : lt (floor_of i) (value_of lab i) ≡ true
 
-module _ (lab : List ℕ) (ok : badTable lab ≡ false) where
+module _ (lab : List ℕ) (ok : bad_table lab ≡ false) where
   pub table-length : length lab ≡ 144
-  unfolding badTable
-  table-length = eqb-true (length lab) 144 (not-false (eqb (length lab) 144) (or-false (not (eqb (length lab) 144)) (any 9 (badCutoff lab)) ok).0)
+  unfolding bad_table
+  table-length = eqb-true (length lab) 144 (not-false (eqb (length lab) 144) (or-false (not (eqb (length lab) 144)) (any 9 (bad_cutoff lab)) ok).0)
 
   pub cutoff-is : (i : ℕ) → i < 9 → CutoffIs lab i
-  unfolding badTable badCutoff
+  unfolding bad_table bad_cutoff
   cutoff-is i l =
-      let a = any_none 9 (badCutoff lab) i l (or-false (not (eqb (length lab) 144)) (any 9 (badCutoff lab)) ok).1 in
-      let g = or-false _ (not (lt (floorOf i) (value_of lab i))) a in
+      let a = any_none 9 (bad_cutoff lab) i l (or-false (not (eqb (length lab) 144)) (any 9 (bad_cutoff lab)) ok).1 in
+      let g = or-false _ (not (lt (floor_of i) (value_of lab i))) a in
       let f = or-false _ (not (is_finite (value_of lab i))) g.0 in
       let e = or-false _ (not (eqb (count_of lab i) 0)) f.0 in
       let d = or-false _ (not (eqb (padding_of lab i) 0)) e.0 in
@@ -54,27 +54,27 @@ module _ (lab : List ℕ) (ok : badTable lab ≡ false) where
         padding = eqb-true (padding_of lab i) 0 (not-false (eqb (padding_of lab i) 0) d.1);
         number = eqb-true (count_of lab i) 0 (not-false (eqb (count_of lab i) 0) e.1);
         finite = not-false (is_finite (value_of lab i)) f.1;
-        above = not-false (lt (floorOf i) (value_of lab i)) g.1;
+        above = not-false (lt (floor_of i) (value_of lab i)) g.1;
       }
 
 -- the cutoffs in a table, accepted or not, are f64 numbers, read from bits
-pub rotation-fits : (lab : List ℕ) → T (fits binary64 (cutoffsIn lab).rotation)
-unfolding cutoffsIn
+pub rotation-fits : (lab : List ℕ) → T (fits binary64 (cutoffs_in lab).rotation)
+unfolding cutoffs_in
 rotation-fits lab = of_bits-fits binary64 _
 
-pub cap-fits : (lab : List ℕ) → T (fits binary64 (cutoffsIn lab).cap)
-unfolding cutoffsIn
+pub cap-fits : (lab : List ℕ) → T (fits binary64 (cutoffs_in lab).cap)
+unfolding cutoffs_in
 cap-fits lab = of_bits-fits binary64 _
 
 -- ---- the built-in table, computed
-pub built-in-accepted : badTable built_in_table ≡ false
-unfolding badTable badCutoff any floorOf built_in_table cutoff_bytes cutoff_at sequence bytes_of word long documentCutoffs decimal round is_finite lt to_bits of_bits
+pub built-in-accepted : bad_table built_in_table ≡ false
+unfolding bad_table bad_cutoff any floor_of built_in_table cutoff_bytes cutoff_at sequence bytes_of word long document_cutoffs decimal round is_finite lt to_bits of_bits
 built-in-accepted = refl
 
-pub built-in-numbers : cutoffsIn built_in_table ≡ documentCutoffs
-unfolding cutoffsIn built_in_table cutoff_bytes cutoff_at sequence bytes_of word long documentCutoffs decimal round to_bits of_bits
+pub built-in-numbers : cutoffs_in built_in_table ≡ document_cutoffs
+unfolding cutoffs_in built_in_table cutoff_bytes cutoff_at sequence bytes_of word long document_cutoffs decimal round to_bits of_bits
 built-in-numbers = refl
 
 -- so that a call with it is one with document 01's numbers
-pub built-in-returned : (k : Call) (lent : List ℕ) → call_returned k built_in_table lent ≡ cond (lengths_fit k lent) (first (k.reasons documentCutoffs)) 1
+pub built-in-returned : (k : Call) (lent : List ℕ) → call_returned k built_in_table lent ≡ cond (lengths_fit k lent) (first (k.reasons document_cutoffs)) 1
 built-in-returned k lent = call-is k built_in_table lent ∙ rw built-in-accepted (ap (λ (c : Cutoffs). cond (lengths_fit k lent) (first (k.reasons c)) 1) built-in-numbers)

@@ -6,12 +6,12 @@ use mathlib.Core.List.{List}
 use lib.Dec.{eqb, ltb}
 use lib.Ieee.{Float, lt}
 use borrow.Author.Tests.{eqb-true}
-use Rattle.arithmetic.specs.Numbers.{plusZero, is_zero}
+use Rattle.arithmetic.specs.Numbers.{plus_zero, is_zero}
 use Rattle.adjustment.specs.declared.Block.{Block}
 use Rattle.adjustment.specs.Blocks.{places}
 use Rattle.records.specs.format.Scan.{any, last}
 use Rattle.records.specs.format.Kinds.{Table, kenward_roger_kinds}
-use Rattle.records.specs.format.File.{count, kind_of, column_of, count_of, first_value_of, isCell, cell, present}
+use Rattle.records.specs.format.File.{count, kind_of, column_of, count_of, first_value_of, is_cell, cell, present}
 use Rattle.records.specs.format.Alike.{Alike, Stays}
 use Rattle.records.specs.readers.Series.{specimens, coefficients, z_columns, block_count, thetas, contrast_rows, sizes, kinds, cell_value, block_of, as_sent, parameter_count, miscounted, bad_size, bad_weight, misfit, zero_contrast, phi, beta, beta_h, contrast}
 use Rattle.records.proofs.format.ScanLaws.{any_same, last-same, total-same}
@@ -27,11 +27,11 @@ module _ {s s' : List ℕ} (a : Alike s s') where
 
   -- ---- the blocks
   -- a block's k and m, which are its column and its count
-  last-field : (f : List ℕ → ℕ → ℕ) → ((i : ℕ) → f s' i ≡ f s i) → (b : ℕ) → last (count s') (isCell (kinds s') s' 3 0 b 0) (f s') 0 ≡ last (count s) (isCell (kinds s) s 3 0 b 0) (f s) 0
+  last-field : (f : List ℕ → ℕ → ℕ) → ((i : ℕ) → f s' i ≡ f s i) → (b : ℕ) → last (count s') (is_cell (kinds s') s' 3 0 b 0) (f s') 0 ≡ last (count s) (is_cell (kinds s) s 3 0 b 0) (f s) 0
   last-field f h b =
-      ap (λ (t : Table). last (count s') (isCell t s' 3 0 b 0) (f s') 0) kinds-same
-      ∙ ap (λ (n : ℕ). last n (isCell (kinds s) s' 3 0 b 0) (f s') 0) (count_same a)
-      ∙ last-same (count s) (isCell (kinds s) s' 3 0 b 0) (isCell (kinds s) s 3 0 b 0) (f s') (f s) 0 (λ i l. is_cell-same a (kinds s) 3 0 b 0 i) (λ i l p. h i)
+      ap (λ (t : Table). last (count s') (is_cell t s' 3 0 b 0) (f s') 0) kinds-same
+      ∙ ap (λ (n : ℕ). last n (is_cell (kinds s) s' 3 0 b 0) (f s') 0) (count_same a)
+      ∙ last-same (count s) (is_cell (kinds s) s' 3 0 b 0) (is_cell (kinds s) s 3 0 b 0) (f s') (f s) 0 (λ i l. is_cell-same a (kinds s) 3 0 b 0 i) (λ i l p. h i)
 
   block_of-same : (b : ℕ) → block_of s' b ≡ block_of s b
   unfolding block_of
@@ -94,7 +94,7 @@ module _ {s s' : List ℕ} (a : Alike s s') where
   unfolding bad_weight
   bad_weight-same h =
       rw (rows_same a 5, rows_same a 1)
-      (ap (λ (b : Bool). present s 5 && b) (any_same (specimens s) _ _ (λ i l. ap (λ (x : Float). lt x plusZero) (value_same 5 i 0 h))))
+      (ap (λ (b : Bool). present s 5 && b) (any_same (specimens s) _ _ (λ i l. ap (λ (x : Float). lt x plus_zero) (value_same 5 i 0 h))))
 
   -- the contrast, where the same cells are zero
   pub zero_contrast-same : ((r c : ℕ) → is_zero (cell_value s' 9 r c) ≡ is_zero (cell_value s 9 r c)) → zero_contrast s' ≡ zero_contrast s

@@ -8,7 +8,7 @@ use lib.Dec.{T, eqb, ltb}
 use lib.ListN.{get_or}
 use lib.Ieee.{Float, nan, binary64, fits}
 use borrow.Author.Tests.{ltb-false}
-use Rattle.arithmetic.specs.Numbers.{plusZero}
+use Rattle.arithmetic.specs.Numbers.{plus_zero}
 use Rattle.algebra.specs.Fold.{fold}
 use Rattle.algebra.specs.Kind.{floats}
 use Rattle.algebra.specs.Product.{at}
@@ -18,7 +18,7 @@ use Rattle.adjustment.specs.declared.Block.{Block}
 use Rattle.adjustment.specs.Blocks.{no_block, block_at, places, places_before}
 use Rattle.adjustment.specs.Covariance.{matrices}
 use Rattle.records.specs.format.Scan.{any, total}
-use Rattle.records.specs.format.Kinds.{kindAt, kenward_roger_kinds, limits, kenward_roger}
+use Rattle.records.specs.format.Kinds.{kind_at, kenward_roger_kinds, limits, kenward_roger}
 use Rattle.records.specs.readers.Shortened.{shortened}
 use Rattle.records.specs.readers.Series.{coefficients, block_count, contrast_rows, kinds, cell_value, block_of, as_sent, bad_size, design, phi, beta, beta_h, contrast, sigma2}
 use Rattle.records.proofs.format.ScanLaws.{or-false, total-same, fold-total}
@@ -34,7 +34,7 @@ pub record SeriesSized (s : List ℕ) : Type 0 where
   pub contrast : contrast_rows s ≤ 6
 
 pub series-sized : (w : ℕ) (s : List ℕ) → AcceptedSeries w s → SeriesSized s
-unfolding kindAt kenward_roger_kinds limits
+unfolding kind_at kenward_roger_kinds limits
 series-sized w s c =
     let b = columns-within (kenward_roger w) s c.formed.good 1 6 refl in
     record { some = omega arith; coefficients = omega arith; blocks = rows-within (kenward_roger w) s c.formed.good 3 3 refl; contrast = rows-within (kenward_roger w) s c.formed.good 9 6 refl }
@@ -59,19 +59,19 @@ matrices-bound w s c =
 module _ (s : List ℕ) (hp : coefficients s ≤ 6) where
   pub beta-at : (i : ℕ) → i < coefficients s → get_or (beta s) i nan ≡ cell_value s 8 i 0
   unfolding beta
-  beta-at i l = row_at plusZero 6 (coefficients s) (λ i. cell_value s 8 i 0) i nan l hp
+  beta-at i l = row_at plus_zero 6 (coefficients s) (λ i. cell_value s 8 i 0) i nan l hp
 
   pub beta_h-at : (i : ℕ) → i < coefficients s → get_or (beta_h s) i nan ≡ cell_value s 10 i 0
   unfolding beta_h
-  beta_h-at i l = row_at plusZero 6 (coefficients s) (λ i. cell_value s 10 i 0) i nan l hp
+  beta_h-at i l = row_at plus_zero 6 (coefficients s) (λ i. cell_value s 10 i 0) i nan l hp
 
   pub contrast-at : contrast_rows s ≤ 6 → (i j : ℕ) → i < contrast_rows s → j < coefficients s → at floats (contrast s) i j ≡ cell_value s 9 i j
   unfolding contrast
-  contrast-at hr i j h l = table_at plusZero 6 6 (contrast_rows s) (coefficients s) (cell_value s 9) i j nan h l hr hp
+  contrast-at hr i j h l = table_at plus_zero 6 6 (contrast_rows s) (coefficients s) (cell_value s 9) i j nan h l hr hp
 
   pub phi-at : (i j : ℕ) → i < coefficients s → j < coefficients s → at floats (phi s) i j ≡ cell_value s 6 i j
   unfolding phi
-  phi-at i j h l = table_at plusZero 6 6 (coefficients s) (coefficients s) (cell_value s 6) i j nan h l hp hp
+  phi-at i j h l = table_at plus_zero 6 6 (coefficients s) (coefficients s) (cell_value s 6) i j nan h l hp hp
 
   pub beta-fits : (i : ℕ) → i < coefficients s → T (fits binary64 (get_or (beta s) i nan))
   beta-fits i l = subst (λ (x : Float). T (fits binary64 x)) (sym (beta-at i l)) (cell-fits (kinds s) s 8 0 i 0)

@@ -8,7 +8,7 @@ use mathlib.Core.List.{List, [], ◌∷◌, map}
 use lib.ListN.{length, get_or, set, replicate, length-replicate, length-map}
 use lib.Seq.{ext_get_or}
 use lib.Ieee.{Float, nan}
-use Rattle.arithmetic.specs.Numbers.{plusZero, is_zero}
+use Rattle.arithmetic.specs.Numbers.{plus_zero, is_zero}
 use Rattle.algebra.specs.Fold.{fold}
 use Rattle.algebra.specs.Table.{row, table}
 use Rattle.algebra.specs.Small.{Rows}
@@ -69,8 +69,8 @@ module _ (s : List ℕ) where
   unfolding torn as_sent
   torn-is i l = go (present s 5)
     where
-      go : (b : Bool) → b && is_zero (get_or (row plusZero (cond b (specimens s) 0) (cond b (specimens s) 0) (λ i. cell_value s 5 i 0)) i nan) ≡ b && is_zero (cell_value s 5 i 0)
-      go true = ap is_zero (row_at plusZero (specimens s) (specimens s) (λ i. cell_value s 5 i 0) i nan l (omega arith))
+      go : (b : Bool) → b && is_zero (get_or (row plus_zero (cond b (specimens s) 0) (cond b (specimens s) 0) (λ i. cell_value s 5 i 0)) i nan) ≡ b && is_zero (cell_value s 5 i 0)
+      go true = ap is_zero (row_at plus_zero (specimens s) (specimens s) (λ i. cell_value s 5 i 0) i nan l (omega arith))
       go false = refl
 
   pub kept-below : AllBelow (specimens s) (kept_specimens (as_sent s))
@@ -82,22 +82,22 @@ module _ (s : List ℕ) where
   unfolding design shortened
   short_n = refl
 
-  pub short-x : (design s).x ≡ table plusZero (length (kept_specimens (as_sent s))) (coefficients s) (length (kept_specimens (as_sent s))) (coefficients s) (λ i. cell_value s 1 (get_or (kept_specimens (as_sent s)) i 0))
+  pub short-x : (design s).x ≡ table plus_zero (length (kept_specimens (as_sent s))) (coefficients s) (length (kept_specimens (as_sent s))) (coefficients s) (λ i. cell_value s 1 (get_or (kept_specimens (as_sent s)) i 0))
   unfolding design shortened as_sent
-  short-x = picked-table plusZero (specimens s) (coefficients s) (cell_value s 1) kept_of kept-below
+  short-x = picked-table plus_zero (specimens s) (coefficients s) (cell_value s 1) kept_of kept-below
 
-  pub short-z : (design s).z ≡ table plusZero (length (kept_specimens (as_sent s))) (z_columns s) (length (kept_specimens (as_sent s))) (z_columns s) (λ i. cell_value s 2 (get_or (kept_specimens (as_sent s)) i 0))
+  pub short-z : (design s).z ≡ table plus_zero (length (kept_specimens (as_sent s))) (z_columns s) (length (kept_specimens (as_sent s))) (z_columns s) (λ i. cell_value s 2 (get_or (kept_specimens (as_sent s)) i 0))
   unfolding design shortened as_sent
-  short-z = picked-table plusZero (specimens s) (z_columns s) (cell_value s 2) kept_of kept-below
+  short-z = picked-table plus_zero (specimens s) (z_columns s) (cell_value s 2) kept_of kept-below
 
   -- a weight for each of them, or none
-  pub short-weights : (design s).weights ≡ row plusZero (cond (present s 5) (length (kept_specimens (as_sent s))) 0) (cond (present s 5) (length (kept_specimens (as_sent s))) 0) (λ i. cell_value s 5 (get_or (kept_specimens (as_sent s)) i 0) 0)
+  pub short-weights : (design s).weights ≡ row plus_zero (cond (present s 5) (length (kept_specimens (as_sent s))) 0) (cond (present s 5) (length (kept_specimens (as_sent s))) 0) (λ i. cell_value s 5 (get_or (kept_specimens (as_sent s)) i 0) 0)
   unfolding design shortened as_sent row fold
   short-weights = go (present s 5)
     where
-      go : (b : Bool) → cond b (map (λ i. get_or (row plusZero (cond b (specimens s) 0) (cond b (specimens s) 0) (λ i. cell_value s 5 i 0)) i nan) kept_of) []
-          ≡ row plusZero (cond b (length kept_of) 0) (cond b (length kept_of) 0) (λ i. cell_value s 5 (get_or kept_of i 0) 0)
-      go true = picked-row plusZero nan (specimens s) (λ i. cell_value s 5 i 0) kept_of kept-below
+      go : (b : Bool) → cond b (map (λ i. get_or (row plus_zero (cond b (specimens s) 0) (cond b (specimens s) 0) (λ i. cell_value s 5 i 0)) i nan) kept_of) []
+          ≡ row plus_zero (cond b (length kept_of) 0) (cond b (length kept_of) 0) (λ i. cell_value s 5 (get_or kept_of i 0) 0)
+      go true = picked-row plus_zero nan (specimens s) (λ i. cell_value s 5 i 0) kept_of kept-below
       go false = refl
 
   -- a series that is not all torn has a specimen that is kept
@@ -121,14 +121,14 @@ module _ (s : List ℕ) where
     self = kept_self (torn (as_sent s)) (specimens s) stays
 
     -- a table of the kept specimens' rows is that of all rows, and so are their weights
-    whole-table : (c : ℕ) (f : ℕ → ℕ → Float) → table plusZero (length kept_of) c (length kept_of) c (λ i. f (get_or kept_of i 0)) ≡ table plusZero (specimens s) c (specimens s) c f
+    whole-table : (c : ℕ) (f : ℕ → ℕ → Float) → table plus_zero (length kept_of) c (length kept_of) c (λ i. f (get_or kept_of i 0)) ≡ table plus_zero (specimens s) c (specimens s) c f
     whole-table c f =
-        ap (λ (m : ℕ). table plusZero m c m c (λ i. f (get_or kept_of i 0))) all-kept
-        ∙ table-ext plusZero (specimens s) c (specimens s) c (λ i. f (get_or kept_of i 0)) f (λ i j h l. ap (λ (k : ℕ). f k j) (self i h))
+        ap (λ (m : ℕ). table plus_zero m c m c (λ i. f (get_or kept_of i 0))) all-kept
+        ∙ table-ext plus_zero (specimens s) c (specimens s) c (λ i. f (get_or kept_of i 0)) f (λ i j h l. ap (λ (k : ℕ). f k j) (self i h))
 
-    whole_row : (b : Bool) (f : ℕ → Float) → row plusZero (cond b (length kept_of) 0) (cond b (length kept_of) 0) (λ i. f (get_or kept_of i 0)) ≡ row plusZero (cond b (specimens s) 0) (cond b (specimens s) 0) f
+    whole_row : (b : Bool) (f : ℕ → Float) → row plus_zero (cond b (length kept_of) 0) (cond b (length kept_of) 0) (λ i. f (get_or kept_of i 0)) ≡ row plus_zero (cond b (specimens s) 0) (cond b (specimens s) 0) f
     unfolding row fold
-    whole_row true f = ap (λ (m : ℕ). row plusZero m m (λ i. f (get_or kept_of i 0))) all-kept ∙ row-ext plusZero (specimens s) (specimens s) (λ i. f (get_or kept_of i 0)) f (λ i l. ap f (self i l))
+    whole_row true f = ap (λ (m : ℕ). row plus_zero m m (λ i. f (get_or kept_of i 0))) all-kept ∙ row-ext plus_zero (specimens s) (specimens s) (λ i. f (get_or kept_of i 0)) f (λ i l. ap f (self i l))
     whole_row false f = refl
 
     -- the series as sent, but for what a torn specimen would change

@@ -12,10 +12,10 @@ use Rattle.tests.specs.declared.Number.{Number}
 use Rattle.tests.specs.declared.Number.TheVariants.{Is, None}
 use Rattle.records.specs.format.Bytes.{word, long, bytes_of}
 use Rattle.records.specs.format.Scan.{any, most, last}
-use Rattle.records.specs.format.Kinds.{kindAt, holds, width, kenward_roger_kinds, limits}
-use Rattle.records.specs.format.Written.{recordOf}
-use Rattle.records.specs.format.File.{out_of, badRecord, isCell, has, rows, columns, missing, lengthReasons, formReasons}
-use Rattle.records.specs.format.Order.{numbersMatrix, matrixOf, standsBefore, falls, orderReasons}
+use Rattle.records.specs.format.Kinds.{kind_at, holds, width, kenward_roger_kinds, limits}
+use Rattle.records.specs.format.Written.{record_of}
+use Rattle.records.specs.format.File.{out_of, bad_record, is_cell, has, rows, columns, missing, length_reasons, form_reasons}
+use Rattle.records.specs.format.Order.{numbers_matrix, matrix_of, stands_before, falls, order_reasons}
 use Rattle.records.specs.readers.Series.{sizes, reasons}
 use Rattle.records.specs.calls.KenwardRogerCall.{all_reasons, number, entries}
 use Rattle.records.specs.text.Text.{codes, digit, decimal, refusal_text, text_of}
@@ -29,10 +29,10 @@ with_byte n m = 21 ∷ (replicate n 0 ++ (1 ∷ replicate m 0))
 
 -- two records of a series, of kinds 1 and 7
 abbrev one : List ℕ
-one = recordOf 1 0 0 0 0x3ff0000000000000
+one = record_of 1 0 0 0 0x3ff0000000000000
 
 abbrev seven : List ℕ
-seven = recordOf 7 0 0 0 0x4020000000000000
+seven = record_of 7 0 0 0 0x4020000000000000
 
 pub record ClosingExamples : Type 0 where
   -- "a record of kind 21, its other bytes zero"
@@ -58,17 +58,17 @@ closing-examples = record { zeros = refl; row = refl; within = refl; end = refl;
 -- ---- bytes left over
 -- "Bytes after the last closing record are answered with 2": also where they fall, as these two records do, and a file of them is refused with 12
 pub fallen-left : (c : Cutoffs) → (season_text c (seven ++ one) ≡ codes "refused 2\n") × (series_lines c (seven ++ one) ≡ codes "refused 12\n")
-unfolding season_text closed_texts texts_to closed_text closes begins series_before series_to series_in left_over left_text series_lines text_of refusal_text decimal digit codes number all_reasons reasons lengthReasons orderReasons falls standsBefore matrixOf numbersMatrix first any last word bytes_of
+unfolding season_text closed_texts texts_to closed_text closes begins series_before series_to series_in left_over left_text series_lines text_of refusal_text decimal digit codes number all_reasons reasons length_reasons order_reasons falls stands_before matrix_of numbers_matrix first any last word bytes_of
 fallen-left c = (refl, refl)
 
 -- a kind 21 that does not close is a record of its series, and a bad kind: it prints `refused 2`
 pub unclosing-printed : (c : Cutoffs) → season_text c (with_byte 0 14 ++ closing_record) ≡ codes "refused 2\n"
-unfolding season_text closed_texts texts_to closed_text closes begins series_before series_to series_in left_over left_text series_lines text_of refusal_text decimal digit codes number all_reasons reasons lengthReasons orderReasons falls standsBefore matrixOf numbersMatrix formReasons out_of badRecord kindAt holds kenward_roger_kinds limits first any last word long bytes_of
+unfolding season_text closed_texts texts_to closed_text closes begins series_before series_to series_in left_over left_text series_lines text_of refusal_text decimal digit codes number all_reasons reasons length_reasons order_reasons falls stands_before matrix_of numbers_matrix form_reasons out_of bad_record kind_at holds kenward_roger_kinds limits first any last word long bytes_of
 unclosing-printed c = refl
 
 -- an empty series is refused with 2: it has a place among the F's, and none in it
 pub empty-place : (c : Cutoffs) → fs_of c ([] ∷ [] ∷ []) ≡ None ∷ None ∷ []
-unfolding fs_of contrast_f entries number all_reasons reasons lengthReasons orderReasons falls formReasons missing kindAt has width isCell kenward_roger_kinds sizes rows columns most first any
+unfolding fs_of contrast_f entries number all_reasons reasons length_reasons order_reasons falls form_reasons missing kind_at has width is_cell kenward_roger_kinds sizes rows columns most first any
 empty-place c = refl
 
 -- ---- F's

@@ -3,9 +3,9 @@ use Rattle.std.specs.Prelude.{ℕ, Bool, true, List, ◌++◌}
 use Rattle.arithmetic_cutoffs.specs.declared.Cutoffs.{Cutoffs}
 use Rattle.algebra.specs.Reasons.{first}
 use Rattle.adjustment.specs.Adjusted.{adjustment_reasons}
-use Rattle.records.specs.format.File.{lengthReasons}
+use Rattle.records.specs.format.File.{length_reasons}
 use Rattle.records.specs.readers.Reader.{Reader, content_reasons}
-use Rattle.records.specs.format.Layout.{answer_bytes, entryBytes, answer_length, entry_length}
+use Rattle.records.specs.format.Layout.{answer_bytes, entry_bytes, answer_length, entry_length}
 use Rattle.records.specs.calls.Call.{Call}
 use Rattle.records.specs.text.Text.{text_of}
 use Rattle.records.specs.readers.Series.{reader, design, phi, sigma2}
@@ -15,7 +15,7 @@ use Rattle.records.specs.calls.SatterthwaiteCall.{outcome, test_reasons as satte
 
 -- what refused a file before anything was computed: its length, and what its records say
 unfoldable pub any_order_reasons : Reader → List ℕ → List (ℕ × Bool)
-any_order_reasons r s = lengthReasons s ++ content_reasons r s
+any_order_reasons r s = length_reasons s ++ content_reasons r s
 
 -- ---- the Kenward–Roger call, and the program
 module _ (w : ℕ) (c : Cutoffs) (s : List ℕ) where
@@ -34,4 +34,4 @@ unfoldable pub any_order_test_list : Cutoffs → List ℕ → List (ℕ × Bool)
 any_order_test_list c s = any_order_reasons parameterReader s ++ satterthwaiteTestReasons c s
 
 abbrev pub any_order_test : List ℕ → Call
-any_order_test s = record { stated = entry_length; besides = true; reasons = λ c. any_order_test_list c s; full = λ c answer. entryBytes (outcome c s).entry }
+any_order_test s = record { stated = entry_length; besides = true; reasons = λ c. any_order_test_list c s; full = λ c answer. entry_bytes (outcome c s).entry }

@@ -6,13 +6,13 @@ use Rattle.algebra.specs.Reasons.{first}
 use Rattle.adjustment.specs.Adjusted.{adjustment_reasons}
 use Rattle.records.specs.format.Scan.{any}
 use Rattle.records.specs.format.Kinds.{kenward_roger}
-use Rattle.records.specs.format.File.{count, kind_of, bits_of, lengthReasons, formReasons}
+use Rattle.records.specs.format.File.{count, kind_of, bits_of, length_reasons, form_reasons}
 use Rattle.records.specs.format.KindNumbers.{kind_block}
-use Rattle.records.specs.format.Order.{orderReasons}
+use Rattle.records.specs.format.Order.{order_reasons}
 use Rattle.records.specs.format.Layout.{answer_bytes, answer_length}
 use Rattle.records.specs.calls.Call.{Call}
 use Rattle.records.specs.text.Text.{text_of}
-use Rattle.records.specs.readers.Series.{kinds, size_reasons, valueReasons, design, phi, sigma2}
+use Rattle.records.specs.readers.Series.{kinds, size_reasons, value_reasons, design, phi, sigma2}
 use Rattle.records.specs.calls.KenwardRogerCall.{run, test_reasons}
 use Rattle.records.specs.readers.Archive.{archive_bytes, archive_length}
 use Rattle.records.specs.calls.ArchiveCall.{series_archive}
@@ -23,7 +23,7 @@ block_bits s i = eqb (kind_of s i) kind_block && not (eqb (bits_of s i) 0)
 
 -- what refused a file: such a block, beside 2's other reasons, and no 13
 unfoldable pub bare_reasons : ℕ → List ℕ → List (ℕ × Bool)
-bare_reasons w s = lengthReasons s ++ (orderReasons s ++ ((2, any (count s) (block_bits s)) ∷ (formReasons (kenward_roger w) (kinds s) s ++ (size_reasons s ++ valueReasons s))))
+bare_reasons w s = length_reasons s ++ (order_reasons s ++ ((2, any (count s) (block_bits s)) ∷ (form_reasons (kenward_roger w) (kinds s) s ++ (size_reasons s ++ value_reasons s))))
 
 -- the Kenward–Roger call: what it returned for the lent bytes, what they held then, and what `pulltest` printed
 module _ (w : ℕ) (c : Cutoffs) (s : List ℕ) where

@@ -11,7 +11,7 @@ use Rattle.tests.specs.declared.Entry.{Entry}
 use Rattle.tests.specs.Answer.{no_entry}
 use Rattle.tests.specs.KenwardRoger.{Scaled, scaled_ps, Run, run_of}
 use Rattle.records.specs.format.Layout.{answer_bytes, answer_length}
-use Rattle.records.specs.readers.CutoffTable.{cutoffsIn}
+use Rattle.records.specs.readers.CutoffTable.{cutoffs_in}
 use Rattle.records.specs.calls.Call.{Call, call_returned, call_written}
 use Rattle.records.specs.readers.Series as series
 use Rattle.records.specs.calls.KenwardRogerCall.{adjusted}
@@ -54,7 +54,7 @@ module _ (w : ℕ) (lab s : List ℕ) where
   archiving_refusal lent = call_returned (archiving_call w s) lab lent
 
   abbrev pub archiving_returned : List ℕ → ℕ
-  archiving_returned lent = told (cutoffsIn lab) s (archiving_refusal lent)
+  archiving_returned lent = told (cutoffs_in lab) s (archiving_refusal lent)
 
   abbrev pub archiving_written : List ℕ → List ℕ
   archiving_written lent = call_written (archiving_call w s) lab lent

@@ -2,7 +2,7 @@
 use Rattle.std.specs.Prelude.{ℕ, Bool, not, ◌&&◌, cond, List, [], ◌∷◌, ◌++◌, eqb, length}
 use Rattle.arithmetic_cutoffs.specs.declared.Cutoffs.{Cutoffs}
 use Rattle.algebra.specs.Reasons.{first}
-use Rattle.records.specs.readers.CutoffTable.{table_reasons, cutoffsIn}
+use Rattle.records.specs.readers.CutoffTable.{table_reasons, cutoffs_in}
 
 pub record Call : Type 0 where
   -- the length of the answer bytes that it asks for
@@ -28,10 +28,10 @@ filled_by n full lent = cond (eqb n 0) full lent
 -- ---- with a lab's table (document 02, "Req 06"): 1; 14, the table; then the files. The call without one is this at the built-in table.
 module _ (k : Call) (lab lent : List ℕ) where
   unfoldable pub call_reasons : List (ℕ × Bool)
-  call_reasons = lent_reasons k lent ++ (table_reasons lab ++ k.reasons (cutoffsIn lab))
+  call_reasons = lent_reasons k lent ++ (table_reasons lab ++ k.reasons (cutoffs_in lab))
 
   unfoldable pub call_returned : ℕ
   call_returned = first call_reasons
 
   unfoldable pub call_written : List ℕ
-  call_written = filled_by call_returned (k.full (cutoffsIn lab) lent) lent
+  call_written = filled_by call_returned (k.full (cutoffs_in lab) lent) lent

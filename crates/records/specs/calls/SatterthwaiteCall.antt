@@ -3,7 +3,7 @@ use Rattle.std.specs.Prelude.{ℕ, Bool, true, cond, List, [], ◌∷◌, ◌++�
 use Rattle.arithmetic_cutoffs.specs.declared.Cutoffs.{Cutoffs}
 use Rattle.tests.specs.declared.Entry.{Entry}
 use Rattle.tests.specs.Answer.{no_entry}
-use Rattle.records.specs.format.Layout.{entryBytes, entry_length}
+use Rattle.records.specs.format.Layout.{entry_bytes, entry_length}
 use Rattle.records.specs.calls.Call.{Call, call_returned, call_written}
 use Rattle.algebra.specs.Kind.{marks}
 use Rattle.algebra.specs.Reasons.{first}
@@ -30,12 +30,12 @@ module _ (c : Cutoffs) (s : List ℕ) where
   entry = cond (eqb number 0) outcome.entry no_entry
 
 -- ---- the call: "The Satterthwaite call fills one such entry, 24 bytes"
-abbrev pub testCall : List ℕ → Call
-testCall s = record { stated = entry_length; besides = true; reasons = λ c. all_reasons c s; full = λ c answer. entryBytes (entry c s) }
+abbrev pub test_call : List ℕ → Call
+test_call s = record { stated = entry_length; besides = true; reasons = λ c. all_reasons c s; full = λ c answer. entry_bytes (entry c s) }
 
 module _ (lab s : List ℕ) where
   abbrev pub returned : List ℕ → ℕ
-  returned answer = call_returned (testCall s) lab answer
+  returned answer = call_returned (test_call s) lab answer
 
   abbrev pub written : List ℕ → List ℕ
-  written answer = call_written (testCall s) lab answer
+  written answer = call_written (test_call s) lab answer

@@ -3,7 +3,7 @@
 use Rattle.std.specs.Prelude.{ℕ, ◌+◌, ◌*◌}
 use Rattle.records.specs.declared.Kind.{Kind}
 use Rattle.records.specs.format.Scan.{total}
-use Rattle.records.specs.format.Kinds.{Table, kindAt, kind_numbers, width}
+use Rattle.records.specs.format.Kinds.{Table, kind_at, kind_numbers, width}
 
 -- how many cells a kind has
 unfoldable pub slots : Kind → ℕ
@@ -11,7 +11,7 @@ slots z = width z.count * width z.row * width z.column
 
 -- the cells of the kinds before kind k, and of all
 unfoldable pub first_slot : Table → ℕ → ℕ
-first_slot t k = total k (λ j. slots (kindAt t j))
+first_slot t k = total k (λ j. slots (kind_at t j))
 
 abbrev pub slot_count : Table → ℕ
 slot_count t = first_slot t kind_numbers
@@ -21,4 +21,4 @@ unfoldable pub offset : Kind → ℕ → ℕ → ℕ → ℕ
 offset z n r c = (n * width z.row + r) * width z.column + c
 
 unfoldable pub slot : Table → ℕ → ℕ → ℕ → ℕ → ℕ
-slot t k n r c = first_slot t k + offset (kindAt t k) n r c
+slot t k n r c = first_slot t k + offset (kind_at t k) n r c

@@ -25,15 +25,15 @@ width (Index limit) = limit
 width Number = 1
 width Unused = 1
 
-unfoldable pub indexOf : Field → ℕ → ℕ
-indexOf (Index limit) x = x
-indexOf Number x = 0
-indexOf Unused x = 0
+unfoldable pub index_of : Field → ℕ → ℕ
+index_of (Index limit) x = x
+index_of Number x = 0
+index_of Unused x = 0
 
 -- What the value bits may be: an f64's are any. "Req 04": "The first of the eight value bytes now holds that number .., and the other seven are zero": the first is the lowest, so that the bits are below 256.
-unfoldable pub valueHolds : Value → ℕ → Bool
-valueHolds Float bits = true
-valueHolds FirstByte bits = ltb bits 256
+unfoldable pub value_holds : Value → ℕ → Bool
+value_holds Float bits = true
+value_holds FirstByte bits = ltb bits 256
 
 -- ---- one kind
 -- named by row and column, by the row alone, by count, row and column, or one cell alone
@@ -65,9 +65,9 @@ unread = record { count = Unused; row = Index 0; column = Unused; value = Float;
 abbrev pub Table : Type 0
 Table = List (ℕ × Kind)
 
-unfoldable pub kindAt : Table → ℕ → Kind
-kindAt [] k = unread
-kindAt (e ∷ t) k = cond (eqb k e.0) e.1 (kindAt t k)
+unfoldable pub kind_at : Table → ℕ → Kind
+kind_at [] k = unread
+kind_at (e ∷ t) k = cond (eqb k e.0) e.1 (kind_at t k)
 
 -- every call's kinds have numbers below this
 abbrev pub kind_numbers : ℕ
@@ -89,8 +89,8 @@ kenward_roger_kinds z =
     ∷ []
 
 -- β, contrast, β_H; v, Jacobian, A
-unfoldable pub satterthwaiteKinds : Sizes → Table
-satterthwaiteKinds z =
+unfoldable pub satterthwaite_kinds : Sizes → Table
+satterthwaite_kinds z =
     (kind_beta, by_row z.coefficients)
     ∷ (kind_contrast, by_row_and_column z.contrasts z.coefficients)
     ∷ (kind_beta_h, by_row (cond z.hypothesis z.coefficients 0))
@@ -123,7 +123,7 @@ test_kinds z =
 -- the table of each file
 abbrev pub kinds_of : Shape → Sizes → Table
 kinds_of Series z = kenward_roger_kinds z
-kinds_of Test z = satterthwaiteKinds z
+kinds_of Test z = satterthwaite_kinds z
 kinds_of Archived z = archive_kinds z
 kinds_of Second z = test_kinds z
 
@@ -142,7 +142,7 @@ kenward_roger w = kenward_roger_kinds (limits w)
 
 -- no kind of these names specimens, so that their limit is of no account
 abbrev pub satterthwaite : Table
-satterthwaite = satterthwaiteKinds (limits 1)
+satterthwaite = satterthwaite_kinds (limits 1)
 
 abbrev pub archive_table : Table
 archive_table = archive_kinds (limits 1)

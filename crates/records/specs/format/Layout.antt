@@ -31,13 +31,13 @@ abbrev pub answer_length : ℕ
 answer_length = 168
 
 -- the bytes of an entry
-unfoldable pub entryBytes : Entry → List ℕ
-entryBytes e = bytes_of 8 (bits_of e.f) ++ (bytes_of 8 (bits_of e.df) ++ tail e)
+unfoldable pub entry_bytes : Entry → List ℕ
+entry_bytes e = bytes_of 8 (bits_of e.f) ++ (bytes_of 8 (bits_of e.df) ++ tail e)
 
 -- the entries one after another: seven are an answer
 unfoldable pub answer_bytes : List Entry → List ℕ
 answer_bytes [] = []
-answer_bytes (e ∷ es) = entryBytes e ++ answer_bytes es
+answer_bytes (e ∷ es) = entry_bytes e ++ answer_bytes es
 
 -- The reader's side: the number whose bits start at a byte, where another byte says that it is given, and entry i of the answer.
 abbrev pub number_from : List ℕ → ℕ → ℕ → Number

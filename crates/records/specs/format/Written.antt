@@ -5,12 +5,12 @@ use Rattle.records.specs.declared.Field.{Field}
 use Rattle.records.specs.declared.Field.TheVariants.{Index, Number, Unused}
 use Rattle.records.specs.declared.Kind.{Kind}
 use Rattle.records.specs.format.Bytes.{bytes_of}
-use Rattle.records.specs.format.Kinds.{Table, kindAt, kind_numbers, width}
+use Rattle.records.specs.format.Kinds.{Table, kind_at, kind_numbers, width}
 use Rattle.records.specs.format.File.{count, kind_of}
 
 -- one record: kind, row, column, count and f64 bits
-abbrev pub recordOf : ℕ → ℕ → ℕ → ℕ → ℕ → List ℕ
-recordOf kind row column count bits = kind ∷ row ∷ column ∷ 0 ∷ (bytes_of 4 count ++ bytes_of 8 bits)
+abbrev pub record_of : ℕ → ℕ → ℕ → ℕ → ℕ → List ℕ
+record_of kind row column count bits = kind ∷ row ∷ column ∷ 0 ∷ (bytes_of 4 count ++ bytes_of 8 bits)
 
 -- what a cell's record says besides its place: the numbers of the fields that are numbers, as a block's k and m, and the value bits
 pub record Content : Type 0 where
@@ -27,7 +27,7 @@ field_of Unused x number = 0
 
 -- the record of cell (n, r, c) of kind k
 unfoldable pub cell_record : Kind → ℕ → ℕ → ℕ → ℕ → Content → List ℕ
-cell_record z k n r c v = recordOf k (field_of z.row r v.row) (field_of z.column c v.column) (field_of z.count n v.count) v.bits
+cell_record z k n r c v = record_of k (field_of z.row r v.row) (field_of z.column c v.column) (field_of z.count n v.count) v.bits
 
 -- lists one after another
 unfoldable pub sequence : ℕ → (ℕ → List ℕ) → List ℕ
@@ -44,7 +44,7 @@ records_of passes s = sequence (count s) (λ i. cond (passes (kind_of s i)) (rec
 -- all cells of a kind in order, count before row before column; and a file: the table's cells, kind after kind. What each cell says is given by kind, count, row and column.
 unfoldable pub kind_file : Table → (ℕ → ℕ → ℕ → ℕ → Content) → ℕ → List ℕ
 kind_file t f k =
-    let z : Kind = kindAt t k in
+    let z : Kind = kind_at t k in
     sequence (width z.count) (λ n. sequence (width z.row) (λ r. sequence (width z.column) (λ c. cell_record z k n r c (f k n r c))))
 
 unfoldable pub file_of : Table → (ℕ → ℕ → ℕ → ℕ → Content) → List ℕ

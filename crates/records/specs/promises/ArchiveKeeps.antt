@@ -2,8 +2,8 @@
 use Rattle.std.specs.Prelude.{ℕ, ◌%◌, ◌<◌, ◌≤◌, ◌≡◌, List}
 use Rattle.arithmetic_cutoffs.specs.declared.Cutoffs.{Cutoffs}
 use Rattle.records.specs.format.Bytes.{byte}
-use Rattle.records.specs.format.Kinds.{kindAt, width, archive_kinds}
-use Rattle.records.specs.readers.CutoffTable.{cutoffsIn}
+use Rattle.records.specs.format.Kinds.{kind_at, width, archive_kinds}
+use Rattle.records.specs.readers.CutoffTable.{cutoffs_in}
 use Rattle.records.specs.calls.KenwardRogerCall.{returned, written}
 use Rattle.records.specs.readers.Archive.{Archive, sizes_at, archived, archive_bytes, archive_of, refusal, cell_value, archive_length}
 use Rattle.records.specs.readers.SecondFile.{own_tests}
@@ -11,9 +11,9 @@ use Rattle.records.specs.calls.ArchiveCall.{series_archive, series_refusal, arch
 
 -- the cells of an archive: index n, row r and column d of kind k are below what its sizes leave the kind
 pub record ArchiveCell (a : Archive) (k n r d : ℕ) : Type 0 where
-  pub index : n < width (kindAt (archive_kinds (sizes_at a.coefficients a.parameters)) k).count
-  pub row : r < width (kindAt (archive_kinds (sizes_at a.coefficients a.parameters)) k).row
-  pub column : d < width (kindAt (archive_kinds (sizes_at a.coefficients a.parameters)) k).column
+  pub index : n < width (kind_at (archive_kinds (sizes_at a.coefficients a.parameters)) k).count
+  pub row : r < width (kind_at (archive_kinds (sizes_at a.coefficients a.parameters)) k).row
+  pub column : d < width (kind_at (archive_kinds (sizes_at a.coefficients a.parameters)) k).column
 
 -- an archive a whose file is accepted and read back: what the file archives is a, and each cell's number, scaled or not, the one that was written
 pub record ReadsBack (a : Archive) : Type 0 where
@@ -31,12 +31,12 @@ pub record ArchiveKeeps : Type 0 where
   pub same_number : (w : ℕ) (lab s lent answer : List ℕ) → archiving_refusal w lab s lent ≡ 0 → testing_returned lab (left_archive w lab s lent) (own_tests s) answer ≡ returned w lab s answer
   pub same_bytes : (w : ℕ) (lab s lent answer : List ℕ) → archiving_refusal w lab s lent ≡ 0 → testing_written lab (left_archive w lab s lent) (own_tests s) answer ≡ written w lab s answer
   -- these are the series' archive
-  pub left : (w : ℕ) (lab s lent : List ℕ) → archiving_refusal w lab s lent ≡ 0 → left_archive w lab s lent ≡ archive_bytes (series_archive (cutoffsIn lab) s)
+  pub left : (w : ℕ) (lab s lent : List ℕ) → archiving_refusal w lab s lent ≡ 0 → left_archive w lab s lent ≡ archive_bytes (series_archive (cutoffs_in lab) s)
   -- and with the archive's bytes, however they came, it is so under every list of bytes as the table, also where both calls refuse it
-  pub archived_number : (w : ℕ) (lab s answer : List ℕ) → series_refusal w (cutoffsIn lab) s ≡ 0 → testing_returned lab (archive_bytes (series_archive (cutoffsIn lab) s)) (own_tests s) answer ≡ returned w lab s answer
-  pub archived_bytes : (w : ℕ) (lab s answer : List ℕ) → series_refusal w (cutoffsIn lab) s ≡ 0 → testing_written lab (archive_bytes (series_archive (cutoffsIn lab) s)) (own_tests s) answer ≡ written w lab s answer
+  pub archived_number : (w : ℕ) (lab s answer : List ℕ) → series_refusal w (cutoffs_in lab) s ≡ 0 → testing_returned lab (archive_bytes (series_archive (cutoffs_in lab) s)) (own_tests s) answer ≡ returned w lab s answer
+  pub archived_bytes : (w : ℕ) (lab s answer : List ℕ) → series_refusal w (cutoffs_in lab) s ≡ 0 → testing_written lab (archive_bytes (series_archive (cutoffs_in lab) s)) (own_tests s) answer ≡ written w lab s answer
   -- the writer "fills them from the front, keeps the rest": the file's bytes below the length that it returns, and from there on what was lent
-  pub front : (w : ℕ) (lab s lent : List ℕ) → archiving_refusal w lab s lent ≡ 0 → (i : ℕ) → i < archiving_returned w lab s lent → byte (archiving_written w lab s lent) i ≡ byte (archive_bytes (series_archive (cutoffsIn lab) s)) i
+  pub front : (w : ℕ) (lab s lent : List ℕ) → archiving_refusal w lab s lent ≡ 0 → (i : ℕ) → i < archiving_returned w lab s lent → byte (archiving_written w lab s lent) i ≡ byte (archive_bytes (series_archive (cutoffs_in lab) s)) i
   pub rest : (w : ℕ) (lab s lent : List ℕ) → archiving_refusal w lab s lent ≡ 0 → (i : ℕ) → archiving_returned w lab s lent ≤ i → byte (archiving_written w lab s lent) i ≡ byte lent i
   -- what it "returns": a length is at least 128 and a multiple of 16, within the lent bytes; no refusal's number is so large
   pub lengths : (w : ℕ) (lab s lent : List ℕ) → archiving_refusal w lab s lent ≡ 0

@@ -7,7 +7,7 @@ use Rattle.records.specs.format.Scan.{any}
 use Rattle.records.specs.format.File.{count, kind_of, column_of, bits_of}
 use Rattle.records.specs.format.KindNumbers.{kind_block}
 use Rattle.records.specs.format.Written.{sequence, record_at}
-use Rattle.records.specs.readers.CutoffTable.{badTable, cutoffsIn}
+use Rattle.records.specs.readers.CutoffTable.{bad_table, cutoffs_in}
 use Rattle.records.specs.text.Text.{text_of}
 use Rattle.records.specs.readers.Series.{parameter_count, miscounted, refusal}
 use Rattle.records.specs.calls.KenwardRogerCall.{number, entries, returned, written}
@@ -36,11 +36,11 @@ pub record CountsKeep : Type 0 where
   pub accepted : (w : ℕ) (s : List ℕ) → first (bare_reasons w s) ≡ 0 → refusal w (with_counts s) ≡ 0
   -- with the same answer; so it is for every file whose blocks' counts can be written, and a refused one keeps its number: what is returned, the lent bytes, the program's text, and the archive
   pub countable : (w : ℕ) (s : List ℕ) → first (bare_reasons w s) ≡ 0 → Countable s
-  pub same_number : (w : ℕ) (lab s answer : List ℕ) → badTable lab ≡ false → Countable s → returned w lab (with_counts s) answer ≡ untabled_returned (bare_call w s) (cutoffsIn lab) answer
-  pub same_bytes : (w : ℕ) (lab s answer : List ℕ) → badTable lab ≡ false → Countable s → written w lab (with_counts s) answer ≡ untabled_written (bare_call w s) (cutoffsIn lab) answer
+  pub same_number : (w : ℕ) (lab s answer : List ℕ) → bad_table lab ≡ false → Countable s → returned w lab (with_counts s) answer ≡ untabled_returned (bare_call w s) (cutoffs_in lab) answer
+  pub same_bytes : (w : ℕ) (lab s answer : List ℕ) → bad_table lab ≡ false → Countable s → written w lab (with_counts s) answer ≡ untabled_written (bare_call w s) (cutoffs_in lab) answer
   pub same_text : (w : ℕ) (c : Cutoffs) (s : List ℕ) → Countable s → text_of (number w c (with_counts s)) (entries w c (with_counts s)) ≡ bare_text w c s
-  pub same_archive : (w : ℕ) (lab s lent : List ℕ) → badTable lab ≡ false → Countable s
-      → (archiving_returned w lab (with_counts s) lent ≡ told (cutoffsIn lab) s (untabled_returned (bare_archiving w s) (cutoffsIn lab) lent)) × (archiving_written w lab (with_counts s) lent ≡ untabled_written (bare_archiving w s) (cutoffsIn lab) lent)
+  pub same_archive : (w : ℕ) (lab s lent : List ℕ) → bad_table lab ≡ false → Countable s
+      → (archiving_returned w lab (with_counts s) lent ≡ told (cutoffs_in lab) s (untabled_returned (bare_archiving w s) (cutoffs_in lab) lent)) × (archiving_written w lab (with_counts s) lent ≡ untabled_written (bare_archiving w s) (cutoffs_in lab) lent)
   -- a series without a block is the file itself
   pub no_block : (s : List ℕ) → length s % 16 ≡ 0 → any (count s) (λ i. eqb (kind_of s i) kind_block) ≡ false → with_counts s ≡ s
   -- in a file of bytes no k from 23 on can be right

@@ -3,7 +3,7 @@
 use Rattle.std.specs.Prelude.{ℕ, max, Bool, false, not, cond, List, [], ◌∷◌, ◌++◌, eqb, Float}
 use Rattle.std.specs.Float.{binary64}
 use Rattle.std.specs.Float.Ieee.{mul, div, le, to_bits}
-use Rattle.arithmetic.specs.Numbers.{plusZero}
+use Rattle.arithmetic.specs.Numbers.{plus_zero}
 use Rattle.algebra.specs.Kind.{floats}
 use Rattle.algebra.specs.Product.{at}
 use Rattle.algebra.specs.Table.{table}
@@ -13,8 +13,8 @@ use Rattle.adjustment.specs.Adjusted.{Stack, matrix_at, stack}
 use Rattle.records.specs.declared.Kind.{Kind}
 use Rattle.records.specs.declared.Sizes.{Sizes}
 use Rattle.records.specs.format.Scan.{any}
-use Rattle.records.specs.format.Kinds.{Table, kindAt, width, archive_kinds}
-use Rattle.records.specs.format.File.{count, cell, rows, columns, notFinite}
+use Rattle.records.specs.format.Kinds.{Table, kind_at, width, archive_kinds}
+use Rattle.records.specs.format.File.{count, cell, rows, columns, not_finite}
 use Rattle.records.specs.format.KindNumbers.{kind_scaled_phi, kind_scaled_phi_a, kind_scaled_p, kind_w, kind_archived_phi, kind_archived_phi_a, kind_archived_p, kind_archived_sigma2}
 use Rattle.records.specs.readers.Reader.{Reader, reader_reasons}
 use Rattle.records.specs.format.Written.{Content, file_of}
@@ -80,28 +80,28 @@ unfoldable pub archive_of : List ℕ → Archive
 archive_of s = record {
   coefficients = coefficients s;
   parameters = parameters s;
-  phi = table plusZero 6 6 (coefficients s) (coefficients s) (cell_value s kind_archived_phi 0);
-  phi_a = table plusZero 6 6 (coefficients s) (coefficients s) (cell_value s kind_archived_phi_a 0);
-  ps = stack 4 (parameters s) (λ i. table plusZero 6 6 (coefficients s) (coefficients s) (cell_value s kind_archived_p i));
-  w = table plusZero 6 6 (parameters s) (parameters s) (cell_value s kind_w 0);
+  phi = table plus_zero 6 6 (coefficients s) (coefficients s) (cell_value s kind_archived_phi 0);
+  phi_a = table plus_zero 6 6 (coefficients s) (coefficients s) (cell_value s kind_archived_phi_a 0);
+  ps = stack 4 (parameters s) (λ i. table plus_zero 6 6 (coefficients s) (coefficients s) (cell_value s kind_archived_p i));
+  w = table plus_zero 6 6 (parameters s) (parameters s) (cell_value s kind_w 0);
   sigma2 = cell_value s kind_archived_sigma2 0 0 0;
 }
 
 -- "a scaled record whose bits aren't its residual one's times or divided by sigma2": a cell of kind k whose bits are not those of what is archived
 unfoldable pub misscaled : List ℕ → ℕ → Bool
 misscaled s k =
-    let z : Kind = kindAt (kinds s) k in
+    let z : Kind = kind_at (kinds s) k in
     any (width z.count) (λ n. any (width z.row) (λ r. any (width z.column) (λ c. not (eqb (to_bits binary64 (cell_value s k n r c)) (to_bits binary64 (archived (archive_of s) k n r c))))))
 
 -- what refuses an archive, in order: its length, its order, its form, its values, and "After 5, a scaled record .. falls under 2"
-unfoldable pub valueReasons : List ℕ → List (ℕ × Bool)
-valueReasons s = (4, any (count s) (notFinite s)) ∷ (5, le (archive_of s).sigma2 plusZero) ∷ []
+unfoldable pub value_reasons : List ℕ → List (ℕ × Bool)
+value_reasons s = (4, any (count s) (not_finite s)) ∷ (5, le (archive_of s).sigma2 plus_zero) ∷ []
 
 unfoldable pub scaled_reasons : List ℕ → List (ℕ × Bool)
 scaled_reasons s = (2, misscaled s kind_scaled_phi) ∷ (2, misscaled s kind_scaled_phi_a) ∷ (2, misscaled s kind_scaled_p) ∷ []
 
 abbrev pub reader : Reader
-reader = record { kinds = archive_kinds; limit = 1; sizes = sizes; own = λ s. valueReasons s ++ scaled_reasons s }
+reader = record { kinds = archive_kinds; limit = 1; sizes = sizes; own = λ s. value_reasons s ++ scaled_reasons s }
 
 unfoldable pub reasons : List ℕ → List (ℕ × Bool)
 reasons s = reader_reasons reader s

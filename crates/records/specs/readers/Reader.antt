@@ -3,8 +3,8 @@ use Rattle.std.specs.Prelude.{ℕ, Bool, List, ◌++◌, Float}
 use Rattle.algebra.specs.Reasons.{first}
 use Rattle.records.specs.declared.Sizes.{Sizes}
 use Rattle.records.specs.format.Kinds.{Table, limits}
-use Rattle.records.specs.format.File.{cell, lengthReasons, formReasons}
-use Rattle.records.specs.format.Order.{orderReasons}
+use Rattle.records.specs.format.File.{cell, length_reasons, form_reasons}
+use Rattle.records.specs.format.Order.{order_reasons}
 
 pub record Reader : Type 0 where
   pub kinds : Sizes → Table
@@ -24,7 +24,7 @@ module _ (r : Reader) where
 
     -- its length and order, document 02's "Req 01": "checked directly after the multiple-of-16 test of 2 and before 2's other reasons"; its form
     abbrev pub formed_reasons : List (ℕ × Bool)
-    formed_reasons = lengthReasons s ++ (orderReasons s ++ formReasons limit_kinds file_kinds s)
+    formed_reasons = length_reasons s ++ (order_reasons s ++ form_reasons limit_kinds file_kinds s)
 
     -- its number by these alone
     abbrev pub formed_number : ℕ
@@ -32,8 +32,8 @@ module _ (r : Reader) where
 
     -- all but the length and the order: what the records say
     abbrev pub content_reasons : List (ℕ × Bool)
-    content_reasons = formReasons limit_kinds file_kinds s ++ r.own s
+    content_reasons = form_reasons limit_kinds file_kinds s ++ r.own s
 
     -- what refuses a file before anything is computed
     abbrev pub reader_reasons : List (ℕ × Bool)
-    reader_reasons = lengthReasons s ++ (orderReasons s ++ content_reasons)
+    reader_reasons = length_reasons s ++ (order_reasons s ++ content_reasons)

@@ -1,14 +1,14 @@
 -- Document 02, "Req 02": "A test from the archive, with the series' kinds 8 to 10 lent as a second file and judged after it". What the second file says, β, the contrast and β_H as in a series, and what
 -- refuses it, p being the archive's coefficients. "Kinds 2 to 5, 9, 10 may be absent wholly (β_H is then 0); 10 without 9 counts as beyond the sizes."
 use Rattle.std.specs.Prelude.{ℕ, max, Bool, false, not, ◌&&◌, ◌||◌, List, [], ◌∷◌, ◌++◌, eqb, Float}
-use Rattle.arithmetic.specs.Numbers.{plusZero, is_zero}
+use Rattle.arithmetic.specs.Numbers.{plus_zero, is_zero}
 use Rattle.algebra.specs.Table.{row, table}
 use Rattle.algebra.specs.Small.{Rows}
 use Rattle.algebra.specs.Reasons.{first}
 use Rattle.records.specs.declared.Sizes.{Sizes}
 use Rattle.records.specs.format.Scan.{any}
 use Rattle.records.specs.format.Kinds.{Table, test_kinds}
-use Rattle.records.specs.format.File.{count, cell, rows, present, notFinite}
+use Rattle.records.specs.format.File.{count, cell, rows, present, not_finite}
 use Rattle.records.specs.format.KindNumbers.{kind_beta, kind_contrast, kind_beta_h}
 use Rattle.records.specs.readers.Reader.{Reader, reader_reasons}
 use Rattle.records.specs.format.Written.{records_of}
@@ -47,11 +47,11 @@ zero_contrast t = present t kind_contrast && not (any (contrast_rows t) (λ r. a
 unfoldable pub formed_for : ℕ → List ℕ → List (ℕ × Bool)
 formed_for p t = (2, not (eqb (coefficients t) p)) ∷ []
 
-unfoldable pub valueReasons : List ℕ → List (ℕ × Bool)
-valueReasons t = (4, any (count t) (notFinite t)) ∷ (8, zero_contrast t) ∷ []
+unfoldable pub value_reasons : List ℕ → List (ℕ × Bool)
+value_reasons t = (4, any (count t) (not_finite t)) ∷ (8, zero_contrast t) ∷ []
 
 abbrev pub reader : ℕ → Reader
-reader p = record { kinds = test_kinds; limit = 1; sizes = sizes; own = λ t. formed_for p t ++ valueReasons t }
+reader p = record { kinds = test_kinds; limit = 1; sizes = sizes; own = λ t. formed_for p t ++ value_reasons t }
 
 unfoldable pub reasons : ℕ → List ℕ → List (ℕ × Bool)
 reasons p t = reader_reasons (reader p) t
@@ -61,13 +61,13 @@ refusal p t = first (reasons p t)
 
 -- ---- what the tests take from it
 unfoldable pub beta : List ℕ → List Float
-beta t = row plusZero 6 (coefficients t) (λ i. cell_value t kind_beta i 0)
+beta t = row plus_zero 6 (coefficients t) (λ i. cell_value t kind_beta i 0)
 
 unfoldable pub beta_h : List ℕ → List Float
-beta_h t = row plusZero 6 (coefficients t) (λ i. cell_value t kind_beta_h i 0)
+beta_h t = row plus_zero 6 (coefficients t) (λ i. cell_value t kind_beta_h i 0)
 
 unfoldable pub contrast : List ℕ → Rows
-contrast t = table plusZero 6 6 (contrast_rows t) (coefficients t) (cell_value t kind_contrast)
+contrast t = table plus_zero 6 6 (contrast_rows t) (coefficients t) (cell_value t kind_contrast)
 
 -- ---- "the series' kinds 8 to 10": the records of these kinds, in their order
 unfoldable pub is_test_kind : ℕ → Bool

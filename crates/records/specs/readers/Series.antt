@@ -2,7 +2,7 @@
 -- come before any computing.
 use Rattle.std.specs.Prelude.{ℕ, ◌+◌, ◌*◌, ◌/◌, max, Bool, not, ◌&&◌, ◌||◌, cond, List, [], ◌∷◌, ◌++◌, eqb, ltb, Float}
 use Rattle.std.specs.Float.Ieee.{lt, le}
-use Rattle.arithmetic.specs.Numbers.{plusZero, is_zero}
+use Rattle.arithmetic.specs.Numbers.{plus_zero, is_zero}
 use Rattle.algebra.specs.Table.{row, table}
 use Rattle.algebra.specs.Small.{Rows}
 use Rattle.adjustment.specs.declared.Block.{Block}
@@ -12,7 +12,7 @@ use Rattle.algebra.specs.Reasons.{first}
 use Rattle.records.specs.declared.Sizes.{Sizes}
 use Rattle.records.specs.format.Scan.{any, last, total}
 use Rattle.records.specs.format.Kinds.{Table, kenward_roger_kinds}
-use Rattle.records.specs.format.File.{count, kind_of, column_of, count_of, first_value_of, isCell, cell, rows, columns, present, notFinite}
+use Rattle.records.specs.format.File.{count, kind_of, column_of, count_of, first_value_of, is_cell, cell, rows, columns, present, not_finite}
 use Rattle.records.specs.format.KindNumbers.{kind_x, kind_z, kind_block, kind_theta, kind_weight, kind_phi, kind_sigma2, kind_beta, kind_contrast, kind_beta_h}
 use Rattle.records.specs.readers.Reader.{Reader, reader_reasons}
 use Rattle.records.specs.readers.Shortened.{all_torn, shortened}
@@ -70,8 +70,8 @@ sigma2 s = cell_value s kind_sigma2 0 0
 unfoldable pub block_of : List ℕ → ℕ → Block
 block_of s b =
     record {
-      effects = last (count s) (isCell (kinds s) s kind_block 0 b 0) (column_of s) 0;
-      groups = last (count s) (isCell (kinds s) s kind_block 0 b 0) (count_of s) 0;
+      effects = last (count s) (is_cell (kinds s) s kind_block 0 b 0) (column_of s) 0;
+      groups = last (count s) (is_cell (kinds s) s kind_block 0 b 0) (count_of s) 0;
     }
 
 -- ---- the design as the file sends it
@@ -79,13 +79,13 @@ unfoldable pub as_sent : List ℕ → Design
 as_sent s = record {
   n = specimens s;
   p = coefficients s;
-  x = table plusZero (specimens s) (coefficients s) (specimens s) (coefficients s) (cell_value s kind_x);
-  z = table plusZero (specimens s) (z_columns s) (specimens s) (z_columns s) (cell_value s kind_z);
+  x = table plus_zero (specimens s) (coefficients s) (specimens s) (coefficients s) (cell_value s kind_x);
+  z = table plus_zero (specimens s) (z_columns s) (specimens s) (z_columns s) (cell_value s kind_z);
   weighted = present s kind_weight;
-  weights = row plusZero (weight_count s) (weight_count s) (λ i. cell_value s kind_weight i 0);
+  weights = row plus_zero (weight_count s) (weight_count s) (λ i. cell_value s kind_weight i 0);
   blocks = row no_block 3 (block_count s) (block_of s);
   count = block_count s;
-  theta = row plusZero 3 (thetas s) (λ i. cell_value s kind_theta i 0);
+  theta = row plus_zero 3 (thetas s) (λ i. cell_value s kind_theta i 0);
 }
 
 -- ---- what refuses it
@@ -105,7 +105,7 @@ bad_size s =
 
 -- 6, by document 02, "Req 03": "Only a negative weight is refused with 6"
 unfoldable pub bad_weight : List ℕ → Bool
-bad_weight s = present s kind_weight && any (specimens s) (λ i. lt (cell_value s kind_weight i 0) plusZero)
+bad_weight s = present s kind_weight && any (specimens s) (λ i. lt (cell_value s kind_weight i 0) plus_zero)
 
 -- 7, "sum of m·k ≠ Z columns, or theta count ≠ sum of k(k+1)/2"
 unfoldable pub misfit : List ℕ → Bool
@@ -126,17 +126,17 @@ block_reasons s = (13, any (count s) (miscounted s)) ∷ []
 unfoldable pub size_reasons : List ℕ → List (ℕ × Bool)
 size_reasons s = (3, bad_size s || all_torn (as_sent s)) ∷ []
 
-unfoldable pub valueReasons : List ℕ → List (ℕ × Bool)
-valueReasons s =
-    (4, any (count s) (notFinite s))
-    ∷ (5, le (sigma2 s) plusZero)
+unfoldable pub value_reasons : List ℕ → List (ℕ × Bool)
+value_reasons s =
+    (4, any (count s) (not_finite s))
+    ∷ (5, le (sigma2 s) plus_zero)
     ∷ (6, bad_weight s)
     ∷ (7, misfit s)
     ∷ (8, zero_contrast s)
     ∷ []
 
 abbrev pub reader : ℕ → Reader
-reader w = record { kinds = kenward_roger_kinds; limit = w; sizes = sizes; own = λ s. block_reasons s ++ (size_reasons s ++ valueReasons s) }
+reader w = record { kinds = kenward_roger_kinds; limit = w; sizes = sizes; own = λ s. block_reasons s ++ (size_reasons s ++ value_reasons s) }
 
 unfoldable pub reasons : ℕ → List ℕ → List (ℕ × Bool)
 reasons w s = reader_reasons (reader w) s
@@ -150,14 +150,14 @@ unfoldable pub design : List ℕ → Design
 design s = shortened (as_sent s)
 
 unfoldable pub phi : List ℕ → Rows
-phi s = table plusZero 6 6 (coefficients s) (coefficients s) (cell_value s kind_phi)
+phi s = table plus_zero 6 6 (coefficients s) (coefficients s) (cell_value s kind_phi)
 
 unfoldable pub beta : List ℕ → List Float
-beta s = row plusZero 6 (coefficients s) (λ i. cell_value s kind_beta i 0)
+beta s = row plus_zero 6 (coefficients s) (λ i. cell_value s kind_beta i 0)
 
 -- "(β_H is then 0)"
 unfoldable pub beta_h : List ℕ → List Float
-beta_h s = row plusZero 6 (coefficients s) (λ i. cell_value s kind_beta_h i 0)
+beta_h s = row plus_zero 6 (coefficients s) (λ i. cell_value s kind_beta_h i 0)
 
 unfoldable pub contrast : List ℕ → Rows
-contrast s = table plusZero 6 6 (contrast_rows s) (coefficients s) (cell_value s kind_contrast)
+contrast s = table plus_zero 6 6 (contrast_rows s) (coefficients s) (cell_value s kind_contrast)

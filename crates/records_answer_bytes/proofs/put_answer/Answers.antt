@@ -10,7 +10,7 @@ use lib.ListN.{length, get_or, take}
 use lib.Seq.{sets, take_all}
 use Rattle.tests.specs.declared.Number.TheVariants.{Is}
 use Rattle.tests.specs.declared.Entry.{Entry}
-use Rattle.records.specs.format.Layout.{answer_bytes, entryBytes}
+use Rattle.records.specs.format.Layout.{answer_bytes, entry_bytes}
 use Rattle.records_little_endian.proofs.StoreLaws.{sets-all}
 use Rattle.records_answer_bytes.proofs.LayoutLaws.{length-answer, store}
 use Rattle.records_answer_bytes.proofs.put_answer.Goals as goal
@@ -33,7 +33,7 @@ loop-i-preserved c =
       c.loop-i.invariant.1,
       c.loop-i.invariant.2,
       omega arith,
-      p.ensures ∙ ap (λ (a : List ℕ). sets a (24 * c.loop-i.i) (entryBytes (get_or g.t2 c.loop-i.i past))) c.loop-i.invariant.4 ∙ store g.a.now g.t2 c.loop-i.i past h,
+      p.ensures ∙ ap (λ (a : List ℕ). sets a (24 * c.loop-i.i) (entry_bytes (get_or g.t2 c.loop-i.i past))) c.loop-i.invariant.4 ∙ store g.a.now g.t2 c.loop-i.i past h,
     )
 
 pub returns : goal.returns

@@ -9,7 +9,7 @@ use lib.ListN.{length, get_or, take}
 use lib.Seq.{sets, take_all}
 use Rattle.tests.specs.declared.Number.TheVariants.{Is}
 use Rattle.tests.specs.declared.Entry.{Entry}
-use Rattle.records.specs.format.Layout.{answer_bytes, entryBytes}
+use Rattle.records.specs.format.Layout.{answer_bytes, entry_bytes}
 use Rattle.records_little_endian.proofs.StoreLaws.{sets-all}
 use Rattle.records_answer_bytes.proofs.LayoutLaws.{length-answer, store}
 use Rattle.records_answer_bytes.proofs.put_answer.Given as goal

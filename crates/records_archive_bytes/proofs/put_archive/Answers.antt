@@ -4,7 +4,7 @@ use native.Mathlib.Omega.{arith}
 use mathlib.Core.Path.{◌≡◌, refl, ap, ◌∙◌}
 use lib.ListN.{length}
 use Rattle.records.specs.declared.Sizes.{Sizes}
-use Rattle.records.specs.format.Kinds.{kindAt, kinds_of, archive_kinds}
+use Rattle.records.specs.format.Kinds.{kind_at, kinds_of, archive_kinds}
 use Rattle.records.specs.format.Cells.{slots}
 use Rattle.records.specs.readers.Archive.{sizes_at}
 use Rattle.records_archive_bytes.proofs.FrontLaws.{narrow, kind-room, Front, front-none, front-more, front-all}
@@ -22,10 +22,10 @@ kind_at-requires c = tt
 
 pub put_kind-at-requires : goal.put_kind-at-requires
 put_kind-at-requires c =
-    let e : c.kind_at.result ≡ kindAt (archive_kinds (sizes_at c.args.p c.args.n)) c.loop-k.k = c.kind_at.ensures ∙ ap (λ (y : Sizes). kindAt (kinds_of Archived y) c.loop-k.k) c.loop-k.invariant.1 in
+    let e : c.kind_at.result ≡ kind_at (archive_kinds (sizes_at c.args.p c.args.n)) c.loop-k.k = c.kind_at.ensures ∙ ap (λ (y : Sizes). kind_at (kinds_of Archived y) c.loop-k.k) c.loop-k.invariant.1 in
     let m = narrow c.args.p c.args.n c.requires.0 c.requires.1 c.loop-k.k in
     let r = kind-room c.args.p c.args.n c.requires.0 c.requires.1 c.loop-k.k (omega arith) in
-    let q : slots c.kind_at.result ≡ slots (kindAt (archive_kinds (sizes_at c.args.p c.args.n)) c.loop-k.k) = ap slots e in
+    let q : slots c.kind_at.result ≡ slots (kind_at (archive_kinds (sizes_at c.args.p c.args.n)) c.loop-k.k) = ap slots e in
     let f = c.loop-k.invariant.3.place in
     (omega arith, rw e m.number, rw e m.row, rw e m.column)
 
@@ -33,7 +33,7 @@ pub loop-k-preserved : goal.loop-k-preserved
 loop-k-preserved c =
     let p = c.put_kind-at in
     let g = c.args in
-    let e : c.kind_at.result ≡ kindAt (archive_kinds (sizes_at g.p g.n)) c.loop-k.k = c.kind_at.ensures ∙ ap (λ (y : Sizes). kindAt (kinds_of Archived y) c.loop-k.k) c.loop-k.invariant.1 in
+    let e : c.kind_at.result ≡ kind_at (archive_kinds (sizes_at g.p g.n)) c.loop-k.k = c.kind_at.ensures ∙ ap (λ (y : Sizes). kind_at (kinds_of Archived y) c.loop-k.k) c.loop-k.invariant.1 in
     let k : length p.new.0 ≡ length l.loop.out = p.auto.0 in (
       omega arith,
       c.loop-k.invariant.1,

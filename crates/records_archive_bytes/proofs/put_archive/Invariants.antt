@@ -3,7 +3,7 @@ use native.Mathlib.Omega.{arith}
 use mathlib.Core.Path.{◌≡◌, refl, ap, ◌∙◌}
 use lib.ListN.{length}
 use Rattle.records.specs.declared.Sizes.{Sizes}
-use Rattle.records.specs.format.Kinds.{kindAt, kinds_of, archive_kinds}
+use Rattle.records.specs.format.Kinds.{kind_at, kinds_of, archive_kinds}
 use Rattle.records.specs.format.Cells.{slots}
 use Rattle.records.specs.readers.Archive.{sizes_at}
 use Rattle.records_archive_bytes.proofs.FrontLaws.{narrow, kind-room, Front, front-none, front-more, front-all}

@@ -3,7 +3,7 @@
 use Rattle.std.specs.Prelude.{ℕ, ◌+◌, ◌*◌, Bool, true, false, not, cond, ◌||◌, List, eqb, get_or, Float}
 use Rattle.std.specs.Float.{nan, binary64}
 use Rattle.std.specs.Float.Ieee.{mul, div, le, to_bits}
-use Rattle.arithmetic.specs.Numbers.{plusZero}
+use Rattle.arithmetic.specs.Numbers.{plus_zero}
 use Rattle.records.specs.declared.Sizes.{Sizes}
 use Rattle.records.specs.format.Scan.{any}
 use Rattle.records.specs.format.Kinds.{Table, archive_kinds}
@@ -30,4 +30,4 @@ misscaled_in z sheet =
     not_scaled false sheet (first_slot t kind_scaled_phi) (first_slot t kind_archived_phi) square sigma2 || not_scaled false sheet (first_slot t kind_scaled_phi_a) (first_slot t kind_archived_phi_a) square sigma2 || not_scaled true sheet (first_slot t kind_scaled_p) (first_slot t kind_archived_p) (z.parameters * square) sigma2
 
 unfoldable pub numbers_refusal : Sizes → List Float → ℕ
-numbers_refusal z sheet = cond (le (get_or sheet (first_slot (archive_kinds z) kind_archived_sigma2) nan) plusZero) 5 (cond (misscaled_in z sheet) 2 0)
+numbers_refusal z sheet = cond (le (get_or sheet (first_slot (archive_kinds z) kind_archived_sigma2) nan) plus_zero) 5 (cond (misscaled_in z sheet) 2 0)

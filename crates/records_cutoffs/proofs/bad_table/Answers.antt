@@ -6,7 +6,7 @@ use lib.ListN.{length}
 use native.Mathlib.Omega.{arith}
 use borrow.Author.Tests.{ne_eqb}
 use Rattle.records.specs.format.Scan.{any}
-use Rattle.records.specs.readers.CutoffTable.{badCutoff, badTable}
+use Rattle.records.specs.readers.CutoffTable.{bad_cutoff, bad_table}
 use Rattle.records.proofs.format.ScanLaws.{any-miss, any-hit}
 use Rattle.records_cutoffs.proofs.bad_table.Reads as reads
 use Rattle.records_cutoffs.proofs.bad_table.Lts as lts
@@ -14,7 +14,7 @@ use Rattle.records_cutoffs.proofs.bad_cutoff.Reads as bad-cutoff-reads
 use Rattle.records_cutoffs.proofs.bad_table.Goals as goal
 
 pub returns-then-table-ne144 : goal.returns-then-table-ne144
-unfolding badTable
+unfolding bad_table
 returns-then-table-ne144 c = rw (ne_eqb (length c.args.table.now) 144 c.if-table-ne144.true)
 
 pub loop-i-init : goal.loop-i-init
@@ -25,12 +25,12 @@ pub bad_cutoff-requires : goal.bad_cutoff-requires
 bad_cutoff-requires c = let l = c.loop-i.invariant.0 in omega arith
 
 pub returns-then-bad_cutoff : goal.returns-then-bad_cutoff
-unfolding badTable
-returns-then-bad_cutoff c = rw c.loop-i.invariant.0 (sym (any-hit 9 (badCutoff c.args.table.now) c.loop-i.i (omega arith) (sym c.bad_cutoff.ensures ∙ c.if-bad_cutoff.true)))
+unfolding bad_table
+returns-then-bad_cutoff c = rw c.loop-i.invariant.0 (sym (any-hit 9 (bad_cutoff c.args.table.now) c.loop-i.i (omega arith) (sym c.bad_cutoff.ensures ∙ c.if-bad_cutoff.true)))
 
 pub loop-i-preserved : goal.loop-i-preserved
 loop-i-preserved c = (c.loop-i.invariant.0, omega arith, any-miss _ _ c.loop-i.invariant.2 (sym c.bad_cutoff.ensures ∙ c.if-bad_cutoff.false))
 
 pub returns : goal.returns
-unfolding badTable
+unfolding bad_table
 returns c = let e : c.loop-i.i ≡ 9 = omega arith in rw (c.loop-i.invariant.0, ← e, c.loop-i.invariant.2)

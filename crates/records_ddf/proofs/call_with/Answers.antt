@@ -1,7 +1,7 @@
 -- `records_ddf::call_with` meets its contract.
 use mathlib.Core.Path.{refl, sym, ◌∙◌}
 use Rattle.records.proofs.readers.CutoffLaws.{table-length}
-use Rattle.records.specs.calls.SatterthwaiteCall.{number, testCall}
+use Rattle.records.specs.calls.SatterthwaiteCall.{number, test_call}
 use Rattle.records.proofs.calls.CallLaws.{other_length, other-table, own-answer}
 use borrow.Author.Rules.{rules}
 use Rattle.records_ddf.proofs.call_with.Reads as reads
@@ -14,12 +14,12 @@ use Rattle.records_ddf.proofs.call_with.Goals as goal
 pub returns-then-answer-ne-ENTRY_LENGTH : goal.returns-then-answer-ne-ENTRY_LENGTH
 returns-then-answer-ne-ENTRY_LENGTH c =
     let a = c.args in
-    other_length (testCall a.records.now) a.table.now a.answer.now c.if-answer-ne-ENTRY_LENGTH.true
+    other_length (test_call a.records.now) a.table.now a.answer.now c.if-answer-ne-ENTRY_LENGTH.true
 
 pub returns-then-bad_table : goal.returns-then-bad_table
 returns-then-bad_table c =
     let a = c.args in
-    other-table (testCall a.records.now) a.table.now a.answer.now refl c.if-answer-ne-ENTRY_LENGTH.false (sym c.bad_table.ensures ∙ c.if-bad_table.true)
+    other-table (test_call a.records.now) a.table.now a.answer.now refl c.if-answer-ne-ENTRY_LENGTH.false (sym c.bad_table.ensures ∙ c.if-bad_table.true)
 
 pub cutoffs_in-requires : goal.cutoffs_in-requires
 cutoffs_in-requires c = table-length c.args.table.now (sym c.bad_table.ensures ∙ c.if-bad_table.false)
@@ -29,4 +29,4 @@ unfolding number
 returns c =
     let a = c.args in
     let f = c.fill_entry.ensures in
-    own-answer (testCall a.records.now) a.table.now a.answer.now refl c.if-answer-ne-ENTRY_LENGTH.false (sym c.bad_table.ensures ∙ c.if-bad_table.false) _ c.cutoffs_in.ensures _ _ f.value f.answer_after
+    own-answer (test_call a.records.now) a.table.now a.answer.now refl c.if-answer-ne-ENTRY_LENGTH.false (sym c.bad_table.ensures ∙ c.if-bad_table.false) _ c.cutoffs_in.ensures _ _ f.value f.answer_after

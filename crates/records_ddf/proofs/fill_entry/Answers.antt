@@ -1,6 +1,6 @@
 -- `records_ddf::fill_entry` meets its contract.
 use mathlib.Core.Path.{◌∙◌}
-use Rattle.records.specs.format.Layout.{entryBytes}
+use Rattle.records.specs.format.Layout.{entry_bytes}
 use Rattle.records.specs.calls.SatterthwaiteCall.{number, entry}
 use Rattle.records.proofs.calls.CallLaws.{kept-bytes, filled-bytes}
 use Rattle.records_ddf.proofs.Judged.{entry-fills}
@@ -15,10 +15,10 @@ pub returns-then-number-ne0 : goal.returns-then-number-ne0
 returns-then-number-ne0 c =
     let a = c.args in
     let e = c.judge-e.ensures.number_after in
-    record { value = e; answer_after = kept-bytes _ (number a.c a.records.now) (entryBytes (entry a.c a.records.now)) a.answer.now e c.if-number-ne0.true }
+    record { value = e; answer_after = kept-bytes _ (number a.c a.records.now) (entry_bytes (entry a.c a.records.now)) a.answer.now e c.if-number-ne0.true }
 
 pub returns : goal.returns
 returns c =
     let a = c.args in
     let j = c.judge-e.ensures in
-    filled-bytes _ (number a.c a.records.now) (entryBytes (entry a.c a.records.now)) a.answer.now _ j.number_after c.if-number-ne0.false (c.put_entry.ensures ∙ entry-fills _ _ _ c.requires j.value)
+    filled-bytes _ (number a.c a.records.now) (entry_bytes (entry a.c a.records.now)) a.answer.now _ j.number_after c.if-number-ne0.false (c.put_entry.ensures ∙ entry-fills _ _ _ c.requires j.value)

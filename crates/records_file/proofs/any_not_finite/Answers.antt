@@ -4,7 +4,7 @@ use mathlib.Core.Path.{◌≡◌, refl, sym}
 use mathlib.Core.Bool.{false}
 use Rattle.records.specs.format.Scan.{any}
 use Rattle.records.proofs.format.ScanLaws.{any-miss, any-hit}
-use Rattle.records.specs.format.File.{count, notFinite}
+use Rattle.records.specs.format.File.{count, not_finite}
 use native.Mathlib.Omega.{arith}
 use Rattle.records_file.proofs.any_not_finite.Reads as reads
 use Rattle.records_file.proofs.any_not_finite.Lts as lts

@@ -1,5 +1,5 @@
 -- `records_file::not_finite` meets its contract.
-use Rattle.records.specs.format.File.{notFinite}
+use Rattle.records.specs.format.File.{not_finite}
 use borrow.Author.Rules.{rules}
 use Rattle.records_file.proofs.not_finite.Reads as reads
 use Rattle.records_file.proofs.not_finite.Lts as lts
@@ -8,5 +8,5 @@ use Rattle.records_file.proofs.value_at.Reads as value-at-reads
 use Rattle.records_file.proofs.not_finite.Goals as goal
 
 pub returns : goal.returns
-unfolding notFinite
+unfolding not_finite
 returns c = cc

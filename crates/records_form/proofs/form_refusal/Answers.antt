@@ -8,7 +8,7 @@ use lib.ListN.{length}
 use Rattle.records.specs.declared.Sizes.{Sizes}
 use Rattle.records.specs.format.Scan.{any}
 use Rattle.records.specs.format.Kinds.{kinds_of, kind_numbers, limits}
-use Rattle.records.specs.format.File.{count, badRecord, again, missing, beyond}
+use Rattle.records.specs.format.File.{count, bad_record, again, missing, beyond}
 use Rattle.records_sizes.specs.joints.Gathered.{sizes_of, reader_of}
 use Rattle.records.specs.format.Cells.{slot_count}
 use Rattle.records_sheet.specs.joints.Sheet.{Small, missing_in, flags_after}
@@ -30,14 +30,14 @@ use Rattle.records_form.proofs.form_refusal.Goals as goal
 -- no record is bad, so that the sizes at hand are small and their cells have room
 record Sound (file : Shape) (w : ℕ) (s : List ℕ) (z : Sizes) : Type 0 where
   sized : z ≡ sizes_of file s
-  good : any (count s) (badRecord (kinds_of file (limits w)) s) ≡ false
+  good : any (count s) (bad_record (kinds_of file (limits w)) s) ≡ false
   within : any (count s) (beyond (kinds_of file z) s) ≡ false
   small : Small z
   fit : slot_count (kinds_of file z) ≤ slot_count (kinds_of file (limits w))
 
-sound-of : (file : Shape) (w : ℕ) (s : List ℕ) (z l : Sizes) (bad far : Bool) → 1 ≤ w → w ≤ 256 → l ≡ limits w → bad ≡ any (count s) (badRecord (kinds_of file l) s) → bad ≡ false → z ≡ sizes_of file s → far ≡ any (count s) (beyond (kinds_of file z) s) → far ≡ false → Sound file w s z
+sound-of : (file : Shape) (w : ℕ) (s : List ℕ) (z l : Sizes) (bad far : Bool) → 1 ≤ w → w ≤ 256 → l ≡ limits w → bad ≡ any (count s) (bad_record (kinds_of file l) s) → bad ≡ false → z ≡ sizes_of file s → far ≡ any (count s) (beyond (kinds_of file z) s) → far ≡ false → Sound file w s z
 sound-of file w s z l bad far h1 h2 el eb fb ez ef ff =
-    let g : any (count s) (badRecord (kinds_of file (limits w)) s) ≡ false = ap (λ (y : Sizes). any (count s) (badRecord (kinds_of file y) s)) (sym el) ∙ sym eb ∙ fb in
+    let g : any (count s) (bad_record (kinds_of file (limits w)) s) ≡ false = ap (λ (y : Sizes). any (count s) (bad_record (kinds_of file y) s)) (sym el) ∙ sym eb ∙ fb in
     record {
       sized = ez;
       good = g;
@@ -65,7 +65,7 @@ pub returns-then-any_bad : goal.returns-then-any_bad
 returns-then-any_bad c =
     let a = c.args in
     let e = c.limits.ensures in
-    bad-record (reader_of a.file a.w) a.s.now (ap (λ (z : Sizes). any (count a.s.now) (badRecord (kinds_of a.file z) a.s.now)) (sym e) ∙ sym c.any_bad.ensures ∙ c.if-any_bad.true)
+    bad-record (reader_of a.file a.w) a.s.now (ap (λ (z : Sizes). any (count a.s.now) (bad_record (kinds_of a.file z) a.s.now)) (sym e) ∙ sym c.any_bad.ensures ∙ c.if-any_bad.true)
 
 pub returns-then-any_beyond : goal.returns-then-any_beyond
 returns-then-any_beyond c =

@@ -1,33 +1,33 @@
 -- `records_kinds::satterthwaite_kind` meets its contract.
 use borrow.Author.Tests.{ne_eqb}
-use Rattle.records.specs.format.Kinds.{kindAt, satterthwaiteKinds}
+use Rattle.records.specs.format.Kinds.{kind_at, satterthwaite_kinds}
 use borrow.Author.Rules.{rules}
 use Rattle.records_kinds.proofs.satterthwaite_kind.Goals as goal
 
 pub returns-in-8 : goal.returns-in-8
-unfolding kindAt satterthwaiteKinds
+unfolding kind_at satterthwaite_kinds
 returns-in-8 c = rw c.in-8.is c.by_row.ensures
 
 pub returns-in-9 : goal.returns-in-9
-unfolding kindAt satterthwaiteKinds
+unfolding kind_at satterthwaite_kinds
 returns-in-9 c = rw c.in-9.is c.by_row_and_column.ensures
 
 pub returns-in-10 : goal.returns-in-10
-unfolding kindAt satterthwaiteKinds
+unfolding kind_at satterthwaite_kinds
 returns-in-10 c = rw (c.in-10.is, ← c.given.ensures) c.by_row-in-10.ensures
 
 pub returns-in-30 : goal.returns-in-30
-unfolding kindAt satterthwaiteKinds
+unfolding kind_at satterthwaite_kinds
 returns-in-30 c = rw c.in-30.is c.by_row_and_column-in-30.ensures
 
 pub returns-in-31 : goal.returns-in-31
-unfolding kindAt satterthwaiteKinds
+unfolding kind_at satterthwaite_kinds
 returns-in-31 c = rw c.in-31.is c.by_count.ensures
 
 pub returns-in-32 : goal.returns-in-32
-unfolding kindAt satterthwaiteKinds
+unfolding kind_at satterthwaite_kinds
 returns-in-32 c = rw c.in-32.is c.by_row_and_column-in-32.ensures
 
 pub returns-in_default : goal.returns-in_default
-unfolding kindAt satterthwaiteKinds
+unfolding kind_at satterthwaite_kinds
 returns-in_default c = rw (ne_eqb _ _ c.in-8.rest.0.0.0.0.0.1, ne_eqb _ _ c.in-8.rest.0.0.0.0.1, ne_eqb _ _ c.in-8.rest.0.0.0.1, ne_eqb _ _ c.in-8.rest.0.0.1, ne_eqb _ _ c.in-8.rest.0.1, ne_eqb _ _ c.in-8.rest.1) c.unread.ensures

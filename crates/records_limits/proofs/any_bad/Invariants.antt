@@ -3,15 +3,15 @@ use mathlib.Core.Path.{◌≡◌, refl, sym, ◌∙◌}
 use mathlib.Core.Bool.{false}
 use Rattle.records.specs.format.Scan.{any}
 use Rattle.records.proofs.format.ScanLaws.{any-miss, any-hit}
-use Rattle.records.specs.format.File.{count, kind_of, badRecord}
-use Rattle.records.specs.format.Kinds.{kindAt, kinds_of}
+use Rattle.records.specs.format.File.{count, kind_of, bad_record}
+use Rattle.records.specs.format.Kinds.{kind_at, kinds_of}
 use native.Mathlib.Omega.{arith}
 use mathlib.Core.Logic.{⊎_elim}
 use Rattle.records_kinds.proofs.KnownKind.{Known, asked, same_kind, kept-kind}
 use Rattle.records_limits.proofs.any_bad.Given as goal
 
 abbrev pub invariant-loop-i : goal.invariant-loop-i
-invariant-loop-i l = (l.n ≡ count l.s) × (l.i ≤ l.n) × (l.k ≡ kindAt (kinds_of l.file l.limit) l.last) × (any l.i (badRecord (kinds_of l.file l.limit) l.s) ≡ false)
+invariant-loop-i l = (l.n ≡ count l.s) × (l.i ≤ l.n) × (l.k ≡ kind_at (kinds_of l.file l.limit) l.last) × (any l.i (bad_record (kinds_of l.file l.limit) l.s) ≡ false)
 
 abbrev pub decreases-loop-i : goal.decreases-loop-i
 decreases-loop-i l = l.n - l.i

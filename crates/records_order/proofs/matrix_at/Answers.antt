@@ -3,18 +3,18 @@ use mathlib.Core.Path.{◌≡◌}
 use mathlib.Core.Bool.{true, false}
 use native.Mathlib.Omega.{arith}
 use Rattle.records.specs.format.File.{kind_of}
-use Rattle.records.specs.format.Order.{numbersMatrix, matrixOf}
+use Rattle.records.specs.format.Order.{numbers_matrix, matrix_of}
 use borrow.Author.Rules.{rules}
 use Rattle.records_order.proofs.matrix_at.Goals as goal
 
 pub returns-then-numbers_matrix : goal.returns-then-numbers_matrix
-unfolding matrixOf
+unfolding matrix_of
 returns-then-numbers_matrix c =
-    let e : numbersMatrix (kind_of c.before.before.before.before.before.before.args.s.now c.before.before.before.before.before.before.args.i) ≡ true = cc in
+    let e : numbers_matrix (kind_of c.before.before.before.before.before.before.args.s.now c.before.before.before.before.before.before.args.i) ≡ true = cc in
     (rw e (cc), omega arith)
 
 pub returns : goal.returns
-unfolding matrixOf
+unfolding matrix_of
 returns c =
-    let e : numbersMatrix (kind_of c.before.before.before.before.before.args.s.now c.before.before.before.before.before.args.i) ≡ false = cc in
+    let e : numbers_matrix (kind_of c.before.before.before.before.before.args.s.now c.before.before.before.before.before.args.i) ≡ false = cc in
     (rw e, omega arith)

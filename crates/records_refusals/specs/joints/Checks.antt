@@ -3,7 +3,7 @@
 use Rattle.std.specs.Prelude.{ℕ, ◌+◌, Bool, not, ◌&&◌, List, [], ◌∷◌, get_or, Float}
 use Rattle.std.specs.Float.{nan}
 use Rattle.std.specs.Float.Ieee.{lt, le}
-use Rattle.arithmetic.specs.Numbers.{plusZero}
+use Rattle.arithmetic.specs.Numbers.{plus_zero}
 use Rattle.adjustment.specs.declared.Block.{Block}
 use Rattle.algebra.specs.Reasons.{first}
 use Rattle.records.specs.declared.Sizes.{Sizes}
@@ -26,7 +26,7 @@ records_refusal w s = first (reader_reasons (records_reader w) s)
 
 -- one of the m numbers from a place on is below zero
 unfoldable pub negatives : List Float → ℕ → ℕ → Bool
-negatives sheet at m = any m (λ j. lt (get_or sheet (at + j) nan) plusZero)
+negatives sheet at m = any m (λ j. lt (get_or sheet (at + j) nan) plus_zero)
 
 -- refusal 6, by where the weights start
 unfoldable pub bad_weight_in : Sizes → List Float → ℕ → Bool
@@ -41,7 +41,7 @@ unfoldable pub sheet_refusal : Sizes → List Block → List Float → ℕ
 sheet_refusal z blocks sheet =
     let t : Table = kinds_of Series z in
     first
-    ((5, le (get_or sheet (first_slot t kind_sigma2) nan) plusZero)
+    ((5, le (get_or sheet (first_slot t kind_sigma2) nan) plus_zero)
     ∷ (6, bad_weight_in z sheet (first_slot t kind_weight))
     ∷ (7, misfit_in z blocks)
     ∷ (8, zero_contrast_in z sheet (first_slot t kind_contrast))

@@ -1,7 +1,7 @@
 -- Not needed to check document 01: names that join the code to its definitions.
 -- What is lent for the reading of a series with the limit of specimens w, and what it holds once the series is read.
 use Rattle.std.specs.Prelude.{ℕ, ◌≤◌, ◌≡◌, Bool, false, List, length, replicate, Float}
-use Rattle.arithmetic.specs.Numbers.{plusZero}
+use Rattle.arithmetic.specs.Numbers.{plus_zero}
 use Rattle.records.specs.declared.Sizes.{Sizes}
 use Rattle.records.specs.format.Kinds.{kenward_roger}
 use Rattle.records.specs.format.Cells.{slot_count}
@@ -15,7 +15,7 @@ pub record Room (w : ℕ) (flags : List Bool) (sheet : List Float) : Type 0 wher
   pub some : 1 ≤ w
   pub most : w ≤ 256
   pub clear : flags ≡ replicate (length flags) false
-  pub blank : sheet ≡ replicate (length sheet) plusZero
+  pub blank : sheet ≡ replicate (length sheet) plus_zero
   pub flagged : slot_count (kenward_roger w) ≤ length flags
   pub written : slot_count (kenward_roger w) ≤ length sheet
 

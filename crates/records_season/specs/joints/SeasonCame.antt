@@ -1,7 +1,7 @@
 -- Not needed to check document 01: names that join the code to its definitions.
 -- A season's file that arrives in pieces of any lengths: what is kept of it while it comes. Of its open series that is what records_pieces keeps of a file; of those that are closed, the F's of the latest twenty.
 use Rattle.std.specs.Prelude.{ℕ, ◌<◌, ◌≡◌, Bool, cond, List, [], ◌∷◌, ◌++◌, map, eqb, length, get_or, drop, replicate, Float}
-use Rattle.arithmetic_cutoffs.specs.Cutoffs.{documentCutoffs}
+use Rattle.arithmetic_cutoffs.specs.Cutoffs.{document_cutoffs}
 use Rattle.tests.specs.declared.Number.{Number}
 use Rattle.tests.specs.declared.Number.TheVariants.{Is, None}
 use Rattle.tests.specs.Answer.{no_entry}
@@ -55,19 +55,19 @@ worst_text w = codes "worst " ++ (number_text w ++ codes "\n")
 
 -- the F of a series that arrived, and what is printed of it when it is closed, from what is kept
 abbrev pub arrived_f : Arrival → List ℕ → Number
-arrived_f a kept = (get_or (arrived_entries documentCutoffs a kept) 6 no_entry).f
+arrived_f a kept = (get_or (arrived_entries document_cutoffs a kept) 6 no_entry).f
 
 unfoldable pub arrived_text : Arrival → List ℕ → List Number → List ℕ
 arrived_text a kept window =
-    text_of (arrived_number documentCutoffs a kept) (arrived_entries documentCutoffs a kept)
-    ++ cond (eqb (arrived_number documentCutoffs a kept) 0) (worst_text (worst (with_latest (arrived_f a kept) window))) []
+    text_of (arrived_number document_cutoffs a kept) (arrived_entries document_cutoffs a kept)
+    ++ cond (eqb (arrived_number document_cutoffs a kept) 0) (worst_text (worst (with_latest (arrived_f a kept) window))) []
 
 -- ---- WHAT THE BYTES s OF A SEASON LEAVE, whole or in pieces
 pub record SeasonCame (s : List ℕ) (st : SeasonState) : Type 0 where
   pub bytes : (i : ℕ) → byte s i < 256
   pub room : length st.arrived.kept ≡ kept_length
   pub unclosed : Came (left_over s) st.arrived
-  pub window : st.window ≡ last_twenty (map (contrast_f documentCutoffs) (series_in s))
+  pub window : st.window ≡ last_twenty (map (contrast_f document_cutoffs) (series_in s))
 
 -- what some bytes leave: no contract can say which bytes a program reads
 pub record SeasonArrives (st : SeasonState) : Type 0 where
@@ -77,9 +77,9 @@ pub record SeasonArrives (st : SeasonState) : Type 0 where
 -- ---- FED THE BYTES t, whatever bytes s came before: the state is then what s and t leave, and what t adds to the text, `most` bytes at most, stands at the cursor, which has moved to its end; no other byte changed
 pub record Fed (t : List ℕ) (most : ℕ) (before : SeasonState) (out : List ℕ) (at : ℕ) (after : SeasonState) (out' : List ℕ) (at' : ℕ) : Type 0 where
   pub state : (s : List ℕ) → SeasonCame s before → SeasonCame (s ++ t) after
-  pub wrote : (s : List ℕ) → SeasonCame s before → Put most out at (added documentCutoffs s t) out' at'
+  pub wrote : (s : List ℕ) → SeasonCame s before → Put most out at (added document_cutoffs s t) out' at'
 
 -- ---- pieces one after another: what each adds to the text, after those before it
 unfoldable pub added_by : List ℕ → List (List ℕ) → List ℕ
 added_by s [] = []
-added_by s (piece ∷ pieces) = added documentCutoffs s piece ++ added_by (s ++ piece) pieces
+added_by s (piece ∷ pieces) = added document_cutoffs s piece ++ added_by (s ++ piece) pieces

@@ -5,19 +5,19 @@ use mathlib.Core.Path.{◌≡◌, sym, ◌∙◌}
 use mathlib.Core.Bool.{true, ◌&&◌, and-true}
 use mathlib.Core.List.{List}
 use lib.Dec.{eqb}
-use Rattle.records.specs.format.Kinds.{kindAt, kenward_roger_kinds, indexOf}
-use Rattle.records.specs.format.File.{kind_of, row_of, isCell}
+use Rattle.records.specs.format.Kinds.{kind_at, kenward_roger_kinds, index_of}
+use Rattle.records.specs.format.File.{kind_of, row_of, is_cell}
 use Rattle.records.specs.readers.Series.{kinds}
 use borrow.Author.Rules.{rules}
 use Rattle.records_series.proofs.is_block.Goals as goal
 
 -- a block is named by its row alone: its count and column are numbers and no indices
-block-cell : (s : List ℕ) (b i : ℕ) → kind_of s i ≡ 3 → isCell (kinds s) s 3 0 b 0 i ≡ eqb (row_of s i) b
-unfolding isCell kindAt kenward_roger_kinds indexOf
+block-cell : (s : List ℕ) (b i : ℕ) → kind_of s i ≡ 3 → is_cell (kinds s) s 3 0 b 0 i ≡ eqb (row_of s i) b
+unfolding is_cell kind_at kenward_roger_kinds index_of
 block-cell s b i e = rw e (and-true (eqb (row_of s i) b && true) ∙ and-true (eqb (row_of s i) b))
 
 pub returns-then-kind_of-ne3 : goal.returns-then-kind_of-ne3
-unfolding isCell
+unfolding is_cell
 returns-then-kind_of-ne3 c = rw (← c.kind_of.ensures, ne_eqb _ _ c.if-kind_of-ne3.true)
 
 pub returns : goal.returns

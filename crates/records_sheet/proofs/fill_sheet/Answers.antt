@@ -1,10 +1,9 @@
 -- `records_sheet::fill_sheet` meets its contract.
 use Prim.Native.Nat.{◌≤◌, ◌-◌}
 use mathlib.Core.Path.{◌≡◌, refl, ap, ◌∙◌}
-use mathlib.Core.Logic.{⊎_elim}
 use native.Mathlib.Omega.{arith}
 use lib.ListN.{length}
-use Rattle.records.specs.format.Kinds.{kindAt, kinds_of}
+use Rattle.records.specs.format.Kinds.{kind_at, kinds_of}
 use Rattle.records.specs.format.File.{count, kind_of}
 use Rattle.records.proofs.format.ScanLaws.{any_none}
 use Rattle.records_kinds.proofs.KnownKind.{Known, asked, same_kind, kept-kind}
@@ -12,17 +11,20 @@ use Rattle.records_sheet.specs.joints.Sheet.{slot_of, sheet_after}
 use Rattle.records_sheet.proofs.Sheets.{sheet-start, sheet-next, length-sheet}
 use Rattle.records_sheet.proofs.KnownSlots.{AtRecord, kind-placed, first_small, known-holds, known-widths, slot-known, slot-within, slot_small}
 use Rattle.records_sheet.proofs.fill_sheet.Goals as goal
+use Rattle.records_sheet.proofs.fill_sheet.Goals.{then-kind-last, else-kind-last}
 
 -- what the loop keeps is what the table says of record i's kind
 known-kind : (c : goal.Joined-kind-last)
-    → let a = c.args in Known (kinds_of a.file a.z) (kind_of a.s.now c.loop-i.i) c.if-kind-last.new c.if-kind-last.k
+    → let a = c.args in Known (kinds_of a.file a.z) (kind_of a.s.now c.loop-i.i) c.if-kind-last.last c.if-kind-last.k
 known-kind c =
-    ⊎_elim (λ w. asked _ _ _ _ _ _ c.kind_of-kind.ensures w.1.ensures w.2 w.3)
-    (λ w. same_kind _ _ _ _ _ _ _ c.kind_of-kind.ensures w.0.left c.loop-i.invariant.2 w.1 w.2) c.if-kind-last.branch
+    elim c.if-kind-last.branch [
+      | then-kind-last w ↦ asked _ _ _ _ _ _ c.kind_of-kind.ensures w.kind_at-k-then-kind-last.ensures w.last-is w.k-is
+      | else-kind-last w ↦ same_kind _ _ _ _ _ _ _ c.kind_of-kind.ensures w.if-kind-last.false c.loop-i.invariant.2 w.last-is w.k-is
+    ]
 
 -- what the loop has when it asks for record i's slot
 at-record : (c : goal.Joined-kind-last)
-    → let a = c.args in AtRecord a.file a.z a.firsts.now a.s.now c.loop-i.i c.kind_of-kind.result c.if-kind-last.new c.if-kind-last.k
+    → let a = c.args in AtRecord a.file a.z a.firsts.now a.s.now c.loop-i.i c.kind_of-kind.result c.if-kind-last.last c.if-kind-last.k
 at-record c =
     let p = c.requires.small in
     record { small = p.0; firsts = p.1; sized = any_none _ _ c.loop-i.i (omega arith) p.2; read = c.kind_of-kind.ensures; table = known-kind c }

@@ -6,7 +6,7 @@ use mathlib.Core.List.{List}
 use native.Mathlib.Omega.{arith}
 use lib.ListN.{get_or}
 use Rattle.records.specs.declared.Kind.{Kind}
-use Rattle.records.specs.format.Kinds.{Table, kindAt, kinds_of}
+use Rattle.records.specs.format.Kinds.{Table, kind_at, kinds_of}
 use Rattle.records.specs.format.Cells.{slots, first_slot}
 use Rattle.records_sheet.specs.joints.Sheet.{gap, missing_in}
 use Rattle.records_sheet.proofs.Sheets.{firsts_at, ends-within}
@@ -21,11 +21,11 @@ use Rattle.records_sheet.proofs.missing_in.Goals as goal
 
 -- src/lib.rt:130:1
 -- a kind whose cells may not be absent
-missing-is : (t : Table) (flags : List Bool) (k : ℕ) (r : Bool) → (kindAt t k).sparse ≡ false → r ≡ gap flags (first_slot t k) (slots (kindAt t k)) → r ≡ missing_in t flags k
+missing-is : (t : Table) (flags : List Bool) (k : ℕ) (r : Bool) → (kind_at t k).sparse ≡ false → r ≡ gap flags (first_slot t k) (slots (kind_at t k)) → r ≡ missing_in t flags k
 unfolding missing_in
-missing-is t flags k r e q = go (kindAt t k).sparse e
+missing-is t flags k r e q = go (kind_at t k).sparse e
   where
-    go : (b : Bool) → b ≡ false → r ≡ not b && gap flags (first_slot t k) (slots (kindAt t k))
+    go : (b : Bool) → b ≡ false → r ≡ not b && gap flags (first_slot t k) (slots (kind_at t k))
     go true e = absurd (false≢true (sym e))
     go false e = q
 

@@ -2,7 +2,7 @@
 use Prim.Native.Nat.{◌+◌}
 use mathlib.Core.Path.{ap, ◌∙◌}
 use native.Mathlib.Omega.{arith}
-use Rattle.records.specs.format.Kinds.{indexOf}
+use Rattle.records.specs.format.Kinds.{index_of}
 use Rattle.records.proofs.format.Slots.{holds-index, within}
 use borrow.Author.Rules.{rules}
 use Rattle.records_sheet.proofs.slot_at.Goals as goal
@@ -11,9 +11,9 @@ pub offset_in-requires : goal.offset_in-requires
 offset_in-requires c =
     let k = c.args.k in
     let w = within k c.args.s.now c.args.i c.requires.1 in
-    let en = c.index_of-n.ensures ∙ ap (indexOf k.count) c.count_at.ensures.0 in
-    let er = c.index_of-r.ensures ∙ ap (indexOf k.row) c.row_at.ensures.0 in
-    let ec = c.index_of-c.ensures ∙ ap (indexOf k.column) c.column_at.ensures.0 in
+    let en = c.index_of-n.ensures ∙ ap (index_of k.count) c.count_at.ensures.0 in
+    let er = c.index_of-r.ensures ∙ ap (index_of k.row) c.row_at.ensures.0 in
+    let ec = c.index_of-c.ensures ∙ ap (index_of k.column) c.column_at.ensures.0 in
     let ln = holds-index k.count _ w.number in
     let lr = holds-index k.row _ w.row in
     let lc = holds-index k.column _ w.column in
@@ -22,7 +22,7 @@ offset_in-requires c =
 pub returns : goal.returns
 returns c =
     let k = c.args.k in
-    let en = c.index_of-n.ensures ∙ ap (indexOf k.count) c.count_at.ensures.0 in
-    let er = c.index_of-r.ensures ∙ ap (indexOf k.row) c.row_at.ensures.0 in
-    let ec = c.index_of-c.ensures ∙ ap (indexOf k.column) c.column_at.ensures.0 in
+    let en = c.index_of-n.ensures ∙ ap (index_of k.count) c.count_at.ensures.0 in
+    let er = c.index_of-r.ensures ∙ ap (index_of k.row) c.row_at.ensures.0 in
+    let ec = c.index_of-c.ensures ∙ ap (index_of k.column) c.column_at.ensures.0 in
     ap (◌+◌ c.args.first) (c.offset_in.ensures.0 ∙ rw (en, er, ec))

@@ -1,12 +1,12 @@
 -- Not needed to check document 01: names that join the code to its definitions.
 -- Where the reader keeps what a file says: a slot for each cell that the file's sizes leave its kinds, in the order of Cells.antt of records. The lent flags and the lent sheet may have more than these.
 use Rattle.std.specs.Prelude.{ℕ, ◌+◌, ◌≤◌, Bool, true, false, not, ◌&&◌, List, set, replicate, get_or, Float}
-use Rattle.arithmetic.specs.Numbers.{plusZero}
+use Rattle.arithmetic.specs.Numbers.{plus_zero}
 use Rattle.algebra.specs.Fold.{fold}
 use Rattle.algebra.specs.Table.{row}
 use Rattle.records.specs.declared.Sizes.{Sizes}
 use Rattle.records.specs.format.Scan.{any}
-use Rattle.records.specs.format.Kinds.{Table, kindAt}
+use Rattle.records.specs.format.Kinds.{Table, kind_at}
 use Rattle.records.specs.format.Cells.{slots, first_slot, slot}
 use Rattle.records.specs.format.File.{kind_of, cell_row, cell_column, cell_count, value_of}
 
@@ -33,11 +33,11 @@ unfoldable pub flags_after : ℕ → Table → List ℕ → ℕ → List Bool
 flags_after N t s n = fold 0 n (λ i fs. set fs (slot_of t s i) true) (replicate N false)
 
 unfoldable pub sheet_after : ℕ → Table → List ℕ → ℕ → List Float
-sheet_after N t s n = fold 0 n (λ i xs. set xs (slot_of t s i) (value_of s i)) (replicate N plusZero)
+sheet_after N t s n = fold 0 n (λ i xs. set xs (slot_of t s i) (value_of s i)) (replicate N plus_zero)
 
 -- one of the m flags from a place on is not set; and kind k misses one of its cells
 unfoldable pub gap : List Bool → ℕ → ℕ → Bool
 gap flags at m = any m (λ j. not (get_or flags (at + j) false))
 
 unfoldable pub missing_in : Table → List Bool → ℕ → Bool
-missing_in t flags k = not (kindAt t k).sparse && gap flags (first_slot t k) (slots (kindAt t k))
+missing_in t flags k = not (kind_at t k).sparse && gap flags (first_slot t k) (slots (kind_at t k))

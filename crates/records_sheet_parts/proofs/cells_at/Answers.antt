@@ -3,7 +3,7 @@ use Prim.Native.Nat.{◌+◌, ◌*◌, ◌≤◌, ◌<◌, ◌-◌}
 use mathlib.Core.Path.{◌≡◌, refl}
 use lib.ListN.{length, get_or}
 use lib.Ieee.{nan, of_bits}
-use Rattle.arithmetic.specs.Numbers.{plusZero}
+use Rattle.arithmetic.specs.Numbers.{plus_zero}
 use native.Mathlib.Omega.{arith}
 use Rattle.algebra.specs.Table.{blank, table}
 use Rattle.algebra.proofs.FoldLaws.{fold_start}

@@ -2,7 +2,7 @@ use Prim.Native.Nat.{◌+◌, ◌*◌, ◌≤◌, ◌<◌, ◌-◌}
 use mathlib.Core.Path.{◌≡◌, refl}
 use lib.ListN.{length, get_or}
 use lib.Ieee.{nan, of_bits}
-use Rattle.arithmetic.specs.Numbers.{plusZero}
+use Rattle.arithmetic.specs.Numbers.{plus_zero}
 use native.Mathlib.Omega.{arith}
 use Rattle.algebra.specs.Table.{blank, table}
 use Rattle.algebra.proofs.FoldLaws.{fold_start}
@@ -13,13 +13,13 @@ use Rattle.records_sheet_parts.proofs.Strides.{row_inside}
 use Rattle.records_sheet_parts.proofs.cells_at.Given as goal
 
 abbrev pub invariant-loop-j : goal.invariant-loop-j
-invariant-loop-j l = (l.i < l.r) × (l.j ≤ l.c) × (l.r ≤ 6) × (l.c ≤ 6) × (l.at + l.r * l.c ≤ length l.sheet) × (l.at + l.i * l.c + l.c ≤ length l.sheet) × Filling plusZero 6 6 (λ i j. get_or l.sheet (l.at + i * l.c + j) nan) l.c l.i l.j l.initial.out l.out
+invariant-loop-j l = (l.i < l.r) × (l.j ≤ l.c) × (l.r ≤ 6) × (l.c ≤ 6) × (l.at + l.r * l.c ≤ length l.sheet) × (l.at + l.i * l.c + l.c ≤ length l.sheet) × Filling plus_zero 6 6 (λ i j. get_or l.sheet (l.at + i * l.c + j) nan) l.c l.i l.j l.initial.out l.out
 
 abbrev pub decreases-loop-j : goal.decreases-loop-j
 decreases-loop-j l = l.c - l.j
 
 abbrev pub invariant-loop-i : goal.invariant-loop-i
-invariant-loop-i l = (l.i ≤ l.r) × (l.r ≤ 6) × (l.c ≤ 6) × (l.at + l.r * l.c ≤ length l.sheet) × (l.out ≡ table plusZero 6 6 l.i l.c (λ i j. get_or l.sheet (l.at + i * l.c + j) nan))
+invariant-loop-i l = (l.i ≤ l.r) × (l.r ≤ 6) × (l.c ≤ 6) × (l.at + l.r * l.c ≤ length l.sheet) × (l.out ≡ table plus_zero 6 6 l.i l.c (λ i j. get_or l.sheet (l.at + i * l.c + j) nan))
 
 abbrev pub decreases-loop-i : goal.decreases-loop-i
 decreases-loop-i l = l.r - l.i

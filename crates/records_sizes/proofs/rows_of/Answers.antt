@@ -1,11 +1,11 @@
 -- `records_sizes::rows_of` meets its contract.
 use Prim.Native.Nat.{◌≤◌, ◌-◌}
 use mathlib.Core.Path.{◌≡◌, refl, ap, ◌∙◌}
-use mathlib.Core.Logic.{⊎_elim}
 use native.Mathlib.Omega.{arith}
 use Rattle.records.specs.format.File.{count, kind_of, row_of, rows}
 use Rattle.records_sizes.proofs.SizeLaws.{tops, tops-none, tops-hit, tops-miss}
 use Rattle.records_sizes.proofs.rows_of.Goals as goal
+use Rattle.records_sizes.proofs.rows_of.Goals.{then-k-lt33, else-k-lt33}
 
 pub loop-i-init : goal.loop-i-init
 loop-i-init c = (refl, omega arith, tops-none _ _)
@@ -16,7 +16,10 @@ loop-i-preserved c =
     let e = c.loop-i.invariant.2 in (
       refl,
       omega arith,
-      ⊎_elim (λ w. tops-hit _ _ _ _ _ _ _ _ e k w.0.taken w.1.ensures.0 w.2.ensures w.3) (λ w. tops-miss _ _ _ _ _ _ e k w.0.left w.1) c.if-k-lt33.branch,
+      elim c.if-k-lt33.branch [
+        | then-k-lt33 w ↦ tops-hit _ _ _ _ _ _ _ _ e k w.if-k-lt33.true w.row_at.ensures.0 w.larger.ensures w.tops-is
+        | else-k-lt33 w ↦ tops-miss _ _ _ _ _ _ e k w.if-k-lt33.false w.tops-is
+      ],
     )
 
 pub returns : goal.returns

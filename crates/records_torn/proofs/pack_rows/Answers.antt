@@ -1,11 +1,11 @@
 -- `records_torn::pack_rows` meets its contract.
 use Prim.Native.Nat.{◌≤◌, ◌-◌}
 use mathlib.Core.Path.{◌≡◌, sym, ◌∙◌}
-use mathlib.Core.Logic.{⊎_elim}
 use native.Mathlib.Omega.{arith}
 use borrow.Author.Tests.{not-true, not-false}
 use Rattle.records_torn.proofs.PackingTurns.{PackedTo, packing-starts, packing-skips, packing-takes, row-places}
 use Rattle.records_torn.proofs.pack_rows.Goals as goal
+use Rattle.records_torn.proofs.pack_rows.Goals.{then-not-is_zero, else-not-is_zero}
 
 pub loop-i-init : goal.loop-i-init
 loop-i-init c = (omega arith, packing-starts _ _ _ _)
@@ -42,8 +42,13 @@ pub loop-i-preserved : goal.loop-i-preserved
 loop-i-preserved c =
     let h = c.loop-i.invariant.1 in
     let l = c.requires.ahead c.loop-i.i (omega arith) in
-    let t = sym c.is_zero.ensures in
-    (omega arith, ⊎_elim (λ w. packing-takes h l (t ∙ not-true _ w.0.taken) w.6 (w.5 ∙ w.2.ensures)) (λ w. packing-skips h l (t ∙ not-false _ w.0.left) w.2 w.1) c.if-not-is_zero.branch)
+    let t = sym c.is_zero.ensures in (
+      omega arith,
+      elim c.if-not-is_zero.branch [
+        | then-not-is_zero w ↦ packing-takes h l (t ∙ not-true _ w.if-not-is_zero.true) w.kept-is (w.sheet-is ∙ w.move_row.ensures)
+        | else-not-is_zero w ↦ packing-skips h l (t ∙ not-false _ w.if-not-is_zero.false) w.kept-is w.sheet-is
+      ],
+    )
 
 pub shape_of-sheet : goal.shape_of-sheet
 shape_of-sheet c = c.loop-i.invariant.1.long

@@ -2,7 +2,7 @@ use Prim.Native.Nat.{◌≤◌, ◌<◌, ◌-◌}
 use mathlib.Core.Path.{◌≡◌}
 use lib.Ieee.{of_bits}
 use Rattle.algebra.specs.Kind.{floats, zero_of}
-use Rattle.algebra.specs.Product.{transpose, sumCells, like_cells}
+use Rattle.algebra.specs.Product.{transpose, sum_cells, like_cells}
 use Rattle.algebra.specs.Fold.{fold}
 use Rattle.algebra.proofs.FoldLaws.{fold_start, fold_next}
 use Rattle.algebra_products.proofs.LoopLaws.{like_step, rows_to, rows_none, rows_more, rows_end}

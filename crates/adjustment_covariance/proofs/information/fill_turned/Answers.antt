@@ -3,7 +3,7 @@ use Prim.Native.Nat.{◌≤◌, ◌-◌, ◌+◌, ◌*◌}
 use mathlib.Core.Path.{◌≡◌, refl, ◌∙◌}
 use lib.ListN.{length, get_or}
 use lib.Ieee.{nan}
-use Rattle.arithmetic.specs.Numbers.{plusZero}
+use Rattle.arithmetic.specs.Numbers.{plus_zero}
 use Rattle.algebra.specs.Kind.{floats}
 use Rattle.algebra.specs.Product.{product, transpose}
 use Rattle.algebra.proofs.FoldLaws.{fold_start, fold_end}
@@ -30,7 +30,7 @@ loop-a-preserved c =
     let g = c.requires in (
       omega arith,
       c.turned_row.auto.0 ∙ v.1,
-      fill_more _ _ _ _ _ _ (gained_with c.args.n (λ k. get_or c.loop-a.narrow (c.args.o + k * 6 + c.loop-a.a) nan) c.args.work.now c.args.q c.args.s plusZero) _ _ _
+      fill_more _ _ _ _ _ _ (gained_with c.args.n (λ k. get_or c.loop-a.narrow (c.args.o + k * 6 + c.loop-a.a) nan) c.args.work.now c.args.q c.args.s plus_zero) _ _ _
           c.start-d.ensures.0 v.2 c.turned_row.ensures
           (λ j l. turned-cells _ _ _ _ _ _ _ _ _ _ _ g.2 g.1.wide c.loop-a-test.true v.2 j l),
     )

@@ -2,7 +2,7 @@ use Prim.Native.Nat.{◌≤◌, ◌-◌, ◌+◌, ◌*◌}
 use mathlib.Core.Path.{◌≡◌, refl, ◌∙◌}
 use lib.ListN.{length, get_or}
 use lib.Ieee.{nan}
-use Rattle.arithmetic.specs.Numbers.{plusZero}
+use Rattle.arithmetic.specs.Numbers.{plus_zero}
 use Rattle.algebra.specs.Kind.{floats}
 use Rattle.algebra.specs.Product.{product, transpose}
 use Rattle.algebra.proofs.FoldLaws.{fold_start, fold_end}

@@ -3,7 +3,7 @@ use Prim.Native.Nat.{◌≤◌, ◌<◌, ◌-◌}
 use mathlib.Core.Path.{◌≡◌, sym, ap, ◌∙◌}
 use lib.Ieee.{Float, of_bits, neg, binary64, mul}
 use borrow.Author.Rules.{rules}
-use Rattle.arithmetic.specs.Numbers.{plusZero, minus_one}
+use Rattle.arithmetic.specs.Numbers.{plus_zero, minus_one}
 use Rattle.algebra.specs.Table.{table}
 use Rattle.algebra.specs.Kind.{floats}
 use Rattle.algebra.specs.Product.{at, product, transpose}

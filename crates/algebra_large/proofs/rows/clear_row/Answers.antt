@@ -3,7 +3,7 @@ use Prim.Native.Nat.{◌≤◌, ◌-◌}
 use mathlib.Core.Path.{◌≡◌, refl}
 use lib.ListN.{length, length-set}
 use lib.Ieee.{of_bits}
-use Rattle.arithmetic.specs.Numbers.{plusZero}
+use Rattle.arithmetic.specs.Numbers.{plus_zero}
 use Rattle.algebra.proofs.FoldLaws.{fold_start, fold_end}
 use Rattle.algebra_large.specs.joints.Slab.{put_row}
 use Rattle.algebra_large.proofs.SlabLaws.{row_more}
@@ -16,7 +16,7 @@ loop-j-init c = (omega arith, refl, fold_start _ _ _)
 
 pub loop-j-preserved : goal.loop-j-preserved
 unfolding of_bits
-loop-j-preserved c = (omega arith, rw length-set c.loop-j.invariant.1, row_more _ _ (λ j. plusZero) _ _ _ c.loop-j.invariant.2 refl)
+loop-j-preserved c = (omega arith, rw length-set c.loop-j.invariant.1, row_more _ _ (λ j. plus_zero) _ _ _ c.loop-j.invariant.2 refl)
 
 pub shape_of-work : goal.shape_of-work
 shape_of-work c = c.loop-j.invariant.1

@@ -6,7 +6,7 @@ use Rattle.algebra.proofs.FoldLaws.{fold_start, fold_end}
 use Rattle.algebra_large.specs.joints.Slab.{put_rows, rows_at}
 use Rattle.algebra_large.specs.joints.Steps.{gained_to}
 use Rattle.algebra_large.proofs.SlabLaws.{fill_more}
-use Rattle.arithmetic.specs.Numbers.{plusZero}
+use Rattle.arithmetic.specs.Numbers.{plus_zero}
 use Rattle.algebra.specs.Kind.{floats}
 use Rattle.algebra.specs.Product.{product}
 use Rattle.algebra_large_products.proofs.NarrowLaws.{narrow-row}
@@ -22,7 +22,7 @@ loop-i-preserved c =
     let v = c.loop-i.invariant in (
       omega arith,
       c.narrow_row.auto.0 ∙ v.1,
-      fill_more _ _ _ _ _ _ (gained_to c.args.n c.args.work.now c.start-b.result 1 0 c.args.x.now c.args.q c.args.u plusZero) _ _ _
+      fill_more _ _ _ _ _ _ (gained_to c.args.n c.args.work.now c.start-b.result 1 0 c.args.x.now c.args.q c.args.u plus_zero) _ _ _
           c.start-a.ensures.0 v.2 c.narrow_row.ensures
           (λ j l. narrow-row _ _ _ _ _ _ _ _ _ _ _ c.loop-i-test.true c.start-b.ensures.0 j l),
     )

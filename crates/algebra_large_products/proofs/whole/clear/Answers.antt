@@ -5,7 +5,7 @@ use lib.ListN.{length}
 use Rattle.algebra.proofs.FoldLaws.{fold_start, fold_end}
 use Rattle.algebra_large.specs.joints.Slab.{put_rows}
 use Rattle.algebra_large.proofs.SlabLaws.{fill_more}
-use Rattle.arithmetic.specs.Numbers.{plusZero}
+use Rattle.arithmetic.specs.Numbers.{plus_zero}
 use Rattle.algebra.specs.Table.{blank}
 use Rattle.algebra_large.proofs.ProductLaws.{blank-at}
 use native.Mathlib.Omega.{arith}
@@ -20,8 +20,8 @@ loop-i-preserved c =
     let v = c.loop-i.invariant in (
       omega arith,
       c.clear_row.auto.0 ∙ v.1,
-      fill_more _ _ _ _ _ (blank plusZero c.args.r c.args.c) (λ j. plusZero) _ _ _ c.start-a.ensures.0 v.2 c.clear_row.ensures
-          (λ j l. blank-at plusZero _ _ _ j c.loop-i-test.true l),
+      fill_more _ _ _ _ _ (blank plus_zero c.args.r c.args.c) (λ j. plus_zero) _ _ _ c.start-a.ensures.0 v.2 c.clear_row.ensures
+          (λ j l. blank-at plus_zero _ _ _ j c.loop-i-test.true l),
     )
 
 pub shape_of-work : goal.shape_of-work

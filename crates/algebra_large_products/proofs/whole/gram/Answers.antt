@@ -6,7 +6,7 @@ use Rattle.algebra.proofs.FoldLaws.{fold_start, fold_end}
 use Rattle.algebra_large.specs.joints.Slab.{put_rows, rows_at, gram_of}
 use Rattle.algebra_large.specs.joints.Steps.{gained_to}
 use Rattle.algebra_large.proofs.SlabLaws.{fill_more}
-use Rattle.arithmetic.specs.Numbers.{plusZero}
+use Rattle.arithmetic.specs.Numbers.{plus_zero}
 use Rattle.algebra_large.proofs.ProductLaws.{row-apart-whole, gram-row}
 use native.Mathlib.Omega.{arith}
 use Rattle.algebra_large_products.proofs.whole.gram.Goals as goal
@@ -28,7 +28,7 @@ loop-i-preserved c =
     let g = c.requires in (
       omega arith,
       c.product_row.auto.0 ∙ v.1,
-      fill_more _ _ _ _ _ _ (gained_to c.args.n c.loop-i.work c.args.p c.args.t c.loop-i.i c.loop-i.work c.args.p c.args.t plusZero) _ _ _
+      fill_more _ _ _ _ _ _ (gained_to c.args.n c.loop-i.work c.args.p c.args.t c.loop-i.i c.loop-i.work c.args.p c.args.t plus_zero) _ _ _
           c.start-a.ensures.0 v.2 c.product_row.ensures
           (λ j l. gram-row _ _ _ _ _ _ _ _ _ _ g.2 g.0.wide g.1.wide c.loop-i-test.true v.2 j l),
     )

@@ -5,7 +5,7 @@ use Rattle.algebra.proofs.FoldLaws.{fold_start, fold_end}
 use Rattle.algebra_large.specs.joints.Slab.{put_rows, rows_at, gram_of}
 use Rattle.algebra_large.specs.joints.Steps.{gained_to}
 use Rattle.algebra_large.proofs.SlabLaws.{fill_more}
-use Rattle.arithmetic.specs.Numbers.{plusZero}
+use Rattle.arithmetic.specs.Numbers.{plus_zero}
 use Rattle.algebra_large.proofs.ProductLaws.{row-apart-whole, gram-row}
 use native.Mathlib.Omega.{arith}
 use Rattle.algebra_large_products.proofs.whole.gram.Given as goal

@@ -6,7 +6,7 @@ use Rattle.algebra.proofs.FoldLaws.{fold_start, fold_end}
 use Rattle.algebra_large.specs.joints.Slab.{put_rows, rows_at}
 use Rattle.algebra_large.specs.joints.Steps.{gained_to}
 use Rattle.algebra_large.proofs.SlabLaws.{fill_more, rows-apart-at}
-use Rattle.arithmetic.specs.Numbers.{plusZero}
+use Rattle.arithmetic.specs.Numbers.{plus_zero}
 use Rattle.algebra.specs.Kind.{floats}
 use Rattle.algebra.specs.Product.{product}
 use Rattle.algebra_large.proofs.ProductLaws.{row-apart-one, row-holds, row-apart-whole, product-row}
@@ -33,7 +33,7 @@ loop-i-preserved c =
     let g = c.requires in (
       omega arith,
       c.product_row.auto.0 ∙ v.1,
-      fill_more _ _ _ _ _ _ (gained_to c.args.n c.loop-i.work c.start-b.result 1 0 c.loop-i.work c.args.q c.args.u plusZero) _ _ _
+      fill_more _ _ _ _ _ _ (gained_to c.args.n c.loop-i.work c.start-b.result 1 0 c.loop-i.work c.args.q c.args.u plus_zero) _ _ _
           c.start-a.ensures.0 v.2 c.product_row.ensures
           (λ j l. product-row _ _ _ _ _ _ _ _ _ _ _ _ _ _ g.apart.0 g.apart.1 g.holds.0.wide g.holds.1.wide g.holds.2.wide c.loop-i-test.true c.start-b.ensures.0 v.2 j l),
     )

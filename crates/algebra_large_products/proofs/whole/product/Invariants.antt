@@ -5,7 +5,7 @@ use Rattle.algebra.proofs.FoldLaws.{fold_start, fold_end}
 use Rattle.algebra_large.specs.joints.Slab.{put_rows, rows_at}
 use Rattle.algebra_large.specs.joints.Steps.{gained_to}
 use Rattle.algebra_large.proofs.SlabLaws.{fill_more, rows-apart-at}
-use Rattle.arithmetic.specs.Numbers.{plusZero}
+use Rattle.arithmetic.specs.Numbers.{plus_zero}
 use Rattle.algebra.specs.Kind.{floats}
 use Rattle.algebra.specs.Product.{product}
 use Rattle.algebra_large.proofs.ProductLaws.{row-apart-one, row-holds, row-apart-whole, product-row}

@@ -1,7 +1,7 @@
 -- `algebra_products_marked::cells::all_marks` meets its contract.
 use Prim.Native.Nat.{◌≤◌, ◌<◌, ◌-◌}
 use mathlib.Core.Path.{◌≡◌}
-use Rattle.algebra.specs.Small.{allMarks}
+use Rattle.algebra.specs.Small.{all_marks}
 use Rattle.algebra.specs.Fold.{fold}
 use Rattle.algebra.proofs.FoldLaws.{fold_start, fold_next}
 use Rattle.algebra_products.proofs.LoopLaws.{mark_step, rows_to, rows_none, rows_more, rows_end}
@@ -22,5 +22,5 @@ pub loop-i-preserved : goal.loop-i-preserved
 loop-i-preserved c = (omega arith, rows_more _ _ _ _ _ _ _ c.loop-i.invariant.1 c.loop-j.invariant.2 c.loop-j.invariant.1 c.loop-j-test.false)
 
 pub returns : goal.returns
-unfolding allMarks
+unfolding all_marks
 returns c = rows_end _ _ _ _ _ _ c.loop-i.invariant.0 c.loop-i-test.false c.loop-i.invariant.1

@@ -1,6 +1,6 @@
 use Prim.Native.Nat.{◌≤◌, ◌<◌, ◌-◌}
 use mathlib.Core.Path.{◌≡◌}
-use Rattle.algebra.specs.Small.{allMarks}
+use Rattle.algebra.specs.Small.{all_marks}
 use Rattle.algebra.specs.Fold.{fold}
 use Rattle.algebra.proofs.FoldLaws.{fold_start, fold_next}
 use Rattle.algebra_products.proofs.LoopLaws.{mark_step, rows_to, rows_none, rows_more, rows_end}

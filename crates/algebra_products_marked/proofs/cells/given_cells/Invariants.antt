@@ -4,7 +4,7 @@ use Rattle.algebra.specs.Table.{table}
 use Rattle.algebra.specs.Kind.{floats, marks, zero_of}
 use Rattle.arithmetic.specs.Marks.{given}
 use Rattle.algebra.specs.Product.{at}
-use Rattle.algebra.specs.Small.{givenCells}
+use Rattle.algebra.specs.Small.{given_cells}
 use Rattle.algebra.proofs.TableLaws.{table_none, Filling, filling-none, filling-more, filling-row}
 use Rattle.algebra_products.proofs.LoopLaws.{table-end}
 use borrow.Author.Rules.{rules}

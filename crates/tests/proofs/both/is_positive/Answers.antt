@@ -1,9 +1,9 @@
 -- `tests::both::is_positive` meets its contract.
 use lib.Ieee.{of_bits}
-use Rattle.tests.specs.Both.{isPositive}
+use Rattle.tests.specs.Both.{is_positive}
 use borrow.Author.Rules.{rules}
 use Rattle.tests.proofs.both.is_positive.Goals as goal
 
 pub returns : goal.returns
-unfolding isPositive of_bits
+unfolding is_positive of_bits
 returns c = rw c.is_finite.ensures

@@ -1,8 +1,8 @@
 -- `tests::both::square_one` meets its contract.
-use Rattle.tests.specs.Both.{squareOne}
+use Rattle.tests.specs.Both.{square_one}
 use borrow.Author.Rules.{rules}
 use Rattle.tests.proofs.both.square_one.Goals as goal
 
 pub returns : goal.returns
-unfolding squareOne
+unfolding square_one
 returns c = rw (← c.square_root.ensures, ← c.div-t.ensures) c.mul.ensures

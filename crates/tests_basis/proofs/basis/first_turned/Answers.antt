@@ -3,10 +3,10 @@ use Prim.Native.Nat.{◌≤◌, ◌-◌}
 use mathlib.Core.Path.{◌≡◌}
 use lib.Ieee.{of_bits}
 use lib.ListN.{get_or}
-use Rattle.arithmetic.specs.Numbers.{plusZero}
+use Rattle.arithmetic.specs.Numbers.{plus_zero}
 use Rattle.algebra.specs.Kind.{floats}
 use Rattle.algebra.specs.Table.{row}
-use Rattle.algebra.specs.Jacobi.{turnedFirst}
+use Rattle.algebra.specs.Jacobi.{turned_first}
 use Rattle.algebra.proofs.FoldLaws.{fold_start, fold_next, fold_end}
 use borrow.Author.Rules.{rules}
 use native.Mathlib.Omega.{arith}

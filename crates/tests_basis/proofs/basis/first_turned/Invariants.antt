@@ -2,17 +2,17 @@ use Prim.Native.Nat.{◌≤◌, ◌-◌}
 use mathlib.Core.Path.{◌≡◌}
 use lib.Ieee.{of_bits}
 use lib.ListN.{get_or}
-use Rattle.arithmetic.specs.Numbers.{plusZero}
+use Rattle.arithmetic.specs.Numbers.{plus_zero}
 use Rattle.algebra.specs.Kind.{floats}
 use Rattle.algebra.specs.Table.{row}
-use Rattle.algebra.specs.Jacobi.{turnedFirst}
+use Rattle.algebra.specs.Jacobi.{turned_first}
 use Rattle.algebra.proofs.FoldLaws.{fold_start, fold_next, fold_end}
 use borrow.Author.Rules.{rules}
 use native.Mathlib.Omega.{arith}
 use Rattle.tests_basis.proofs.basis.first_turned.Given as goal
 
 abbrev pub invariant-loop-k : goal.invariant-loop-k
-invariant-loop-k l = (l.k ≤ l.p) × (l.out ≡ row plusZero 6 l.k (λ k. turnedFirst floats l.c l.s (get_or l.x k floats.void) (get_or l.y k floats.void)))
+invariant-loop-k l = (l.k ≤ l.p) × (l.out ≡ row plus_zero 6 l.k (λ k. turned_first floats l.c l.s (get_or l.x k floats.void) (get_or l.y k floats.void)))
 
 abbrev pub decreases-loop-k : goal.decreases-loop-k
 decreases-loop-k l = l.p - l.k

@@ -1,7 +1,6 @@
 -- `tests_basis::basis::pairs` meets its contract.
 use Prim.Native.Nat.{◌≤◌, ◌-◌, ◌+◌}
 use mathlib.Core.Path.{◌≡◌, sym, ◌∙◌}
-use mathlib.Core.Logic.{⊎_elim}
 use Rattle.tests.specs.Basis.{row_dot, turn_pair, pairs_to}
 use Rattle.tests_basis.proofs.BasisLaws.{turn-rows-is, pair-stays, pair-turned}
 use Rattle.algebra.proofs.FoldLaws.{fold_start, fold_next, fold_end}
@@ -9,6 +8,7 @@ use borrow.Author.Tests.{not-true, not-false}
 use borrow.Author.Rules.{rules}
 use native.Mathlib.Omega.{arith}
 use Rattle.tests_basis.proofs.basis.pairs.Goals as goal
+use Rattle.tests_basis.proofs.basis.pairs.Goals.{then-not-is_zero, else-not-is_zero}
 
 pub loop-j-init : goal.loop-j-init
 unfolding pairs_to
@@ -21,10 +21,11 @@ loop-j-preserved c =
     let g = c.row_dot-g.ensures in
     let z = sym c.is_zero.ensures in
     let step : c.if-not-is_zero.out ≡ turn_pair c.args.p c.args.i c.loop-j.j c.loop-j.out =
-    ⊎_elim
-    (λ w. w.6
-    ∙ pair-turned _ _ _ _ _ g _ _ _ _ (z ∙ not-true _ w.0.taken) w.1.ensures w.2.ensures w.3.ensures (turn-rows-is _ _ _ _ _ _ _ _ w.4.ensures w.5.ensures))
-    (λ w. w.1 ∙ pair-stays _ _ _ _ _ g (z ∙ not-false _ w.0.left)) c.if-not-is_zero.branch in
+    elim c.if-not-is_zero.branch [
+      | then-not-is_zero w ↦ w.out-is
+          ∙ pair-turned _ _ _ _ _ g _ _ _ _ (z ∙ not-true _ w.if-not-is_zero.true) w.pair_tangent-t.ensures w.cosine-c.ensures w.sine-s.ensures (turn-rows-is _ _ _ _ _ _ _ _ w.first_turned.ensures w.second_turned.ensures)
+      | else-not-is_zero w ↦ w.out-is ∙ pair-stays _ _ _ _ _ g (z ∙ not-false _ w.if-not-is_zero.false)
+    ] in
     (omega arith, omega arith, fold_next _ _ _ _ _ _ v.0 v.2 step)
 
 pub returns : goal.returns

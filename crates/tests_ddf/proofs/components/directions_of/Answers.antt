@@ -4,7 +4,7 @@ use mathlib.Core.Path.{◌≡◌}
 use mathlib.Core.List.{List}
 use lib.Ieee.{Float}
 use Rattle.arithmetic.specs.declared.Marked.{Marked}
-use Rattle.arithmetic.specs.Numbers.{plusZero}
+use Rattle.arithmetic.specs.Numbers.{plus_zero}
 use Rattle.arithmetic.specs.Marks.{given}
 use Rattle.algebra.specs.Table.{table}
 use Rattle.algebra.specs.Kind.{marks}
@@ -12,7 +12,7 @@ use Rattle.algebra.specs.Product.{at}
 use Rattle.algebra_products.proofs.LoopLaws.{table-end}
 use Rattle.algebra.proofs.TableLaws.{Filling, table_none, filling-none, filling-more, filling-row}
 use Rattle.tests.specs.Order.{index_at}
-use Rattle.tests.specs.Satterthwaite.{directionsOf}
+use Rattle.tests.specs.Satterthwaite.{directions_of}
 use borrow.Author.Rules.{rules}
 use native.Mathlib.Omega.{arith}
 use Rattle.tests_ddf.proofs.components.directions_of.Goals as goal
@@ -34,5 +34,5 @@ pub loop-r-preserved : goal.loop-r-preserved
 loop-r-preserved c = (omega arith, filling-row c.loop-k.invariant.2 c.loop-k.invariant.1 c.loop-k-test.false)
 
 pub returns : goal.returns
-unfolding directionsOf
+unfolding directions_of
 returns c = table-end _ _ _ _ _ _ _ _ c.loop-r.invariant.0 c.loop-r-test.false c.loop-r.invariant.1

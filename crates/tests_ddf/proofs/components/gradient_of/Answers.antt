@@ -4,7 +4,7 @@ use mathlib.Core.Path.{◌≡◌}
 use mathlib.Core.List.{[]}
 use lib.ListN.{get_or}
 use lib.Ieee.{of_bits}
-use Rattle.arithmetic.specs.Numbers.{plusZero}
+use Rattle.arithmetic.specs.Numbers.{plus_zero}
 use Rattle.arithmetic.specs.Marks.{given}
 use Rattle.algebra.specs.Table.{row}
 use Rattle.algebra.specs.Kind.{marks}

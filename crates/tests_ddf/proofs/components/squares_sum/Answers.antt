@@ -3,7 +3,7 @@ use Prim.Native.Nat.{ℕ, ◌≤◌, ◌-◌}
 use mathlib.Core.Path.{◌≡◌}
 use mathlib.Core.List.{List}
 use Rattle.arithmetic.specs.declared.Marked.{Marked}
-use Rattle.arithmetic.specs.Marks.{markedMul, markedDiv}
+use Rattle.arithmetic.specs.Marks.{marked_mul, marked_div}
 use Rattle.algebra.specs.Kind.{marks}
 use Rattle.algebra.specs.Product.{at, sum}
 use Rattle.algebra_products.proofs.LoopLaws.{sum-none, sum_more, sum-end}
@@ -14,7 +14,7 @@ use Rattle.tests_ddf.proofs.components.squares_sum.Goals as goal
 
 -- what component k adds
 abbrev term : List (List Marked) → List Marked → ℕ → Marked
-term y es k = markedDiv (markedMul (at marks y k 0) (at marks y k 0)) (entry_at marks es k)
+term y es k = marked_div (marked_mul (at marks y k 0) (at marks y k 0)) (entry_at marks es k)
 
 abbrev total : ℕ → (ℕ → Marked) → Marked
 total k f = sum marks k f

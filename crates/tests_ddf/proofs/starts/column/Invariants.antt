@@ -4,7 +4,7 @@ use mathlib.Core.List.{List}
 use lib.ListN.{get_or}
 use lib.Ieee.{Float, nan}
 use Rattle.arithmetic.specs.declared.Marked.{Marked}
-use Rattle.arithmetic.specs.Numbers.{plusZero}
+use Rattle.arithmetic.specs.Numbers.{plus_zero}
 use Rattle.arithmetic.specs.Marks.{given}
 use Rattle.algebra.specs.Table.{table}
 use Rattle.algebra_products.proofs.LoopLaws.{table-end}
@@ -19,7 +19,7 @@ abbrev cells : List Float → ℕ → ℕ → Marked
 cells b i j = given (get_or b i nan)
 
 abbrev pub invariant-loop-i : goal.invariant-loop-i
-invariant-loop-i l = (l.i ≤ l.p) × (l.out ≡ table (given plusZero) 6 6 l.i 1 (cells l.b))
+invariant-loop-i l = (l.i ≤ l.p) × (l.out ≡ table (given plus_zero) 6 6 l.i 1 (cells l.b))
 
 abbrev pub decreases-loop-i : goal.decreases-loop-i
 decreases-loop-i l = l.p - l.i

@@ -3,13 +3,13 @@ use mathlib.Core.Path.{◌≡◌}
 use lib.Ieee.{of_bits}
 use Rattle.algebra.specs.Kind.{marks}
 use Rattle.algebra.proofs.FoldLaws.{fold_start, fold_next, fold_end}
-use Rattle.tests.specs.Satterthwaite.{transformedAll}
+use Rattle.tests.specs.Satterthwaite.{transformed_all}
 use borrow.Author.Rules.{rules}
 use native.Mathlib.Omega.{arith}
 use Rattle.tests_ddf.proofs.starts.transform_contrast.Given as goal
 
 abbrev pub invariant-loop-i : goal.invariant-loop-i
-invariant-loop-i l = (l.i ≤ l.n) × (l.out ≡ transformedAll marks l.i l.p l.q l.l l.js)
+invariant-loop-i l = (l.i ≤ l.n) × (l.out ≡ transformed_all marks l.i l.p l.q l.l l.js)
 
 abbrev pub decreases-loop-i : goal.decreases-loop-i
 decreases-loop-i l = l.n - l.i

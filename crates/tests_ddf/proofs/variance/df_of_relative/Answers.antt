@@ -1,13 +1,13 @@
 -- `tests_ddf::variance::df_of_relative` meets its contract.
 use lib.Ieee.{of_bits}
-use Rattle.tests.specs.VarianceDf.{dfOfRelative}
+use Rattle.tests.specs.VarianceDf.{df_of_relative}
 use borrow.Author.Rules.{rules}
 use Rattle.tests_ddf.proofs.variance.df_of_relative.Goals as goal
 
 pub returns-then-is_positive : goal.returns-then-is_positive
-unfolding dfOfRelative of_bits
+unfolding df_of_relative of_bits
 returns-then-is_positive c = rw (← c.is_positive.ensures, c.if-is_positive.true)
 
 pub returns : goal.returns
-unfolding dfOfRelative
+unfolding df_of_relative
 returns c = rw (← c.is_positive.ensures, c.if-is_positive.false)

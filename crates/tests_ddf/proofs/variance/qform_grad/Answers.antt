@@ -4,13 +4,13 @@ use mathlib.Core.Path.{◌≡◌, ◌∙◌, sym}
 use mathlib.Core.List.{List}
 use lib.Ieee.{Float, binary64, mul, of_bits}
 use Rattle.arithmetic.specs.declared.Marked.{Marked}
-use Rattle.arithmetic.specs.Numbers.{plusZero}
+use Rattle.arithmetic.specs.Numbers.{plus_zero}
 use Rattle.algebra.specs.Fold.{fold}
 use Rattle.algebra.specs.Kind.{floats, marks, zero_of}
-use Rattle.algebra.specs.Product.{at, sum, sumCells}
+use Rattle.algebra.specs.Product.{at, sum, sum_cells}
 use Rattle.algebra.proofs.FoldLaws.{fold_start, fold_next, fold-ext}
 use Rattle.algebra_products.proofs.LoopLaws.{rows_to, rows_none, rows_more, rows_end}
-use Rattle.tests.specs.VarianceDf.{entry_at, gradientValues, relativeVariance}
+use Rattle.tests.specs.VarianceDf.{entry_at, gradient_values, relative_variance}
 use Rattle.tests.proofs.VarianceLaws.{gradient_values-at}
 use native.Mathlib.Omega.{arith}
 use Rattle.tests_ddf.proofs.variance.qform_grad.Goals as goal
@@ -20,13 +20,13 @@ abbrev step : List Marked → List (List Float) → ℕ → ℕ → Float → Fl
 step g a j k s = floats.plus s (mul binary64 (mul binary64 (entry_at marks g j).value (at floats a j k)) (entry_at marks g k).value)
 
 -- the whole form, on the list of the values
-form-is : (n : ℕ) (g : List Marked) (a : List (List Float)) → n ≤ 6 → relativeVariance floats n (gradientValues marks n g) a ≡ rows_to (step g a) (zero_of floats) n n
-unfolding relativeVariance sumCells
+form-is : (n : ℕ) (g : List Marked) (a : List (List Float)) → n ≤ 6 → relative_variance floats n (gradient_values marks n g) a ≡ rows_to (step g a) (zero_of floats) n n
+unfolding relative_variance sum_cells
 form-is n g a h =
-    fold-ext 0 n _ _ plusZero (λ j u l x. fold-ext 0 n _ _ x (λ k v m y. rw (gradient_values-at marks n g j l h, gradient_values-at marks n g k m h)))
+    fold-ext 0 n _ _ plus_zero (λ j u l x. fold-ext 0 n _ _ x (λ k v m y. rw (gradient_values-at marks n g j l h, gradient_values-at marks n g k m h)))
 
 form-end : (n : ℕ) (g : List Marked) (a : List (List Float)) (j : ℕ) (s : Float) → n ≤ 6 → j ≤ n → n ≤ j → s ≡ rows_to (step g a) (zero_of floats) n j
-    → s ≡ relativeVariance floats n (gradientValues marks n g) a
+    → s ≡ relative_variance floats n (gradient_values marks n g) a
 form-end n g a j s h x y e = rows_end (step g a) (zero_of floats) n j n s x y e ∙ sym (form-is n g a h)
 
 pub loop-j-init : goal.loop-j-init

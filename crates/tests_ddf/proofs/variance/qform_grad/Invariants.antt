@@ -3,13 +3,13 @@ use mathlib.Core.Path.{◌≡◌, ◌∙◌, sym}
 use mathlib.Core.List.{List}
 use lib.Ieee.{Float, binary64, mul, of_bits}
 use Rattle.arithmetic.specs.declared.Marked.{Marked}
-use Rattle.arithmetic.specs.Numbers.{plusZero}
+use Rattle.arithmetic.specs.Numbers.{plus_zero}
 use Rattle.algebra.specs.Fold.{fold}
 use Rattle.algebra.specs.Kind.{floats, marks, zero_of}
-use Rattle.algebra.specs.Product.{at, sum, sumCells}
+use Rattle.algebra.specs.Product.{at, sum, sum_cells}
 use Rattle.algebra.proofs.FoldLaws.{fold_start, fold_next, fold-ext}
 use Rattle.algebra_products.proofs.LoopLaws.{rows_to, rows_none, rows_more, rows_end}
-use Rattle.tests.specs.VarianceDf.{entry_at, gradientValues, relativeVariance}
+use Rattle.tests.specs.VarianceDf.{entry_at, gradient_values, relative_variance}
 use Rattle.tests.proofs.VarianceLaws.{gradient_values-at}
 use native.Mathlib.Omega.{arith}
 use Rattle.tests_ddf.proofs.variance.qform_grad.Given as goal

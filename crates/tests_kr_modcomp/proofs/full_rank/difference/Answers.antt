@@ -5,8 +5,8 @@ use mathlib.Core.List.{List}
 use lib.ListN.{get_or}
 use lib.Ieee.{Float, nan}
 use Rattle.arithmetic.specs.declared.Marked.{Marked}
-use Rattle.arithmetic.specs.Numbers.{plusZero}
-use Rattle.arithmetic.specs.Marks.{given, markedSub}
+use Rattle.arithmetic.specs.Numbers.{plus_zero}
+use Rattle.arithmetic.specs.Marks.{given, marked_sub}
 use Rattle.algebra.specs.Table.{table}
 use Rattle.algebra.proofs.TableLaws.{table_none, filling-none, filling-more, filling-row}
 use Rattle.algebra_products.proofs.LoopLaws.{table-end}
@@ -17,7 +17,7 @@ use Rattle.tests_kr_modcomp.proofs.full_rank.difference.Goals as goal
 
 -- a cell of D
 abbrev less : List Float → List Float → ℕ → ℕ → Marked
-less beta beta_h i j = markedSub (given (get_or beta i nan)) (given (get_or beta_h i nan))
+less beta beta_h i j = marked_sub (given (get_or beta i nan)) (given (get_or beta_h i nan))
 
 pub loop-i-init : goal.loop-i-init
 loop-i-init c = (omega arith, table_none _ _ _ _ _ _ c.zeros-out.ensures)

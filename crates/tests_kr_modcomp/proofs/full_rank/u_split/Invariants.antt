@@ -3,14 +3,14 @@ use mathlib.Core.Path.{◌≡◌}
 use Rattle.algebra.specs.Kind.{marks}
 use Rattle.algebra.proofs.FoldLaws.{fold_start, fold_next, fold_end}
 use Rattle.tests.specs.KenwardRoger.{u_stack, u_values}
-use Rattle.tests.specs.Both.{stackSeen}
+use Rattle.tests.specs.Both.{stack_seen}
 use Rattle.tests_kr_modcomp.proofs.Parts.{u-values-step, u-seen-step}
 use native.Mathlib.Omega.{arith}
 use borrow.Author.Rules.{rules}
 use Rattle.tests_kr_modcomp.proofs.full_rank.u_split.Given as goal
 
 abbrev pub invariant-loop-i : goal.invariant-loop-i
-invariant-loop-i l = (l.i ≤ l.n) × (l.out ≡ u_values marks l.i l.p (u_stack marks l.n l.p l.tp l.ps l.phi)) × (l.all ≡ stackSeen marks l.i l.p (u_stack marks l.n l.p l.tp l.ps l.phi) l.initial.all)
+invariant-loop-i l = (l.i ≤ l.n) × (l.out ≡ u_values marks l.i l.p (u_stack marks l.n l.p l.tp l.ps l.phi)) × (l.all ≡ stack_seen marks l.i l.p (u_stack marks l.n l.p l.tp l.ps l.phi) l.initial.all)
 
 abbrev pub decreases-loop-i : goal.decreases-loop-i
 decreases-loop-i l = l.n - l.i

@@ -2,7 +2,7 @@
 use Prim.Native.Nat.{◌≤◌, ◌-◌}
 use mathlib.Core.Bool.{cond}
 use lib.Dec.{eqb}
-use Rattle.arithmetic.specs.Numbers.{plusZero, one}
+use Rattle.arithmetic.specs.Numbers.{plus_zero, one}
 use Rattle.algebra.proofs.TableLaws.{table_none, Filling, filling-none, filling-more, filling-row}
 use Rattle.tests.specs.KenwardRoger.{unit_row}
 use native.Mathlib.Omega.{arith}
