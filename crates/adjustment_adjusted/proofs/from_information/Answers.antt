@@ -12,7 +12,7 @@ unfolding accepted
 returns-then-zero_pivot c =
     let m = c.inverted_of-m.ensures in
     let w = c.w_of-inverse.ensures in
-    (number-pivot _ _ _ _ _ _ _ _ _ _ _ _ m.value m.made_after w.zero_pivot_after w.value c.if-zero_pivot.true, (refl, (refl, (refl, refl))))
+    record { value = number-pivot _ _ _ _ _ _ _ _ _ _ _ _ m.value m.made_after w.zero_pivot_after w.value c.if-zero_pivot.true; phi_a_after = refl; all_p_after = refl; w_after = refl; rotations_after = refl }
 
 pub returns-then-output_not_finite : goal.returns-then-output_not_finite
 unfolding accepted
@@ -20,7 +20,7 @@ returns-then-output_not_finite c =
     let m = c.inverted_of-m.ensures in
     let w = c.w_of-inverse.ensures in
     let bad = c.output_not_finite in
-    (ap (λ (b : Bool). cond b 4 0) (sym c.if-output_not_finite.true) ∙ number-finite _ _ _ _ _ _ _ _ _ _ _ _ m.value m.made_after w.zero_pivot_after w.value _ c.phi_a_of-adjusted.ensures bad.result c.if-zero_pivot.false (bad.ensures _), (refl, (refl, (refl, refl))))
+    record { value = ap (λ (b : Bool). cond b 4 0) (sym c.if-output_not_finite.true) ∙ number-finite _ _ _ _ _ _ _ _ _ _ _ _ m.value m.made_after w.zero_pivot_after w.value _ c.phi_a_of-adjusted.ensures bad.result c.if-zero_pivot.false (bad.ensures _); phi_a_after = refl; all_p_after = refl; w_after = refl; rotations_after = refl }
 
 pub returns : goal.returns
 unfolding accepted
@@ -29,4 +29,5 @@ returns c =
     let w = c.w_of-inverse.ensures in
     let bad = c.output_not_finite in
     let e = from-information-is _ _ _ _ c.args.sigma2 _ _ _ _ _ _ _ m.value m.made_after w.zero_pivot_after w.value _ c.phi_a_of-adjusted.ensures in
-    (ap (λ (b : Bool). cond b 4 0) (sym c.if-output_not_finite.false) ∙ number-finite _ _ _ _ _ _ _ _ _ _ _ _ m.value m.made_after w.zero_pivot_after w.value _ c.phi_a_of-adjusted.ensures bad.result c.if-zero_pivot.false (bad.ensures _), (ap (λ (a : Adjustment). a.phi_a) e, (ap (λ (a : Adjustment). a.ps) e, (ap (λ (a : Adjustment). a.w) e, ap (λ (a : Adjustment). a.rotations) e))))
+    record { value = ap (λ (b : Bool). cond b 4 0) (sym c.if-output_not_finite.false) ∙ number-finite _ _ _ _ _ _ _ _ _ _ _ _ m.value m.made_after w.zero_pivot_after w.value _ c.phi_a_of-adjusted.ensures bad.result c.if-zero_pivot.false (bad.ensures _); phi_a_after = ap (λ (a : Adjustment). a.phi_a) e; all_p_after = ap (λ (a : Adjustment). a.ps) e; w_after = ap (λ (a : Adjustment). a.w) e; rotations_after = ap (λ (a : Adjustment). a.rotations) e }
+

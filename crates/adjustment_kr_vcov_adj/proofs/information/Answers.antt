@@ -40,16 +40,5 @@ returns c =
     let ps = c.ps_of-all_p.ensures in
     let qs = c.qs_of-all_q.ensures in
     let hn = g.sized.0.high in
-    let hN = g.lent.0.sound.thetas in (
-      work-is a.s a.n a.p a.k a.x.now a.xs a.z.now a.zs a.columns a.weighted a.weights.now a.blocks a.count a.work.now _ hn hN g.sized.0.squares g.lent.1 hs,
-      (
-        c.clear_all.ensures ∙ ap zeros (c.qs_of-all_q.auto.0 ∙ c.fill_os.auto.0 ∙ c.fill_sx.auto.0),
-        (
-          ps-call a.s a.n a.p a.k a.x.now a.xs a.z.now a.zs a.columns a.weighted a.weights.now a.blocks a.count a.work.now _ hn hN g.sized.0.squares g.lent.1 hs a.narrow.now _ _ g.sized.0.few g.sized.0.parts sx os _ ps,
-          (
-            qs-call a.s a.n a.p a.k a.x.now a.xs a.z.now a.zs a.columns a.weighted a.weights.now a.blocks a.count a.work.now _ hn hN g.sized.0.squares g.lent.1 hs a.narrow.now _ _ g.sized.0.few g.sized.0.parts sx os _ qs.value,
-            ie-call a.s a.n a.p a.k a.x.now a.xs a.z.now a.zs a.columns a.weighted a.weights.now a.blocks a.count a.work.now _ hn hN g.sized.0.squares g.lent.1 hs a.narrow.now _ _ g.sized.0.few g.sized.0.parts sx os _ _ _ _ ps qs.value c.ie_of.ensures,
-          ),
-        ),
-      ),
-    )
+    let hN = g.lent.0.sound.thetas in record { work_after = work-is a.s a.n a.p a.k a.x.now a.xs a.z.now a.zs a.columns a.weighted a.weights.now a.blocks a.count a.work.now _ hn hN g.sized.0.squares g.lent.1 hs; narrow_after = c.clear_all.ensures ∙ ap zeros (c.qs_of-all_q.auto.0 ∙ c.fill_os.auto.0 ∙ c.fill_sx.auto.0); ps_after = ps-call a.s a.n a.p a.k a.x.now a.xs a.z.now a.zs a.columns a.weighted a.weights.now a.blocks a.count a.work.now _ hn hN g.sized.0.squares g.lent.1 hs a.narrow.now _ _ g.sized.0.few g.sized.0.parts sx os _ ps; qs_after = qs-call a.s a.n a.p a.k a.x.now a.xs a.z.now a.zs a.columns a.weighted a.weights.now a.blocks a.count a.work.now _ hn hN g.sized.0.squares g.lent.1 hs a.narrow.now _ _ g.sized.0.few g.sized.0.parts sx os _ qs.value; value = ie-call a.s a.n a.p a.k a.x.now a.xs a.z.now a.zs a.columns a.weighted a.weights.now a.blocks a.count a.work.now _ hn hN g.sized.0.squares g.lent.1 hs a.narrow.now _ _ g.sized.0.few g.sized.0.parts sx os _ _ _ _ ps qs.value c.ie_of.ensures }
+

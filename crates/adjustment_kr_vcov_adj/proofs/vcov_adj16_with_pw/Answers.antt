@@ -11,16 +11,7 @@ returns-then-number-ne0 c =
     let a = c.args in
     let g = c.requires in
     let f = c.sigma_and_precision-number.ensures in
-    let h = c.if-number-ne0.true in (
-      early-number a.s a.n a.p a.x.now a.xs a.z.now a.zs a.columns a.weighted a.weights.now a.blocks a.count a.theta a.c a.phi a.sigma2 _ _ _ g.0.high g.0.squares f.value f.work_after h,
-      (
-        early-work a.s a.n a.p a.x.now a.xs a.z.now a.zs a.columns a.weighted a.weights.now a.blocks a.count a.theta a.c a.phi a.sigma2 _ _ _ g.0.high g.0.squares f.value f.work_after h,
-        (
-          c.clear_all.ensures,
-          (sym (accepted-no _ _ _ h), (sym (accepted-no _ _ _ h), (sym (accepted-no _ _ _ h), sym (accepted-no _ _ _ h)))),
-        ),
-      ),
-    )
+    let h = c.if-number-ne0.true in record { value = early-number a.s a.n a.p a.x.now a.xs a.z.now a.zs a.columns a.weighted a.weights.now a.blocks a.count a.theta a.c a.phi a.sigma2 _ _ _ g.0.high g.0.squares f.value f.work_after h; work_after = early-work a.s a.n a.p a.x.now a.xs a.z.now a.zs a.columns a.weighted a.weights.now a.blocks a.count a.theta a.c a.phi a.sigma2 _ _ _ g.0.high g.0.squares f.value f.work_after h; narrow_after = c.clear_all.ensures; phi_a_after = sym (accepted-no _ _ _ h); ps_after = sym (accepted-no _ _ _ h); w_after = sym (accepted-no _ _ _ h); rotations_after = sym (accepted-no _ _ _ h) }
 
 pub from_precision-requires : goal.from_precision-requires
 from_precision-requires c =
@@ -35,22 +26,5 @@ returns c =
     let f = c.sigma_and_precision-number.ensures in
     let h = c.if-number-ne0.false in
     let r = c.from_precision.ensures in
-    let e = late-adjusted a.s a.n a.p a.x.now a.xs a.z.now a.zs a.columns a.weighted a.weights.now a.blocks a.count a.theta a.c a.phi a.sigma2 _ _ _ g.0.high g.0.squares f.value f.work_after h in (
-      late-number a.s a.n a.p a.x.now a.xs a.z.now a.zs a.columns a.weighted a.weights.now a.blocks a.count a.theta a.c a.phi a.sigma2 _ _ _ g.0.high g.0.squares f.value f.work_after h _ r.value,
-      (
-        late-work a.s a.n a.p a.x.now a.xs a.z.now a.zs a.columns a.weighted a.weights.now a.blocks a.count a.theta a.c a.phi a.sigma2 _ _ _ g.0.high g.0.squares f.value f.work_after h _ _ c.sigma_and_precision-number.auto.0 r.work_after.0,
-        (
-          r.work_after.1.0,
-          (
-            answer-is _ (λ (t : Adjustment). t.phi_a) _ _ _ _ e r.work_after.1.1.0,
-            (
-              answer-is _ (λ (t : Adjustment). t.ps) _ _ _ _ e r.work_after.1.1.1.0,
-              (
-                answer-is _ (λ (t : Adjustment). t.w) _ _ _ _ e r.work_after.1.1.1.1.0,
-                answer-is _ (λ (t : Adjustment). t.rotations) _ _ _ _ e r.work_after.1.1.1.1.1,
-              ),
-            ),
-          ),
-        ),
-      ),
-    )
+    let e = late-adjusted a.s a.n a.p a.x.now a.xs a.z.now a.zs a.columns a.weighted a.weights.now a.blocks a.count a.theta a.c a.phi a.sigma2 _ _ _ g.0.high g.0.squares f.value f.work_after h in record { value = late-number a.s a.n a.p a.x.now a.xs a.z.now a.zs a.columns a.weighted a.weights.now a.blocks a.count a.theta a.c a.phi a.sigma2 _ _ _ g.0.high g.0.squares f.value f.work_after h _ r.value; work_after = late-work a.s a.n a.p a.x.now a.xs a.z.now a.zs a.columns a.weighted a.weights.now a.blocks a.count a.theta a.c a.phi a.sigma2 _ _ _ g.0.high g.0.squares f.value f.work_after h _ _ c.sigma_and_precision-number.auto.0 r.work_after.0; narrow_after = r.work_after.1.0; phi_a_after = answer-is _ (λ (t : Adjustment). t.phi_a) _ _ _ _ e r.work_after.1.1.0; ps_after = answer-is _ (λ (t : Adjustment). t.ps) _ _ _ _ e r.work_after.1.1.1.0; w_after = answer-is _ (λ (t : Adjustment). t.w) _ _ _ _ e r.work_after.1.1.1.1.0; rotations_after = answer-is _ (λ (t : Adjustment). t.rotations) _ _ _ _ e r.work_after.1.1.1.1.1 }
+
