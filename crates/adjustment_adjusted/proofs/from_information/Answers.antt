@@ -30,4 +30,3 @@ returns c =
     let bad = c.output_not_finite in
     let e = from-information-is _ _ _ _ c.args.sigma2 _ _ _ _ _ _ _ m.value m.made_after w.zero_pivot_after w.value _ c.phi_a_of-adjusted.ensures in
     record { value = ap (λ (b : Bool). cond b 4 0) (sym c.if-output_not_finite.false) ∙ number-finite _ _ _ _ _ _ _ _ _ _ _ _ m.value m.made_after w.zero_pivot_after w.value _ c.phi_a_of-adjusted.ensures bad.result c.if-zero_pivot.false (bad.ensures _); phi_a_after = ap (λ (a : Adjustment). a.phi_a) e; all_p_after = ap (λ (a : Adjustment). a.ps) e; w_after = ap (λ (a : Adjustment). a.w) e; rotations_after = ap (λ (a : Adjustment). a.rotations) e }
-

@@ -28,8 +28,8 @@ returns-then-number-ne0 c =
     let i = c.information-ie.ensures in
     let f = c.from_information-number.ensures in
     let n = c.places_before-k.ensures in
-    let e = adjusted-is a.c d a.phi _ _ _ _ _ (ap (λ (m : ℕ). m + 1) n) i.narrow_after.1.0 i.narrow_after.1.1.0 i.narrow_after.1.1.1 in
-    let num = f.value ∙ number_is a.c d a.phi _ _ _ _ _ (ap (λ (m : ℕ). m + 1) n) i.narrow_after.1.0 i.narrow_after.1.1.0 i.narrow_after.1.1.1 _ in record { value = num; work_after = c.clear_all.ensures ∙ ap zeros c.information-ie.auto.0 ∙ sym (accepted-no _ _ _ c.if-number-ne0.true); narrow_after = i.narrow_after.0; phi_a_after = answer-is _ (λ (t : Adjustment). t.phi_a) _ _ _ _ e f.phi_a_after.0; ps_after = answer-is _ (λ (t : Adjustment). t.ps) _ _ _ _ e f.phi_a_after.1.0; w_after = answer-is _ (λ (t : Adjustment). t.w) _ _ _ _ e f.phi_a_after.1.1.0; rotations_after = answer-is _ (λ (t : Adjustment). t.rotations) _ _ _ _ e f.phi_a_after.1.1.1 }
+    let e = adjusted-is a.c d a.phi _ _ _ _ _ (ap (λ (m : ℕ). m + 1) n) i.ps_after i.qs_after i.value in
+    let num = f.value ∙ number_is a.c d a.phi _ _ _ _ _ (ap (λ (m : ℕ). m + 1) n) i.ps_after i.qs_after i.value _ in record { value = num; work_after = c.clear_all.ensures ∙ ap zeros c.information-ie.auto.work ∙ sym (accepted-no _ _ _ c.if-number-ne0.true); narrow_after = i.narrow_after; phi_a_after = answer-is _ (λ (t : Adjustment). t.phi_a) _ _ _ _ e f.phi_a_after; ps_after = answer-is _ (λ (t : Adjustment). t.ps) _ _ _ _ e f.all_p_after; w_after = answer-is _ (λ (t : Adjustment). t.w) _ _ _ _ e f.w_after; rotations_after = answer-is _ (λ (t : Adjustment). t.rotations) _ _ _ _ e f.rotations_after }
 
 pub returns : goal.returns
 returns c =
@@ -39,6 +39,5 @@ returns c =
     let i = c.information-ie.ensures in
     let f = c.from_information-number.ensures in
     let n = c.places_before-k.ensures in
-    let e = adjusted-is a.c d a.phi _ _ _ _ _ (ap (λ (m : ℕ). m + 1) n) i.narrow_after.1.0 i.narrow_after.1.1.0 i.narrow_after.1.1.1 in
-    let num = f.value ∙ number_is a.c d a.phi _ _ _ _ _ (ap (λ (m : ℕ). m + 1) n) i.narrow_after.1.0 i.narrow_after.1.1.0 i.narrow_after.1.1.1 _ in record { value = num; work_after = i.work_after ∙ sym (accepted-yes _ _ _ c.if-number-ne0.false); narrow_after = i.narrow_after.0; phi_a_after = answer-is _ (λ (t : Adjustment). t.phi_a) _ _ _ _ e f.phi_a_after.0; ps_after = answer-is _ (λ (t : Adjustment). t.ps) _ _ _ _ e f.phi_a_after.1.0; w_after = answer-is _ (λ (t : Adjustment). t.w) _ _ _ _ e f.phi_a_after.1.1.0; rotations_after = answer-is _ (λ (t : Adjustment). t.rotations) _ _ _ _ e f.phi_a_after.1.1.1 }
-
+    let e = adjusted-is a.c d a.phi _ _ _ _ _ (ap (λ (m : ℕ). m + 1) n) i.ps_after i.qs_after i.value in
+    let num = f.value ∙ number_is a.c d a.phi _ _ _ _ _ (ap (λ (m : ℕ). m + 1) n) i.ps_after i.qs_after i.value _ in record { value = num; work_after = i.work_after ∙ sym (accepted-yes _ _ _ c.if-number-ne0.false); narrow_after = i.narrow_after; phi_a_after = answer-is _ (λ (t : Adjustment). t.phi_a) _ _ _ _ e f.phi_a_after; ps_after = answer-is _ (λ (t : Adjustment). t.ps) _ _ _ _ e f.all_p_after; w_after = answer-is _ (λ (t : Adjustment). t.w) _ _ _ _ e f.w_after; rotations_after = answer-is _ (λ (t : Adjustment). t.rotations) _ _ _ _ e f.rotations_after }

@@ -9,26 +9,26 @@ use Rattle.adjustment_kr_vcov_adj.proofs.information.Goals as goal
 pub ps_of-all_p-requires : goal.ps_of-all_p-requires
 ps_of-all_p-requires c =
     let g = c.requires in
-    let l = c.fill_os.auto.0 in
-    let m = c.fill_sx.auto.0 in
+    let l = c.fill_os.auto.narrow in
+    let m = c.fill_sx.auto.narrow in
     (g.sized.0.high, g.sized.0.few, omega (arith, g.sized.0.parts), omega (arith, g.lent.0.sound.thetas, g.lent.1))
 
 pub qs_of-all_q-requires : goal.qs_of-all_q-requires
 qs_of-all_q-requires c =
     let g = c.requires in
-    let l = c.fill_os.auto.0 in
-    let m = c.fill_sx.auto.0 in
-    let o = c.fill_hs.auto.0 in
+    let l = c.fill_os.auto.narrow in
+    let m = c.fill_sx.auto.narrow in
+    let o = c.fill_hs.auto.work in
     (record { high = g.sized.0.high; few = g.sized.0.few; squares = omega (arith, g.sized.0.squares); parts = omega (arith, g.sized.0.parts) }, omega (arith, g.lent.0.sound.thetas, g.lent.1))
 
 pub ie_of-requires : goal.ie_of-requires
 ie_of-requires c =
     let g = c.requires in
-    let o = c.fill_hs.auto.0 in
+    let o = c.fill_hs.auto.work in
     (g.sized.0.high, g.sized.0.few, omega (arith, g.sized.0.squares), omega (arith, g.lent.0.sound.thetas, g.lent.1))
 
 pub shape_of-work : goal.shape_of-work
-shape_of-work c = c.fill_hs.auto.0
+shape_of-work c = c.fill_hs.auto.work
 
 pub returns : goal.returns
 returns c =
@@ -40,5 +40,4 @@ returns c =
     let ps = c.ps_of-all_p.ensures in
     let qs = c.qs_of-all_q.ensures in
     let hn = g.sized.0.high in
-    let hN = g.lent.0.sound.thetas in record { work_after = work-is a.s a.n a.p a.k a.x.now a.xs a.z.now a.zs a.columns a.weighted a.weights.now a.blocks a.count a.work.now _ hn hN g.sized.0.squares g.lent.1 hs; narrow_after = c.clear_all.ensures ∙ ap zeros (c.qs_of-all_q.auto.0 ∙ c.fill_os.auto.0 ∙ c.fill_sx.auto.0); ps_after = ps-call a.s a.n a.p a.k a.x.now a.xs a.z.now a.zs a.columns a.weighted a.weights.now a.blocks a.count a.work.now _ hn hN g.sized.0.squares g.lent.1 hs a.narrow.now _ _ g.sized.0.few g.sized.0.parts sx os _ ps; qs_after = qs-call a.s a.n a.p a.k a.x.now a.xs a.z.now a.zs a.columns a.weighted a.weights.now a.blocks a.count a.work.now _ hn hN g.sized.0.squares g.lent.1 hs a.narrow.now _ _ g.sized.0.few g.sized.0.parts sx os _ qs.value; value = ie-call a.s a.n a.p a.k a.x.now a.xs a.z.now a.zs a.columns a.weighted a.weights.now a.blocks a.count a.work.now _ hn hN g.sized.0.squares g.lent.1 hs a.narrow.now _ _ g.sized.0.few g.sized.0.parts sx os _ _ _ _ ps qs.value c.ie_of.ensures }
-
+    let hN = g.lent.0.sound.thetas in record { work_after = work-is a.s a.n a.p a.k a.x.now a.xs a.z.now a.zs a.columns a.weighted a.weights.now a.blocks a.count a.work.now _ hn hN g.sized.0.squares g.lent.1 hs; narrow_after = c.clear_all.ensures ∙ ap zeros (c.qs_of-all_q.auto.narrow ∙ c.fill_os.auto.narrow ∙ c.fill_sx.auto.narrow); ps_after = ps-call a.s a.n a.p a.k a.x.now a.xs a.z.now a.zs a.columns a.weighted a.weights.now a.blocks a.count a.work.now _ hn hN g.sized.0.squares g.lent.1 hs a.narrow.now _ _ g.sized.0.few g.sized.0.parts sx os _ ps; qs_after = qs-call a.s a.n a.p a.k a.x.now a.xs a.z.now a.zs a.columns a.weighted a.weights.now a.blocks a.count a.work.now _ hn hN g.sized.0.squares g.lent.1 hs a.narrow.now _ _ g.sized.0.few g.sized.0.parts sx os _ qs.value; value = ie-call a.s a.n a.p a.k a.x.now a.xs a.z.now a.zs a.columns a.weighted a.weights.now a.blocks a.count a.work.now _ hn hN g.sized.0.squares g.lent.1 hs a.narrow.now _ _ g.sized.0.few g.sized.0.parts sx os _ _ _ _ ps qs.value c.ie_of.ensures }

@@ -16,7 +16,7 @@ returns-then-number-ne0 c =
 pub from_precision-requires : goal.from_precision-requires
 from_precision-requires c =
     let g = c.requires in
-    let l = c.sigma_and_precision-number.auto.0 in
+    let l = c.sigma_and_precision-number.auto.work in
     (record { high = g.0.high; few = g.0.few; squares = omega (arith, g.0.squares); parts = g.0.parts }, g.1, g.2)
 
 pub returns : goal.returns
@@ -26,5 +26,4 @@ returns c =
     let f = c.sigma_and_precision-number.ensures in
     let h = c.if-number-ne0.false in
     let r = c.from_precision.ensures in
-    let e = late-adjusted a.s a.n a.p a.x.now a.xs a.z.now a.zs a.columns a.weighted a.weights.now a.blocks a.count a.theta a.c a.phi a.sigma2 _ _ _ g.0.high g.0.squares f.value f.work_after h in record { value = late-number a.s a.n a.p a.x.now a.xs a.z.now a.zs a.columns a.weighted a.weights.now a.blocks a.count a.theta a.c a.phi a.sigma2 _ _ _ g.0.high g.0.squares f.value f.work_after h _ r.value; work_after = late-work a.s a.n a.p a.x.now a.xs a.z.now a.zs a.columns a.weighted a.weights.now a.blocks a.count a.theta a.c a.phi a.sigma2 _ _ _ g.0.high g.0.squares f.value f.work_after h _ _ c.sigma_and_precision-number.auto.0 r.work_after.0; narrow_after = r.work_after.1.0; phi_a_after = answer-is _ (λ (t : Adjustment). t.phi_a) _ _ _ _ e r.work_after.1.1.0; ps_after = answer-is _ (λ (t : Adjustment). t.ps) _ _ _ _ e r.work_after.1.1.1.0; w_after = answer-is _ (λ (t : Adjustment). t.w) _ _ _ _ e r.work_after.1.1.1.1.0; rotations_after = answer-is _ (λ (t : Adjustment). t.rotations) _ _ _ _ e r.work_after.1.1.1.1.1 }
-
+    let e = late-adjusted a.s a.n a.p a.x.now a.xs a.z.now a.zs a.columns a.weighted a.weights.now a.blocks a.count a.theta a.c a.phi a.sigma2 _ _ _ g.0.high g.0.squares f.value f.work_after h in record { value = late-number a.s a.n a.p a.x.now a.xs a.z.now a.zs a.columns a.weighted a.weights.now a.blocks a.count a.theta a.c a.phi a.sigma2 _ _ _ g.0.high g.0.squares f.value f.work_after h _ r.value; work_after = late-work a.s a.n a.p a.x.now a.xs a.z.now a.zs a.columns a.weighted a.weights.now a.blocks a.count a.theta a.c a.phi a.sigma2 _ _ _ g.0.high g.0.squares f.value f.work_after h _ _ c.sigma_and_precision-number.auto.work r.work_after; narrow_after = r.narrow_after; phi_a_after = answer-is _ (λ (t : Adjustment). t.phi_a) _ _ _ _ e r.phi_a_after; ps_after = answer-is _ (λ (t : Adjustment). t.ps) _ _ _ _ e r.ps_after; w_after = answer-is _ (λ (t : Adjustment). t.w) _ _ _ _ e r.w_after; rotations_after = answer-is _ (λ (t : Adjustment). t.rotations) _ _ _ _ e r.rotations_after }

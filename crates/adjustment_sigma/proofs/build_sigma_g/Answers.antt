@@ -25,7 +25,7 @@ pub loop-i-preserved : goal.loop-i-preserved
 loop-i-preserved c =
     let v = c.loop-i.invariant in (
       omega arith,
-      c.sigma_row.auto.0 ∙ v.1,
+      c.sigma_row.auto.work ∙ v.1,
       fill_more _ _ _ _ _ _ _ _ _ _ c.start-a.ensures.0 v.2 c.sigma_row.ensures (λ j l. sym (sigma-at _ _ _ c.loop-i-test.true l)),
     )
 

@@ -29,7 +29,7 @@ loop-i-preserved c =
     let v = c.loop-i.invariant in
     let g = c.requires in (
       omega arith,
-      c.h_row.auto.0 ∙ v.1,
+      c.h_row.auto.work ∙ v.1,
       fill_more _ _ _ _ _ _ _ _ _ _ c.start-a.ensures.0 v.2 c.h_row.ensures
           (λ j l. h-cells _ _ _ _ _ _ _ _ _ g.holds.2 g.holds.0.wide c.loop-i-test.true v.2 j l),
     )

@@ -28,7 +28,7 @@ loop-k-preserved c =
     let ws = c.loop-k.work in
     let b = c.start-b.result in (
       omega arith,
-      c.gain_row.auto.0 ∙ v.1,
+      c.gain_row.auto.work ∙ v.1,
       with-more _ (λ j. get_or xs (a + j) nan) (λ j. get_or ws (b + j) nan) _ _ _ _ _ _ xs xs _ _ g.0 refl
           (λ j l. ap (λ (x : ℕ). get_or ws (x + j) nan) c.start-b.ensures.0 ∙ apart-cell _ xs _ g.2 v.2 _ j c.loop-k-test.true (omega (arith, g.1.wide)))
           v.2 c.gain_row.ensures,

@@ -31,7 +31,7 @@ loop-lo-preserved c =
     let v = c.loop-lo.invariant in
     let g = c.requires in (
       omega (arith, c.part-m.ensures.1),
-      c.gain_part.auto.0 ∙ v.1,
+      c.gain_part.auto.work ∙ v.1,
       with-join _ _ _ _ c.part-m.ensures.1 _ c.args.work.now _ _ g.n_in_bounds.0 g.n_in_bounds.1.wide g.n_in_bounds.2 v.2 c.gain_part.ensures,
     )
 

@@ -31,8 +31,8 @@ loop-r-preserved c =
     let v = c.loop-r.invariant in (
       omega arith,
       v.1,
-      c.gain_from.auto.0 ∙ v.2,
-      c.g_row.auto.0 ∙ v.3,
+      c.gain_from.auto.out ∙ v.2,
+      c.g_row.auto.out ∙ v.3,
       terms-more _ (λ j. get_or c.args.work.now (c.args.a + j) nan) _ _ _ _ _ _ _ c.requires.m_in_bounds.0 v.4 c.gain_from.ensures
           (λ j l. sigma-turn _ _ _ _ _ _ _ _ _ _ _ _ _ _ (omega arith) c.factor-f.ensures c.g_row.ensures j l),
     )

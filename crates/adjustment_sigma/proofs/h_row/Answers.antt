@@ -9,7 +9,7 @@ use Rattle.adjustment_sigma.proofs.h_row.Goals as goal
 pub gain_g-requires : goal.gain_g-requires
 gain_g-requires c =
     let g = c.requires in
-    let l = c.clear_row.auto.0 in
+    let l = c.clear_row.auto.work in
     record { n_in_bounds = (omega arith, record { wide = g.n_in_bounds.1.wide; fits = omega (arith, g.n_in_bounds.1.fits) }, g.n_in_bounds.2); lent = g.lent }
 
 pub returns : goal.returns

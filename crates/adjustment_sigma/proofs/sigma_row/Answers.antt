@@ -26,7 +26,7 @@ loop-lo-smaller c = omega (arith, c.part-m.ensures.1, c.part-m.ensures.2 c.loop-
 pub loop-lo-preserved : goal.loop-lo-preserved
 loop-lo-preserved c =
     let v = c.loop-lo.invariant in
-    (omega (arith, c.part-m.ensures.1), c.sigma_part.auto.0 ∙ v.1, row-join _ _ _ _ _ _ _ v.2 c.sigma_part.ensures)
+    (omega (arith, c.part-m.ensures.1), c.sigma_part.auto.work ∙ v.1, row-join _ _ _ _ _ _ _ v.2 c.sigma_part.ensures)
 
 pub shape_of-work : goal.shape_of-work
 shape_of-work c = c.loop-lo.invariant.1

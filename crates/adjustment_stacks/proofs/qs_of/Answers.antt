@@ -24,7 +24,7 @@ loop-r-preserved c =
     let g = c.requires in
     let v = c.loop-r.invariant in (
       omega arith,
-      c.q_row-next.auto.0 ∙ v.1,
+      c.q_row-next.auto.narrow ∙ v.1,
       turned_more _ _ _ _ _ _ _ _ g.0.high g.0.few g.1 c.loop-r-test.true v.2 _ c.q_row-next.ensures.narrow_after,
       qs-more _ _ _ _ _ _ _ _ g.0.high g.0.few g.1 c.loop-r-test.true v.2 _ _ v.3 c.q_row-next.ensures.value,
     )

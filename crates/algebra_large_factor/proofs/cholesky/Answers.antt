@@ -21,7 +21,7 @@ loop-j-preserved c =
     let v = c.loop-j.invariant in
     let h = c.loop-j-test.true in
     let q = shape-rows_at _ _ _ _ _ in
-    (omega arith, c.column-not_positive.auto.0 ∙ v.1, column-more _ _ _ _ _ _ _ _ c.requires q h v.2 c.column-not_positive.ensures.work_after, refused-more _ _ _ _ _ _ _ _ _ c.requires q h v.2 v.3 c.column-not_positive.ensures.value)
+    (omega arith, c.column-not_positive.auto.work ∙ v.1, column-more _ _ _ _ _ _ _ _ c.requires q h v.2 c.column-not_positive.ensures.work_after, refused-more _ _ _ _ _ _ _ _ _ c.requires q h v.2 v.3 c.column-not_positive.ensures.value)
 
 pub shape_of-work : goal.shape_of-work
 shape_of-work c = c.loop-j.invariant.1

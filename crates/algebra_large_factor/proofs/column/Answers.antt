@@ -9,7 +9,7 @@ use native.Mathlib.Omega.{arith}
 use Rattle.algebra_large_factor.proofs.column.Goals as goal
 
 pub shape_of-work : goal.shape_of-work
-shape_of-work c = c.below_diagonal.auto.0 ∙ simp length-set
+shape_of-work c = c.below_diagonal.auto.work ∙ simp length-set
 
 pub returns : goal.returns
 unfolding not_positive of_bits

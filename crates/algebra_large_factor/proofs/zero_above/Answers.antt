@@ -19,7 +19,7 @@ loop-i-preserved c =
     let v = c.loop-i.invariant in
     let h = c.loop-i-test.true in (
       omega arith,
-      c.clear_row.auto.0 ∙ v.1,
+      c.clear_row.auto.work ∙ v.1,
       lower-more _ _ _ _ _ _ _ _ _ _ c.requires h c.start-p.ensures.0 (omega arith) (omega arith) v.2 c.clear_row.ensures,
     )
 

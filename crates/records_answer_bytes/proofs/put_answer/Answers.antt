@@ -27,7 +27,7 @@ pub loop-i-preserved : goal.loop-i-preserved
 loop-i-preserved c =
     let g = c.args in
     let p = c.put_entry in
-    let k : length p.new.0 ≡ length l.loop.a = p.auto.0 in
+    let k : length p.new.a ≡ length l.loop.a = p.auto.a in
     let h : c.loop-i.i < length g.t2 = omega arith in (
       omega arith,
       c.loop-i.invariant.1,

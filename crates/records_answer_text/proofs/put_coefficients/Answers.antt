@@ -28,7 +28,7 @@ loop-i-preserved c =
       omega arith,
       c.loop-i.invariant.1,
       c.loop-i.invariant.2,
-      p.auto.0 ∙ c.loop-i.invariant.3,
+      p.auto.out ∙ c.loop-i.invariant.3,
       coefficients-more c.loop-i.i g.t3 h c.loop-i.invariant.4 p.ensures,
     )
 

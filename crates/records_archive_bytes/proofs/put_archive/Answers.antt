@@ -34,11 +34,11 @@ loop-k-preserved c =
     let p = c.put_kind-at in
     let g = c.args in
     let e : c.kind_at.result ≡ kind_at (archive_kinds (sizes_at g.p g.n)) c.loop-k.k = c.kind_at.ensures ∙ ap (λ (y : Sizes). kind_at (kinds_of Archived y) c.loop-k.k) c.loop-k.invariant.1 in
-    let k : length p.new.0 ≡ length l.loop.out = p.auto.0 in (
+    let k : length p.new.out ≡ length l.loop.out = p.auto.out in (
       omega arith,
       c.loop-k.invariant.1,
       omega arith,
-      front-more g.p g.n g.phi.now g.phi_a.now g.ps.now g.w.now g.sigma2 g.out.now c.loop-k.out p.new.0 c.loop-k.k c.loop-k.at p.result c.kind_at.result c.loop-k.invariant.3 e p.ensures.0 p.ensures.1,
+      front-more g.p g.n g.phi.now g.phi_a.now g.ps.now g.w.now g.sigma2 g.out.now c.loop-k.out p.new.out c.loop-k.k c.loop-k.at p.result c.kind_at.result c.loop-k.invariant.3 e p.ensures.0 p.ensures.1,
     )
 
 pub returns : goal.returns

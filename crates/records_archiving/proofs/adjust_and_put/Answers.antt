@@ -48,7 +48,7 @@ as_read c =
     at-hand a.limit a.s.now _ _ a.sheet.now (start-of-slots c).requires.series_read.0 c.series_sizes-z.ensures c.first_slots-firsts.ensures
 
 as_short : (c : goal.After-shorten-n)
-    → let b = slots c in let a = (start-of-slots b).args in SeriesShort a.limit a.s.now b.series_sizes-z.result b.first_slots-firsts.result c.shorten-n.new.1.1.0
+    → let b = slots c in let a = (start-of-slots b).args in SeriesShort a.limit a.s.now b.series_sizes-z.result b.first_slots-firsts.result c.shorten-n.new.sheet
 as_short c = series-short _ _ _ _ _ (as_read (slots c)) _ c.shorten-n.ensures.sheet_after
 
 -- as many specimens are left as are run

@@ -27,11 +27,11 @@ accepted c = sym c.refusal-early.ensures.value ∙ c.if-early-ne0.false
 sizes-at-hand : (c : goal.After-parameter_sizes-z) → FormedSizes Test 1 c.args.s.now c.parameter_sizes-z.result
 sizes-at-hand c = accepted-sizes _ _ (accepted c.before) c.parameter_sizes-z.ensures
 
-sheet-at-hand : (c : goal.Else-early-ne0) → c.refusal-early.new.1.1.0 ≡ sheet_after 256 (kinds c.args.s.now) c.args.s.now (count c.args.s.now)
+sheet-at-hand : (c : goal.Else-early-ne0) → c.refusal-early.new.sheet ≡ sheet_after 256 (kinds c.args.s.now) c.args.s.now (count c.args.s.now)
 sheet-at-hand c = c.refusal-early.ensures.sheet_after c.if-early-ne0.false
 
 -- what was tested is what the file sends
-outcome-at-hand : (c : goal.After-test-e) → test marks c.args.c (inputs_from c.refusal-early.new.1.1.0 c.parameter_sizes-z.result) ≡ fileOutcome c.args.c c.args.s.now
+outcome-at-hand : (c : goal.After-test-e) → test marks c.args.c (inputs_from c.refusal-early.new.sheet c.parameter_sizes-z.result) ≡ fileOutcome c.args.c c.args.s.now
 outcome-at-hand c =
     let s = c.args.s.now in
     let t = accepted-sizes s _ (accepted c.before.before.before.before.before.before) refl in

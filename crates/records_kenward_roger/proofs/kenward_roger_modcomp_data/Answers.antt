@@ -182,8 +182,8 @@ returns c =
     let ea = adjusted-is _ _ _ _ _ (lent b) _ b.requires.1 _ em _ eb b.args.c _ _ et ep in
     record {
       number = r.value ∙ en;
-      phi_a = answer-same (λ (t : Adjustment). t.phi_a) _ _ _ _ _ r.work_after.1.1.0 ea;
-      ps = answer-same (λ (t : Adjustment). t.ps) _ _ _ _ _ r.work_after.1.1.1.0 ea;
-      w = answer-same (λ (t : Adjustment). t.w) _ _ _ _ _ r.work_after.1.1.1.1.0 ea;
-      rotations = answer-same (λ (t : Adjustment). t.rotations) _ _ _ _ _ r.work_after.1.1.1.1.1 ea;
+      phi_a = answer-same (λ (t : Adjustment). t.phi_a) _ _ _ _ _ r.phi_a_after ea;
+      ps = answer-same (λ (t : Adjustment). t.ps) _ _ _ _ _ r.ps_after ea;
+      w = answer-same (λ (t : Adjustment). t.w) _ _ _ _ _ r.w_after ea;
+      rotations = answer-same (λ (t : Adjustment). t.rotations) _ _ _ _ _ r.rotations_after ea;
     }

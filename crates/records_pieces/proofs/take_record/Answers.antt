@@ -17,4 +17,4 @@ returns c =
     let read = c.key_at-key in
     let compared = c.fell_with-fell in
     record-kept start.a start.kept.now start.current.now read.result read.ensures.0 compared.result compared.ensures
-    (omega arith) c.keep_record.new.1.1.0 c.keep_record.ensures
+    (omega arith) c.keep_record.new.kept c.keep_record.ensures

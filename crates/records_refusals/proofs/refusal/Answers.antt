@@ -58,7 +58,7 @@ good-size c =
     sym (size_is a.w a.s.now _ (sound (sized c)) _ _ c.blocks_of-blocks.ensures.0 c.bad_size.ensures) ∙ c.if-bad_size.false
 
 -- the filled sheet has room for the series
-filled-room : (c : goal.After-fill_sheet) → slot_count (kinds_of Series (sized-of-filled c).series_sizes-z.result) ≤ length c.fill_sheet.new.1.1.1.1.0
+filled-room : (c : goal.After-fill_sheet) → slot_count (kinds_of Series (sized-of-filled c).series_sizes-z.result) ≤ length c.fill_sheet.new.sheet
 filled-room c =
     let z = sized-of-filled c in
     let s = start-of-sizes z in

@@ -20,7 +20,7 @@ returns-then-closes c =
 pub shape_of-current : goal.shape_of-current
 shape_of-current c =
     let a = c.args in
-    c.take_byte.auto.1.1.1.0 ∙ length-set a.current.now 15 a.b
+    c.take_byte.auto.current ∙ length-set a.current.now 15 a.b
 
 pub returns : goal.returns
 returns c =

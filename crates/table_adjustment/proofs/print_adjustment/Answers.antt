@@ -28,7 +28,7 @@ as_read c =
     let a = c.args in
     at-hand 24 a.file.now _ _ a.sheet.now c.requires c.series_sizes-z.ensures c.first_slots-firsts.ensures
 
-as_short : (c : goal.After-shorten-kept) → SeriesShort 24 c.args.file.now c.series_sizes-z.result c.first_slots-firsts.result c.shorten-kept.new.1.1.0
+as_short : (c : goal.After-shorten-kept) → SeriesShort 24 c.args.file.now c.series_sizes-z.result c.first_slots-firsts.result c.shorten-kept.new.sheet
 as_short c = series-short _ _ _ _ _ (as_read c.before.before.before) _ c.shorten-kept.ensures.sheet_after
 
 -- as many specimens are left as are run

@@ -8,8 +8,8 @@ use Rattle.table_adjustment.proofs.print_tests.Goals as goal
 
 pub slice_bounds-out-end : goal.slice_bounds-out-end
 slice_bounds-out-end c =
-    let e : length c.text-n.new.1.0 ≡ 512 = rw (c.text-n.ensures.stored, length-sets) in
+    let e : length c.text-n.new.out ≡ 512 = rw (c.text-n.ensures.stored, length-sets) in
     omega (arith, c.text-n.ensures.moved, c.text-n.ensures.short)
 
 pub slice_bounds-write_all-end : goal.slice_bounds-write_all-end
-slice_bounds-write_all-end c = sym (length-take-le c.text-n.result c.text-n.new.1.0 (slice_bounds-out-end c))
+slice_bounds-write_all-end c = sym (length-take-le c.text-n.result c.text-n.new.out (slice_bounds-out-end c))

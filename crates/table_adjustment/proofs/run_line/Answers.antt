@@ -5,4 +5,4 @@ use borrow.Author.Rules.{rules}
 use Rattle.table_adjustment.proofs.run_line.Goals as goal
 
 pub slice_bounds-print_case-end : goal.slice_bounds-print_case-end
-slice_bounds-print_case-end c = sym (length-take-le _ c.spell.new.1.1.0 (search rules))
+slice_bounds-print_case-end c = sym (length-take-le _ c.spell.new.file (search rules))

@@ -29,7 +29,7 @@ loop-a-preserved c =
     let v = c.loop-a.invariant in
     let g = c.requires in (
       omega arith,
-      c.turned_row.auto.0 ∙ v.1,
+      c.turned_row.auto.narrow ∙ v.1,
       fill_more _ _ _ _ _ _ (gained_with c.args.n (λ k. get_or c.loop-a.narrow (c.args.o + k * 6 + c.loop-a.a) nan) c.args.work.now c.args.q c.args.s plus_zero) _ _ _
           c.start-d.ensures.0 v.2 c.turned_row.ensures
           (λ j l. turned-cells _ _ _ _ _ _ _ _ _ _ _ g.2 g.1.wide c.loop-a-test.true v.2 j l),

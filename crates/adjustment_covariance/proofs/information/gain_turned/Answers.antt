@@ -23,7 +23,7 @@ loop-k-preserved c =
     let a = c.args.a in
     let b = c.start-b.result in (
       omega arith,
-      c.gain_from.auto.0 ∙ v.1,
+      c.gain_from.auto.out ∙ v.1,
       with-more (λ k. get_or xs (o + k * 6 + a) nan) (λ j. get_or xs (d + j) nan) (λ j. get_or ws (b + j) nan) _ _ _ _ _ _ ws xs _ _ c.requires.0
           (ap (λ (x : ℕ). get_or c.loop-k.narrow (x + a) nan) c.start-u.ensures.0 ∙ apart-cell _ xs _ c.requires.2 v.2 _ _ c.loop-k-test.true (omega (arith, c.requires.1.wide)))
           (λ j l. ap (λ (x : ℕ). get_or ws (x + j) nan) c.start-b.ensures.0) v.2 c.gain_from.ensures,

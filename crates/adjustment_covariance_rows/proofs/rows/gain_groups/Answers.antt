@@ -21,7 +21,7 @@ gain_group-requires c =
 pub loop-g-preserved : goal.loop-g-preserved
 loop-g-preserved c =
     let v = c.loop-g.invariant in
-    (omega arith, c.gain_group.auto.0 ∙ v.1, terms-more _ (λ j. get_or c.args.out.now (c.args.d + j) nan) _ _ _ _ _ _ _ c.requires.0 v.2 c.gain_group.ensures (λ j l. refl))
+    (omega arith, c.gain_group.auto.out ∙ v.1, terms-more _ (λ j. get_or c.args.out.now (c.args.d + j) nan) _ _ _ _ _ _ _ c.requires.0 v.2 c.gain_group.ensures (λ j l. refl))
 
 pub shape_of-out : goal.shape_of-out
 shape_of-out c = c.loop-g.invariant.1

@@ -16,18 +16,18 @@ copy-requires c =
 pub cholesky-z-requires : goal.cholesky-z-requires
 cholesky-z-requires c =
     let g = c.requires in
-    let l = c.copy.auto.0 in
+    let l = c.copy.auto.work in
     square-held _ _ 2 _ _ g.0 (omega arith) (omega arith) c.square_at-b.ensures.0
 
 pub zero_above-requires : goal.zero_above-requires
 zero_above-requires c =
     let g = c.requires in
-    let l = c.copy.auto.0 in
-    let m = c.cholesky-z.auto.0 in
+    let l = c.copy.auto.work in
+    let m = c.cholesky-z.auto.work in
     square-held _ _ 2 _ _ g.0 (omega arith) (omega arith) c.square_at-b.ensures.0
 
 pub returns : goal.returns
 returns c =
     let g = c.requires in
     let a = c.square_at-a.ensures.0 in
-    let b = c.square_at-b.ensures.0 in record { work_after = factor-is _ _ _ _ _ _ _ _ c.cholesky-z.result g.0 g.1 a b c.copy.ensures c.cholesky-z.ensures.work_after c.zero_above.ensures; value = definite-is _ _ _ _ _ _ _ c.zero_above.new.0 _ g.0 g.1 a b c.copy.ensures c.cholesky-z.ensures.work_after c.cholesky-z.ensures.value }
+    let b = c.square_at-b.ensures.0 in record { work_after = factor-is _ _ _ _ _ _ _ _ c.cholesky-z.result g.0 g.1 a b c.copy.ensures c.cholesky-z.ensures.work_after c.zero_above.ensures; value = definite-is _ _ _ _ _ _ _ c.zero_above.new.work _ g.0 g.1 a b c.copy.ensures c.cholesky-z.ensures.work_after c.cholesky-z.ensures.value }

@@ -15,12 +15,12 @@ use Rattle.adjustment_kr_vcov_adj.proofs.precision.sigma_and_precision.Goals as 
 pub build_sigma_g-requires : goal.build_sigma_g-requires
 build_sigma_g-requires c =
     let g = c.requires in
-    let l = c.clear_all.auto.0 in
+    let l = c.clear_all.auto.work in
     (square-held _ _ 0 _ _ g.0 (omega arith) (omega arith) c.square_at-a.ensures.0, g.2)
 
 pub returns-then-fill_factor : goal.returns-then-fill_factor
 unfolding accepted
-returns-then-fill_factor c = let d : Design = design c.args.n (rows_at c.args.zs 0 c.args.n c.args.columns c.args.z.now) c.args.weighted c.args.weights.now c.args.blocks c.args.count c.args.theta in record { value = number-nine _ d _ _ _ _ _ c.requires.0 c.requires.1 c.clear_all.ensures c.square_at-a.ensures.0 c.build_sigma_g.ensures c.fill_factor.ensures.work_after _ c.fill_factor.ensures.value c.if-fill_factor.true; work_after = c.clear_all-then-fill_factor.ensures ∙ ap zeros (c.fill_factor.auto.0 ∙ c.build_sigma_g.auto.0 ∙ c.clear_all.auto.0) }
+returns-then-fill_factor c = let d : Design = design c.args.n (rows_at c.args.zs 0 c.args.n c.args.columns c.args.z.now) c.args.weighted c.args.weights.now c.args.blocks c.args.count c.args.theta in record { value = number-nine _ d _ _ _ _ _ c.requires.0 c.requires.1 c.clear_all.ensures c.square_at-a.ensures.0 c.build_sigma_g.ensures c.fill_factor.ensures.work_after _ c.fill_factor.ensures.value c.if-fill_factor.true; work_after = c.clear_all-then-fill_factor.ensures ∙ ap zeros (c.fill_factor.auto.work ∙ c.build_sigma_g.auto.work ∙ c.clear_all.auto.work) }
 
 pub returns-then-fill_inverse : goal.returns-then-fill_inverse
 unfolding accepted
@@ -28,7 +28,7 @@ returns-then-fill_inverse c =
     let d : Design = design c.args.n (rows_at c.args.zs 0 c.args.n c.args.columns c.args.z.now) c.args.weighted c.args.weights.now c.args.blocks c.args.count c.args.theta in record {
       value = ap (λ (b : Bool). cond b 10 0) (sym c.if-fill_inverse.true)
           ∙ number-ten _ d _ _ _ _ _ c.requires.0 c.requires.1 c.clear_all.ensures c.square_at-a.ensures.0 c.build_sigma_g.ensures c.fill_factor.ensures.work_after _ c.fill_inverse.result c.fill_factor.ensures.value c.if-fill_factor.false c.fill_inverse.ensures.value;
-      work_after = c.clear_all-then-fill_inverse.ensures ∙ ap zeros (c.fill_inverse.auto.0 ∙ c.fill_factor.auto.0 ∙ c.build_sigma_g.auto.0 ∙ c.clear_all.auto.0);
+      work_after = c.clear_all-then-fill_inverse.ensures ∙ ap zeros (c.fill_inverse.auto.work ∙ c.fill_factor.auto.work ∙ c.build_sigma_g.auto.work ∙ c.clear_all.auto.work);
     }
 
 pub returns : goal.returns

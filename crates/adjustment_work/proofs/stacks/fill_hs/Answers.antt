@@ -37,7 +37,7 @@ pub loop-r-preserved : goal.loop-r-preserved
 loop-r-preserved c =
     let g = c.requires in
     let v = c.loop-r.invariant in
-    (omega arith, c.fill_h.auto.0 ∙ v.1, h-more _ _ _ _ _ _ _ _ _ g.0 v.2 c.square_at-d.ensures.0 c.square_at-q.ensures.0 c.fill_h.ensures)
+    (omega arith, c.fill_h.auto.work ∙ v.1, h-more _ _ _ _ _ _ _ _ _ g.0 v.2 c.square_at-d.ensures.0 c.square_at-q.ensures.0 c.fill_h.ensures)
 
 pub shape_of-work : goal.shape_of-work
 shape_of-work c = c.loop-r.invariant.1

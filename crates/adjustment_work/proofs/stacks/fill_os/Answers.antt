@@ -29,7 +29,7 @@ fill_o-requires c =
 pub loop-r-preserved : goal.loop-r-preserved
 loop-r-preserved c =
     let v = c.loop-r.invariant in
-    (omega arith, c.fill_o.auto.0 ∙ v.1, o-more _ _ _ _ _ _ _ _ _ _ _ v.2 c.part_at-d.ensures.0 c.square_at-a.ensures.0 c.fill_o.ensures)
+    (omega arith, c.fill_o.auto.narrow ∙ v.1, o-more _ _ _ _ _ _ _ _ _ _ _ v.2 c.part_at-d.ensures.0 c.square_at-a.ensures.0 c.fill_o.ensures)
 
 pub shape_of-narrow : goal.shape_of-narrow
 shape_of-narrow c = c.loop-r.invariant.1

@@ -22,7 +22,7 @@ loop-k-preserved c =
     let xs = c.args.work.now in
     let d = c.args.d in (
       omega arith,
-      c.gain_row.auto.0 ∙ v.1,
+      c.gain_row.auto.work ∙ v.1,
       gain-more (λ j. get_or xs (d + j) nan) _ _ _ _ _ _ _ _ _ _ _ _ xs _ _ g.c_in_bounds.0 g.apart.0 g.apart.1 c.loop-k-test.true (omega (arith, g.c_in_bounds.1.wide)) g.c_in_bounds.2.wide
           c.start-a.ensures.0 c.start-b.ensures.0 refl v.2 c.gain_row.ensures,
     )

@@ -22,7 +22,7 @@ loop-h-preserved c =
     let v = c.loop-h.invariant in
     let g = c.requires in (
       omega arith,
-      c.back_row.auto.0 ∙ v.1,
+      c.back_row.auto.work ∙ v.1,
       back_more _ _ _ _ _ _ _ _ _ _ _ _ g.0 g.1.wide g.2 (shape-rows_at _ _ _ _ _) c.loop-h-test.true refl v.2 c.back_row.ensures,
     )
 

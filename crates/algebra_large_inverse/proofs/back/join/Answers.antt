@@ -28,7 +28,7 @@ loop-i-preserved c =
     let v = c.loop-i.invariant in
     let g = c.requires in (
       omega arith,
-      c.join_row.auto.0 ∙ v.1,
+      c.join_row.auto.work ∙ v.1,
       fill_more _ _ _ _ _ _ (joined_cell c.args.n c.loop-i.work c.start-b.result c.loop-i.i) _ _ _ c.start-e.ensures.0 v.2 c.join_row.ensures
           (λ j l. joined-row _ _ _ _ _ _ _ _ _ _ g.2 g.0.wide g.1.wide c.loop-i-test.true c.start-b.ensures.0 v.2 j l),
     )

@@ -11,7 +11,7 @@ pub copy_row-requires : goal.copy_row-requires
 copy_row-requires c = (omega arith, omega arith, join_apart c.requires.2)
 
 pub shape_of-work : goal.shape_of-work
-shape_of-work c = simp length-set (c.clear_row.auto.0 ∙ c.copy_row.auto.0)
+shape_of-work c = simp length-set (c.clear_row.auto.work ∙ c.copy_row.auto.work)
 
 pub returns : goal.returns
 unfolding of_bits

@@ -23,7 +23,7 @@ loop-j-preserved c =
     let g = c.requires in (
       omega arith,
       omega arith,
-      c.lose_row.auto.0 ∙ v.2,
+      c.lose_row.auto.work ∙ v.2,
       known_more _ _ _ _ _ _ _ _ _ _ c.args.work.now _ _ (row_fits g.0 _ g.1) g.3 g.1 g.0.wide v.0 c.loop-j-test.true c.start-x.ensures.0 c.start-y.ensures.0 refl v.3 c.lose_row.ensures,
     )
 

@@ -29,7 +29,7 @@ loop-r-preserved c =
     let g = c.requires in (
       omega arith,
       omega arith,
-      c.lose_row.auto.0 ∙ v.2,
+      c.lose_row.auto.work ∙ v.2,
       clear-more _ _ _ _ _ _ _ _ _ _ _ _ c.loop-r.work _ g.0 (shape-rows_at _ _ _ _ _) g.1 g.2 v.0 c.loop-r-test.true c.start-p.ensures.0 c.start-q.ensures.0 v.3 refl refl c.lose_row.ensures,
     )
 

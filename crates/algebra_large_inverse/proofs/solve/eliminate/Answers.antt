@@ -18,7 +18,7 @@ loop-c-init c = (omega arith, refl, turn-none _ _ _ _ _ _ _ c.requires.0)
 pub loop-c-preserved : goal.loop-c-preserved
 loop-c-preserved c =
     let v = c.loop-c.invariant in
-    (omega arith, c.eliminate_column.auto.0 ∙ v.1, column-more _ _ _ _ _ _ _ _ _ c.requires.0 (shape-rows_at _ _ _ _ _) c.loop-c-test.true v.2 c.eliminate_column.ensures)
+    (omega arith, c.eliminate_column.auto.work ∙ v.1, column-more _ _ _ _ _ _ _ _ _ c.requires.0 (shape-rows_at _ _ _ _ _) c.loop-c-test.true v.2 c.eliminate_column.ensures)
 
 pub shape_of-work : goal.shape_of-work
 shape_of-work c = c.loop-c.invariant.1

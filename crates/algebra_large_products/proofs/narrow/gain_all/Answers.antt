@@ -19,7 +19,7 @@ loop-k-preserved c =
     let xs = c.args.out.now in
     let d = c.args.d in (
       omega arith,
-      c.gain_from.auto.0 ∙ v.1,
+      c.gain_from.auto.out ∙ v.1,
       by-more (λ j. get_or xs (d + j) nan) _ _ _ _ _ _ _ _ _ _ xs _ _ c.requires.0 c.start-b.ensures.0 refl v.2 c.gain_from.ensures,
     )
 

@@ -21,7 +21,7 @@ pub loop-i-preserved : goal.loop-i-preserved
 loop-i-preserved c =
     let v = c.loop-i.invariant in (
       omega arith,
-      c.narrow_row.auto.0 ∙ v.1,
+      c.narrow_row.auto.out ∙ v.1,
       fill_more _ _ _ _ _ _ (gained_to c.args.n c.args.work.now c.start-b.result 1 0 c.args.x.now c.args.q c.args.u plus_zero) _ _ _
           c.start-a.ensures.0 v.2 c.narrow_row.ensures
           (λ j l. narrow-row _ _ _ _ _ _ _ _ _ _ _ c.loop-i-test.true c.start-b.ensures.0 j l),

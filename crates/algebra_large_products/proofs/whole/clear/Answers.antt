@@ -19,7 +19,7 @@ pub loop-i-preserved : goal.loop-i-preserved
 loop-i-preserved c =
     let v = c.loop-i.invariant in (
       omega arith,
-      c.clear_row.auto.0 ∙ v.1,
+      c.clear_row.auto.work ∙ v.1,
       fill_more _ _ _ _ _ (blank plus_zero c.args.r c.args.c) (λ j. plus_zero) _ _ _ c.start-a.ensures.0 v.2 c.clear_row.ensures
           (λ j l. blank-at plus_zero _ _ _ j c.loop-i-test.true l),
     )

@@ -26,7 +26,7 @@ loop-i-preserved c =
     let v = c.loop-i.invariant in
     let g = c.requires in (
       omega arith,
-      c.copy_row.auto.0 ∙ v.1,
+      c.copy_row.auto.work ∙ v.1,
       fill_more _ _ _ _ _ _ (λ j. get_or c.loop-i.work (c.start-b.result + j) nan) _ _ _ c.start-a.ensures.0 v.2 c.copy_row.ensures
           (λ j l. copied-row _ _ _ _ _ _ _ _ _ _ _ g.2 g.0.wide g.1.wide c.loop-i-test.true c.start-b.ensures.0 v.2 j l),
     )

@@ -27,7 +27,7 @@ loop-i-preserved c =
     let v = c.loop-i.invariant in
     let g = c.requires in (
       omega arith,
-      c.product_row.auto.0 ∙ v.1,
+      c.product_row.auto.work ∙ v.1,
       fill_more _ _ _ _ _ _ (gained_to c.args.n c.loop-i.work c.args.p c.args.t c.loop-i.i c.loop-i.work c.args.p c.args.t plus_zero) _ _ _
           c.start-a.ensures.0 v.2 c.product_row.ensures
           (λ j l. gram-row _ _ _ _ _ _ _ _ _ _ g.2 g.0.wide g.1.wide c.loop-i-test.true v.2 j l),

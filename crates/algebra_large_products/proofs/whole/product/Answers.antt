@@ -32,7 +32,7 @@ loop-i-preserved c =
     let v = c.loop-i.invariant in
     let g = c.requires in (
       omega arith,
-      c.product_row.auto.0 ∙ v.1,
+      c.product_row.auto.work ∙ v.1,
       fill_more _ _ _ _ _ _ (gained_to c.args.n c.loop-i.work c.start-b.result 1 0 c.loop-i.work c.args.q c.args.u plus_zero) _ _ _
           c.start-a.ensures.0 v.2 c.product_row.ensures
           (λ j l. product-row _ _ _ _ _ _ _ _ _ _ _ _ _ _ g.apart.0 g.apart.1 g.holds.0.wide g.holds.1.wide g.holds.2.wide c.loop-i-test.true c.start-b.ensures.0 v.2 j l),
