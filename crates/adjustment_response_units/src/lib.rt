@@ -62,7 +62,7 @@ pub fn not_all_finite_marked(rows: usize, cols: usize, m: [[Marked; 6]; 6]) -> b
 // Whether some cell of a P, or of it over sigma2, is not finite.
 pub fn ps_not_finite(p: usize, n: usize, ps: [[[f64; 6]; 6]; 4], sigma2: f64) -> bool
     requires { (p ≤ 6) × (n ≤ 4) }
-    ensures* { λ r. ⌜ r ≡ fold 0 n (λ r z. z || not_all_finite p p (matrix_at ps r) || not_all_finite_marked p p (scaled_down marks p (matrix_at ps r) sigma2)) false ⌝ }
+    ensures { result ≡ fold 0 n (λ r z. z || not_all_finite p p (matrix_at ps r) || not_all_finite_marked p p (scaled_down marks p (matrix_at ps r) sigma2)) false }
 {
     let mut found = false;
     for r in 0..n {

@@ -17,7 +17,7 @@ unfolding row
 loop-j-init c = (omega arith, rw c.zero_of-zero.ensures (fold_start _ _ _))
 
 pub loop-j-preserved : goal.loop-j-preserved
-loop-j-preserved c = (omega arith, joined-next marks _ _ _ c.args.t1 c.args.t2 _ c.loop-j-test.true c.loop-j.invariant.1)
+loop-j-preserved c = (omega arith, joined-next marks _ _ _ c.args.a c.args.b _ c.loop-j-test.true c.loop-j.invariant.1)
 
 pub loop-k-init : goal.loop-k-init
 loop-k-init c = (omega arith, fold_start _ _ _)
@@ -30,4 +30,4 @@ returns c =
     let u = c.loop-j.invariant in
     let v = c.loop-k.invariant in
     let args = c.args in
-    joined-row-is marks _ _ _ _ _ args.t1 args.t2 _ _ u.0 c.loop-j-test.false u.1 v.0 c.loop-k-test.false v.1
+    joined-row-is marks _ _ _ _ _ args.a args.b _ _ u.0 c.loop-j-test.false u.1 v.0 c.loop-k-test.false v.1

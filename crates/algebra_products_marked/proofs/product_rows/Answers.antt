@@ -1,7 +1,7 @@
 -- `algebra_products_marked::product_rows` meets its contract.
 use Prim.Native.Nat.{◌≤◌, ◌<◌, ◌-◌}
-use mathlib.Core.Path.{◌≡◌, ◌∙◌}
-use mathlib.Core.Bool.{false}
+use mathlib.Core.Path.{◌≡◌, ap, ◌∙◌}
+use mathlib.Core.Bool.{not, false}
 use mathlib.Core.List.{[]}
 use lib.ListN.{get_or}
 use Rattle.algebra.specs.Table.{table}
@@ -15,7 +15,7 @@ use Rattle.algebra_products_marked.proofs.CellMarkLaws.{RowSums, row-sums-none, 
 use borrow.Author.Rules.{rules}
 use native.Mathlib.Omega.{arith}
 use Rattle.algebra_products_marked.proofs.product_rows.Goals as goal
-use Rattle.algebra_products_marked.proofs.product_rows.Goals.{then-not-adds_nothing, else-not-adds_nothing}
+use Rattle.algebra_products_marked.proofs.product_rows.Goals.{then-not-adds_nothing+else-loop-j-test, else-not-adds_nothing}
 
 pub loop-i-init : goal.loop-i-init
 loop-i-init c = (omega arith, table_none _ _ _ _ _ _ c.zeros-out.ensures)
@@ -38,7 +38,7 @@ loop-j-preserved c = (
 pub loop-k-preserved : goal.loop-k-preserved
 loop-k-preserved c =
     elim c.if-not-adds_nothing.branch [
-      | then-not-adds_nothing w ↦ (
+      | then-not-adds_nothing+else-loop-j-test w ↦ (
         omega arith,
         omega arith,
         turn-taken (omega arith) c.loop-k.invariant.2 (c.join_marks-row.ensures ∙ rw c.reported.ensures)
@@ -47,7 +47,7 @@ loop-k-preserved c =
       | else-not-adds_nothing w ↦ (
         omega arith,
         omega arith,
-        turn-idle (omega arith) c.loop-k.invariant.2 (omega arith) c.requires.4 (c.adds_nothing.ensures ∙ rw c.value_of-v.ensures) w.if-not-adds_nothing.false
+        turn-idle (omega arith) c.loop-k.invariant.2 (omega arith) c.requires.4 (c.adds_nothing.ensures ∙ rw c.value_of-v.ensures) (ap not w.if-not-adds_nothing.false)
             (c.join_marks-row.ensures ∙ rw c.reported.ensures) w.sums-is,
       )
     ]

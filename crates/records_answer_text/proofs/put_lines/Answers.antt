@@ -14,6 +14,6 @@ use Rattle.records_answer_text.proofs.put_lines.Goals as goal
 pub returns : goal.returns
 unfolding lines_text
 returns c =
-    let es = c.args.t3 in
+    let es = c.args.es in
     let last : test_line (get_or es 6 past) ≡ test_line (get_or es 6 no_entry) = ap test_line (get_d_any es 6 past no_entry (omega arith)) in
     named (then c.put_coefficients-at.ensures c.put_test.ensures) (ap (λ (t : List ℕ). coefficient_lines 6 es ++ t) last) (omega arith)

@@ -19,14 +19,14 @@ unfolding columns_in total
 loop-b-init c = (omega arith, c.requires.0, omega arith, refl)
 
 pub overflow_mul-t : goal.overflow_mul-t
-overflow_mul-t c = let p = c.requires.1 c.loop-b.b in omega (arith, small (block_at c.args.t1 c.loop-b.b).groups (block_at c.args.t1 c.loop-b.b).effects p.1 p.0)
+overflow_mul-t c = let p = c.requires.1 c.loop-b.b in omega (arith, small (block_at c.args.blocks c.loop-b.b).groups (block_at c.args.blocks c.loop-b.b).effects p.1 p.0)
 
 pub overflow_add-t : goal.overflow_add-t
-overflow_add-t c = let p = c.requires.1 c.loop-b.b in omega (arith, small (block_at c.args.t1 c.loop-b.b).groups (block_at c.args.t1 c.loop-b.b).effects p.1 p.0)
+overflow_add-t c = let p = c.requires.1 c.loop-b.b in omega (arith, small (block_at c.args.blocks c.loop-b.b).groups (block_at c.args.blocks c.loop-b.b).effects p.1 p.0)
 
 pub loop-b-preserved : goal.loop-b-preserved
 unfolding columns_in
-loop-b-preserved c = let p = c.requires.1 c.loop-b.b in let h = small (block_at c.args.t1 c.loop-b.b).groups (block_at c.args.t1 c.loop-b.b).effects p.1 p.0 in (omega arith, omega arith, omega arith, rw total-more (cc))
+loop-b-preserved c = let p = c.requires.1 c.loop-b.b in let h = small (block_at c.args.blocks c.loop-b.b).groups (block_at c.args.blocks c.loop-b.b).effects p.1 p.0 in (omega arith, omega arith, omega arith, rw total-more (cc))
 
 pub returns : goal.returns
 returns c = let e : c.loop-b.b ≡ c.args.n = omega arith in cc

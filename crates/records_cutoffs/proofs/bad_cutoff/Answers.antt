@@ -1,4 +1,5 @@
 -- `records_cutoffs::bad_cutoff` meets its contract.
+use mathlib.Core.Bool.{not}
 use mathlib.Core.Path.{ap, sym, ◌∙◌}
 use borrow.Author.Rules.{rules}
 use borrow.Author.Tests.{not-false}
@@ -32,7 +33,7 @@ pub returns-then-count_at-ne0 : goal.returns-then-count_at-ne0
 returns-then-count_at-ne0 c = let a = c.args in wrong-count a.table.now a.i _ c.count_at.ensures.0 c.if-count_at-ne0.true
 
 pub returns-then-not-is_finite : goal.returns-then-not-is_finite
-returns-then-not-is_finite c = let a = c.args in not_finite a.table.now a.i _ (c.is_finite.ensures ∙ ap is_finite c.value_at-value.ensures) c.if-not-is_finite.true
+returns-then-not-is_finite c = let a = c.args in not_finite a.table.now a.i _ (c.is_finite.ensures ∙ ap is_finite c.value_at-value.ensures) (ap not c.if-not-is_finite.true)
 
 pub returns : goal.returns
 returns c =
@@ -44,6 +45,6 @@ returns c =
       column = sym c.column_at.ensures.0 ∙ c.if-column_at-ne0.false;
       padding = sym c.padding_at.ensures.0 ∙ c.if-padding_at-ne0.false;
       number = sym c.count_at.ensures.0 ∙ c.if-count_at-ne0.false;
-      finite = sym (c.is_finite.ensures ∙ ap is_finite c.value_at-value.ensures) ∙ not-false _ c.if-not-is_finite.false;
+      finite = sym (c.is_finite.ensures ∙ ap is_finite c.value_at-value.ensures) ∙ c.if-not-is_finite.false;
     })
     c.floor_of.ensures c.value_at-value.ensures

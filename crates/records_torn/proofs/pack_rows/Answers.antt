@@ -45,8 +45,8 @@ loop-i-preserved c =
     let t = sym c.is_zero.ensures in (
       omega arith,
       elim c.if-not-is_zero.branch [
-        | then-not-is_zero w ↦ packing-takes h l (t ∙ not-true _ w.if-not-is_zero.true) w.kept-is (w.sheet-is ∙ w.move_row.ensures)
-        | else-not-is_zero w ↦ packing-skips h l (t ∙ not-false _ w.if-not-is_zero.false) w.kept-is w.sheet-is
+        | then-not-is_zero w ↦ packing-takes h l (t ∙ w.if-not-is_zero.true) w.kept-is (w.sheet-is ∙ w.move_row.ensures)
+        | else-not-is_zero w ↦ packing-skips h l (t ∙ w.if-not-is_zero.false) w.kept-is w.sheet-is
       ],
     )
 
