@@ -36,7 +36,7 @@ use Rattle.records.proofs.calls.CallLaws.{first_next}
 use Rattle.records.proofs.format.CellLaws.{cell-fits}
 use Rattle.records.proofs.readers.AcceptedArchive.{AcceptedArchive, accepted-archive, ArchiveSized, archive-sized}
 use Rattle.records.proofs.readers.Limits.{second_below}
-use Rattle.records.proofs.readers.ReaderLaws.{WellFormed, accepted-formed, accepted-own, well_formed}
+use Rattle.records.proofs.readers.ReaderLaws.{WellFormed, accepted-formed, accepted-own, well-formed}
 use Rattle.converter_run.specs.joints.ConvertedInput.{Input, run_on, ConvertedInput, Multiplied, RunSizes, WrittenCells, Written, WrittenUnits, ScalingMoves}
 use Rattle.converter_run.proofs.MovingInput.{multiplied-is-converted}
 use Rattle.converter_run.proofs.MovingRun.{run-survives, scaling-moves}
@@ -123,7 +123,7 @@ module _ {t : ℕ} (c : Cutoffs) (s u : List ℕ) (k : ℤ) (m : ℕ → ℤ) (n
 
   formed : WellFormed (second.reader (archive.coefficients s)) u
   unfolding second.refusal second.reasons
-  formed = well_formed (second.reader p) u (accepted-formed (second.reader p) u (second-taken c s u e))
+  formed = well-formed (second.reader p) u (accepted-formed (second.reader p) u (second-taken c s u e))
 
   p-is : second.coefficients u ≡ archive.coefficients s
   unfolding second.refusal second.reasons second.formed_for second.value_reasons

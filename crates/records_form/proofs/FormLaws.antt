@@ -22,7 +22,7 @@ use Rattle.records.specs.readers.Parameters.{sizes as parameterSizes}
 use Rattle.records.specs.readers.Archive.{sizes_at, sizes as archiveSizes}
 use Rattle.records.specs.readers.SecondFile.{sizes as secondSizes}
 use Rattle.records.proofs.readers.Limits.{Below, series-below, parameters-below, archive-below, second_below, fewer-slots}
-use Rattle.records.proofs.readers.ReaderLaws.{WellFormed, well_formed}
+use Rattle.records.proofs.readers.ReaderLaws.{WellFormed, well-formed}
 use Rattle.records_sizes.specs.joints.Gathered.{sizes_of, reader_of}
 use Rattle.records_sheet.specs.joints.Sheet.{Small, sheet_after}
 use Rattle.records_sheet.proofs.Sheets.{below-small}
@@ -132,7 +132,7 @@ file-formed file w some most s f =
     }
 
 pub formed-sizes : (file : Shape) (w : ℕ) → 1 ≤ w → w ≤ 256 → (s : List ℕ) (z : Sizes) → formed_number (reader_of file w) s ≡ 0 → z ≡ sizes_of file s → FormedSizes file w s z
-formed-sizes file w some most s z e ez = subst (FormedSizes file w s) (sym ez) (file-formed file w some most s (well_formed (reader_of file w) s e))
+formed-sizes file w some most s z e ez = subst (FormedSizes file w s) (sym ez) (file-formed file w some most s (well-formed (reader_of file w) s e))
 
 -- the sheet by the sizes at hand is the file's
 pub sheet-from : (file : Shape) (N : ℕ) (s : List ℕ) (z : Sizes) (xs : List Float) → z ≡ sizes_of file s → xs ≡ sheet_after N (kinds_of file z) s (count s) → xs ≡ sheet_after N (kinds_of file (sizes_of file s)) s (count s)

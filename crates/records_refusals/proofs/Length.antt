@@ -17,7 +17,7 @@ use Rattle.records.specs.format.File.{count, kind_of, cell_row, cell_column, cel
 use Rattle.records.specs.format.Order.{falls, order_reasons}
 use Rattle.records.specs.readers.Reader.{limit_kinds, file_kinds, formed_number}
 use Rattle.records.specs.readers.Series.{reader, sizes, refusal}
-use Rattle.records.proofs.readers.ReaderLaws.{well_formed}
+use Rattle.records.proofs.readers.ReaderLaws.{well-formed}
 use Rattle.records.proofs.format.ScanLaws.{any_none}
 use Rattle.records.proofs.format.Slots.{sized_inside, slot-cell}
 use Rattle.records_sheet.specs.joints.Sheet.{slot_of}
@@ -70,7 +70,7 @@ too_long w some s l rises = refusal-cases w s ∙ go (eqb (formed_number (reader
   where
     go : (b : Bool) → eqb (formed_number (reader w) s) 0 ≡ b → (n : ℕ) → cond b n (formed_number (reader w) s) ≡ 2
     go true e n =
-        let f = well_formed (reader w) s (eqb-true (formed_number (reader w) s) 0 e) in
+        let f = well-formed (reader w) s (eqb-true (formed_number (reader w) s) 0 e) in
         let a = few-records Series (sizes s) s f.within f.once in
         let b = sizes-fit Series w some s f.good in
         let m = f.whole in

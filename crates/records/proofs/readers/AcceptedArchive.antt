@@ -12,7 +12,7 @@ use Rattle.records.specs.format.Scan.{any}
 use Rattle.records.specs.format.Kinds.{limits}
 use Rattle.records.specs.format.File.{count, not_finite}
 use Rattle.records.specs.readers.Archive.{reader, sizes_at, coefficients, parameters, sizes, archive_of, misscaled, value_reasons, scaled_reasons, reasons, refusal}
-use Rattle.records.proofs.readers.ReaderLaws.{WellFormed, accepted-formed, accepted-own, well_formed}
+use Rattle.records.proofs.readers.ReaderLaws.{WellFormed, accepted-formed, accepted-own, well-formed}
 use Rattle.records.proofs.readers.Limits.{archive-below}
 
 pub record AcceptedArchive (s : List ℕ) : Type 0 where
@@ -28,7 +28,7 @@ unfolding refusal reasons value_reasons scaled_reasons
 accepted-archive s e =
     let n : NoneHolds (reader.own s) = first-none (reader.own s) refl (accepted-own reader s e) in
     record {
-      formed = well_formed reader s (accepted-formed reader s e);
+      formed = well-formed reader s (accepted-formed reader s e);
       finite = n 0 (lit≤ tt);
       positive = n 1 (lit≤ tt);
       phi_scaled = n 2 (lit≤ tt);

@@ -7,7 +7,7 @@ use Rattle.algebra.proofs.ReasonLaws.{passed}
 use Rattle.records.specs.format.Scan.{any}
 use Rattle.records.specs.format.File.{count, not_finite}
 use Rattle.records.specs.readers.Parameters.{reader, value_reasons, reasons, refusal}
-use Rattle.records.proofs.readers.ReaderLaws.{WellFormed, accepted-formed, accepted-own, well_formed}
+use Rattle.records.proofs.readers.ReaderLaws.{WellFormed, accepted-formed, accepted-own, well-formed}
 
 pub record AcceptedParameters (s : List ℕ) : Type 0 where
   pub formed : WellFormed reader s
@@ -15,4 +15,4 @@ pub record AcceptedParameters (s : List ℕ) : Type 0 where
 
 pub accepted-parameters : (s : List ℕ) → refusal s ≡ 0 → AcceptedParameters s
 unfolding refusal reasons value_reasons
-accepted-parameters s e = record { formed = well_formed reader s (accepted-formed reader s e); finite = (passed 4 (any (count s) (not_finite s)) [] refl (accepted-own reader s e)).0 }
+accepted-parameters s e = record { formed = well-formed reader s (accepted-formed reader s e); finite = (passed 4 (any (count s) (not_finite s)) [] refl (accepted-own reader s e)).0 }

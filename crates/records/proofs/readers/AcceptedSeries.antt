@@ -11,7 +11,7 @@ use Rattle.records.specs.format.Scan.{any}
 use Rattle.records.specs.format.File.{count, not_finite}
 use Rattle.records.specs.readers.Shortened.{all_torn}
 use Rattle.records.specs.readers.Series.{reader, sigma2, as_sent, miscounted, bad_size, bad_weight, misfit, zero_contrast, block_reasons, size_reasons, value_reasons, reasons, refusal}
-use Rattle.records.proofs.readers.ReaderLaws.{WellFormed, accepted-formed, accepted-own, well_formed}
+use Rattle.records.proofs.readers.ReaderLaws.{WellFormed, accepted-formed, accepted-own, well-formed}
 use Rattle.records.proofs.format.ScanLaws.{or-false}
 
 pub record AcceptedSeries (w : ℕ) (s : List ℕ) : Type 0 where
@@ -31,7 +31,7 @@ accepted-series w s e =
     let n : NoneHolds ((reader w).own s) = first-none ((reader w).own s) refl (accepted-own (reader w) s e) in
     let three = or-false (bad_size s) (all_torn (as_sent s)) (n 1 (lit≤ tt)) in
     record {
-      formed = well_formed (reader w) s (accepted-formed (reader w) s e);
+      formed = well-formed (reader w) s (accepted-formed (reader w) s e);
       counted = n 0 (lit≤ tt);
       sized = three.0;
       pulled = three.1;

@@ -42,9 +42,9 @@ module _ (r : Reader) (s : List ℕ) where
   pub accepted-own : first (reader_reasons r s) ≡ 0 → first (r.own s) ≡ 0
   accepted-own e = sym (own-decides (accepted-formed e)) ∙ e
 
-  pub well_formed : formed_number r s ≡ 0 → WellFormed r s
+  pub well-formed : formed_number r s ≡ 0 → WellFormed r s
   unfolding length_reasons order_reasons form_reasons
-  well_formed e =
+  well-formed e =
       let n : NoneHolds (formed_reasons r s) = first-none (formed_reasons r s) refl e in
       record {
         whole = eqb-true (length s % 16) 0 (not-false (eqb (length s % 16) 0) (n 0 (lit≤ tt)));
