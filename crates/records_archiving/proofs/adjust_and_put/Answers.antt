@@ -28,8 +28,8 @@ short c = torn (blank c.before.before.before)
 abbrev run : goal.After-slice_known-7-1 → goal.After-kenward_roger_modcomp_data-late
 run c = c.before.before.before.before
 
-abbrev accepted : tie.After-put-series-arg2 → goal.Else-late-ne0
-accepted c = c.before.before.before.before.before.before
+abbrev accepted : goal.After-put_series-arg-1 → goal.Else-late-ne0
+accepted c = c.before.before.before.before.before
 
 abbrev put : goal.After-slice_known-8-1 → goal.After-put_series
 put c = c.before.before

@@ -19,7 +19,7 @@ returns-then-key-least c =
     let s = c.args.s.now in
     let i = c.loop-i.i in
     let e = fall-here s i c.key_at-key.result c.loop-i.least c.key_at-key.ensures.0 c.loop-i.invariant.2 (omega arith) in
-    sym (falls-each s (λ j. omega (arith, c.shared_slice_known-1.given j)) ∙ any-hit (count s) (falls_at s) i (omega arith) e)
+    sym (falls-each s (λ j. omega (arith, c.type_inv.s j)) ∙ any-hit (count s) (falls_at s) i (omega arith) e)
 
 pub loop-i-preserved : goal.loop-i-preserved
 loop-i-preserved c =
@@ -33,4 +33,4 @@ pub returns : goal.returns
 returns c =
     let s = c.args.s.now in
     let e : c.loop-i.i ≡ count s = omega arith in
-    sym (falls-each s (λ j. omega (arith, c.shared_slice_known-1.given j)) ∙ (rw (← e) c.loop-i.invariant.3))
+    sym (falls-each s (λ j. omega (arith, c.type_inv.s j)) ∙ (rw (← e) c.loop-i.invariant.3))

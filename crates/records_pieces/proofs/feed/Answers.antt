@@ -38,4 +38,4 @@ pub shape_of-current : goal.shape_of-current
 shape_of-current c = c.loop-i.invariant.3
 
 pub returns : goal.returns
-returns c = record { current_after = fed-all c.args.piece.now c.loop-i.i _ _ (omega arith) c.loop-i.invariant.4; by_index = λ j. omega (arith, c.shared_slice_known-1.given j) }
+returns c = record { current_after = fed-all c.args.piece.now c.loop-i.i _ _ (omega arith) c.loop-i.invariant.4; by_index = λ j. omega (arith, c.type_inv.piece j) }

@@ -33,7 +33,7 @@ loop-i-preserved c =
     let l = (turn c).loop-i in
     let s = start (turn c) in
     let same = s.requires.0 ∙ sym s.requires.1 in
-    (omega arith, worst-more s.args.values.now s.args.given.now l.i nan false l.w _ _ same (omega arith) l.inv.1 c.given_number-f.ensures c.worse-next.ensures)
+    (omega arith, worst-more s.args.values.now s.args.given.now l.i nan false l.w _ _ same (omega arith) l.invariant.1 c.given_number-f.ensures c.worse-next.ensures)
 
 pub returns : goal.returns
 returns c =
