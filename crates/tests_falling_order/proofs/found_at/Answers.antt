@@ -5,7 +5,7 @@ use borrow.Author.Rules.{rules}
 use Rattle.tests_falling_order.proofs.found_at.Goals as goal
 
 pub returns-then-place-k : goal.returns-then-place-k
-returns-then-place-k c = (rw (← c.is_place_in.ensures.0, eq-eqb _ _ c.if-place-k.true), omega arith)
+returns-then-place-k c = (rw (← c.place_in-place.ensures.0, eq-eqb _ _ c.if-place-k.true), omega arith)
 
 pub returns : goal.returns
-returns c = (rw (← c.is_place_in.ensures.0, ne_eqb _ _ c.if-place-k.false), omega arith)
+returns c = (rw (← c.place_in-place.ensures.0, ne_eqb _ _ c.if-place-k.false), omega arith)
