@@ -21,7 +21,7 @@ second-accepted c =
 
 pub refusal-first-requires : goal.refusal-first-requires
 unfolding of_bits
-refusal-first-requires c = ((refl, archive-sheet), (refl, archive-sheet))
+refusal-first-requires c = record { flags_value = (refl, archive-sheet); sheet_value = (refl, archive-sheet) }
 
 pub returns-then-first-ne0 : goal.returns-then-first-ne0
 returns-then-first-ne0 c =
@@ -30,7 +30,7 @@ returns-then-first-ne0 c =
 
 pub refusal-second-requires : goal.refusal-second-requires
 unfolding of_bits
-refusal-second-requires c = ((refl, tests-sheet), (refl, tests-sheet))
+refusal-second-requires c = record { flags_value = (refl, tests-sheet); sheet_value = (refl, tests-sheet) }
 
 pub returns-then-second-ne0 : goal.returns-then-second-ne0
 returns-then-second-ne0 c =

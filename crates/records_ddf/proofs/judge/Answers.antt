@@ -44,7 +44,7 @@ pub refusal-early-requires : goal.refusal-early-requires
 unfolding of_bits
 refusal-early-requires c =
     let h = slot-count 1 Test in
-    ((refl, omega arith), (refl, omega arith))
+    record { flags_value = (refl, omega arith); sheet_value = (refl, omega arith) }
 
 -- src/lib.rt:84:9
 pub returns-then-early-ne0 : goal.returns-then-early-ne0
@@ -62,7 +62,7 @@ test-e-requires c =
     let f = t.fit in
     let h = slot-count 1 Test in
     let e = ap length (sheet-at-hand d.before) ∙ length-sheet 256 (kinds d.args.s.now) d.args.s.now (count d.args.s.now) in
-    ((t.coefficients, t.contrasts, t.parameters), (c.first_slots-firsts.ensures, omega arith))
+    record { coefficients_bound = (t.coefficients, t.contrasts, t.parameters); firsts_value = (c.first_slots-firsts.ensures, omega arith) }
 
 -- src/lib.rt:92:9
 pub returns-then-refused : goal.returns-then-refused

@@ -38,7 +38,7 @@ take_byte-next-requires c =
     let part = l.invariant.8 in
     let same = l.invariant.6 in
     let room = s.requires.season_arrives.1 in
-    ((l.invariant.4 ∙ s.requires.values_len.0, l.invariant.5 ∙ s.requires.values_len.1), (l.invariant.7, omega arith))
+    record { values_len = (l.invariant.4 ∙ s.requires.values_len.0, l.invariant.5 ∙ s.requires.values_len.1); season_arrives = (l.invariant.7, omega arith) }
 
 pub loop-i-preserved : goal.loop-i-preserved
 loop-i-preserved c =

@@ -5,4 +5,4 @@ use borrow.Author.Rules.{rules}
 use Rattle.table_algebra.proofs.large_cases.multiplied.Goals as goal
 
 pub product-requires : goal.product-requires
-product-requires c = ((record { wide = omega arith; fits = omega arith }, record { wide = omega arith; fits = omega arith }, record { wide = omega arith; fits = omega arith }), (record { apart = inr (omega arith) }, record { apart = inl (omega arith) }))
+product-requires c = record { holds = (record { wide = omega arith; fits = omega arith }, record { wide = omega arith; fits = omega arith }, record { wide = omega arith; fits = omega arith }); apart = (record { apart = inr (omega arith) }, record { apart = inl (omega arith) }) }
