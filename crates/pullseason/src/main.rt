@@ -9,10 +9,13 @@ ghost use Rattle.records_arrived.specs.joints.ArrivedCall.{kept_length};
 use records::KEPT_LENGTH;
 use records_pieces::Arrival;
 use records_season::{LATEST_COUNT, PIECE_ROOM};
+use std::io::Read;
+use std::rt::Stdin;
 
 // The next piece of standard input: what is there of it, 4,096 bytes at most, so that nothing is waited for once a series is closed. Where there is nothing more it has ended. What a piece adds to the text is written at
 // once: 256 records are whole with such a piece, and a series' text has 462 bytes at most.
 fn next_piece(
+    mut input: Stdin,
     a: Arrival,
     kept: &mut [u8],
     current: &mut [u8],
@@ -26,8 +29,10 @@ fn next_piece(
     ensures { SeasonArrives (season_as result kept.new current.new values.new given.new) }
 {
     let mut piece = io::buffer();
-    let got = libc::read(0, &mut piece);
-    let n = io::count(got, &piece);
+    let n = match input.read(&mut piece) {
+        Ok(n) => n,
+        Err(_) => 0,
+    };
     *ended = n == 0;
     let mut written: usize = 0;
     let next = records_season::feed(
@@ -46,6 +51,7 @@ fn next_piece(
 
 // All of standard input. A proved loop has to end, and nothing says that an input does: so the loop counts its pieces down, from a number that no run uses up.
 fn read_all(
+    input: Stdin,
     kept: &mut [u8],
     current: &mut [u8],
     values: &mut [f64],
@@ -59,7 +65,7 @@ fn read_all(
     let mut ended = false;
     let mut pieces = u64::MAX;
     while pieces > 0 {
-        let next = next_piece(a, kept, current, values, given, out, &mut ended);
+        let next = next_piece(input, a, kept, current, values, given, out, &mut ended);
         if ended {
             return next;
         }
@@ -70,13 +76,20 @@ fn read_all(
 }
 
 // What is kept of the open series has room for every cell within the panel's limits, as in `pulltest`.
-fn main() {
+fn main(rt: HostRuntime) {
     let mut kept = [0u8; KEPT_LENGTH];
     let mut current = [0u8; 16];
     let mut values = [0.0; LATEST_COUNT];
     let mut given = [false; LATEST_COUNT];
     let mut out = [0u8; PIECE_ROOM];
-    let a = read_all(&mut kept, &mut current, &mut values, &mut given, &mut out);
+    let a = read_all(
+        rt.stdin(),
+        &mut kept,
+        &mut current,
+        &mut values,
+        &mut given,
+        &mut out,
+    );
     let m = records_season::end(a, &mut out, 0);
     io::write_all(1, &out[..m]);
 }
