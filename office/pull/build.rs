@@ -1,5 +1,5 @@
 //! Finds the panel's static library, libpanel.a: in the folder that PULL_LIB
-//! names, else where `rt staticlib panel` writes it in this repository.
+//! names, else where `.ci/staticlib` writes it in this repository.
 
 use std::env;
 use std::path::{Path, PathBuf};
@@ -15,7 +15,7 @@ fn main() {
     println!("cargo:rerun-if-changed={}", file.display());
     if !file.is_file() {
         stop(&format!(
-            "{} is not there. `rt staticlib panel`, run in the root of the repository, writes it \
+            "{} is not there. `.ci/staticlib`, run in the root of the repository, writes it \
              to target/staticlib; if it is elsewhere, set {VARIABLE} to its folder.",
             file.display()
         ));

@@ -76,7 +76,10 @@ impl Oracle {
 fn there() -> bool {
     let path = PULLSEASON.path();
     if !path.is_file() {
-        println!("seasons: {} is not there. `rt check pullseason` builds it.", path.display());
+        println!(
+            "seasons: {} is not there. `rt run` in crates/pullseason builds it.",
+            path.display()
+        );
     }
     path.is_file()
 }

@@ -3,8 +3,8 @@
 //! pieces are that its input arrives in; that it prints a series when it is closed; and
 //! that a change of converter leaves the verdict of each inside series.
 //!
-//! The program is target/bin/pullseason in the root of the repository (`rt check
-//! pullseason` writes it there), or the file that PULLSEASON names. What is expected is
+//! The program is crates/pullseason/out/pullseason in the root of the repository (`rt run`
+//! in crates/pullseason writes it there), or the file that PULLSEASON names. What is expected is
 //! printed by the independent reader, from the answers of the C function.
 
 use reader::order::rising;

@@ -2,8 +2,8 @@
 //! vectors, and of files longer than the piece that it reads at a time and
 //! than what it keeps, with a fall or an end anywhere.
 //!
-//! The program is target/bin/pulltest in the root of the repository (`rt check
-//! pulltest` writes it there), or the file that PULLTEST names.
+//! The program is crates/pulltest/out/pulltest in the root of the repository (`rt run`
+//! in crates/pulltest writes it there), or the file that PULLTEST names.
 
 use reader::tries::Call;
 use reader::{order, vectors};
@@ -16,7 +16,7 @@ const PIECE: usize = 4096;
 const KEPT: usize = 16_384;
 
 fn program() -> PathBuf {
-    let built = Path::new(env!("CARGO_MANIFEST_DIR")).join("../../target/bin/pulltest");
+    let built = Path::new(env!("CARGO_MANIFEST_DIR")).join("../../crates/pulltest/out/pulltest");
     std::env::var_os("PULLTEST").map_or(built, PathBuf::from)
 }
 
@@ -26,7 +26,7 @@ fn printed(file: &[u8], part: usize) -> String {
     let program = program();
     let mut run =
         Command::new(&program).stdin(Stdio::piped()).stdout(Stdio::piped()).spawn().unwrap_or_else(
-            |e| panic!("{}: {e}. `rt check pulltest` builds it.", program.display()),
+            |e| panic!("{}: {e}. `rt run` in crates/pulltest builds it.", program.display()),
         );
     let mut input = run.stdin.take().expect("a pipe");
     for bytes in file.chunks(part) {

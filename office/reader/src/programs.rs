@@ -4,8 +4,8 @@ use std::io::{Read, Write};
 use std::path::{Path, PathBuf};
 use std::process::{Child, Command, Stdio};
 
-/// A program: target/bin/NAME in the root of the repository (`rt check NAME` writes it
-/// there), or the file that its variable names.
+/// A program: crates/NAME/out/NAME in the root of the repository (`rt run` in crates/NAME,
+/// and the gate's `rt ci`, write it there), or the file that its variable names.
 #[derive(Debug, Clone, Copy)]
 pub struct Program {
     pub name: &'static str,
@@ -20,7 +20,11 @@ pub const PULLSEASON: Program = Program { name: "pullseason", variable: "PULLSEA
 
 impl Program {
     pub fn path(self) -> PathBuf {
-        let built = Path::new(env!("CARGO_MANIFEST_DIR")).join("../../target/bin").join(self.name);
+        let built = Path::new(env!("CARGO_MANIFEST_DIR"))
+            .join("../../crates")
+            .join(self.name)
+            .join("out")
+            .join(self.name);
         std::env::var_os(self.variable).map_or(built, PathBuf::from)
     }
 
@@ -29,7 +33,9 @@ impl Program {
     pub fn start(self, input: Stdio, output: Stdio) -> Child {
         let (path, name) = (self.path(), self.name);
         let run = Command::new(&path).stdin(input).stdout(output).spawn();
-        run.unwrap_or_else(|e| panic!("{}: {e}. `rt check {name}` builds it.", path.display()))
+        run.unwrap_or_else(|e| {
+            panic!("{}: {e}. `rt run` in crates/{name} builds it.", path.display())
+        })
     }
 
     /// What the program prints of an input that is written to it in these pieces, one
