@@ -1,4 +1,5 @@
 -- `records_archive_bytes::archived` meets its contract.
+use native.Mathlib.Omega.{arith}
 use borrow.Author.Tests.{ne_eqb}
 use Rattle.records.specs.readers.Archive.{archived}
 use borrow.Author.Rules.{rules}
@@ -34,4 +35,4 @@ returns-in-17 c = rw c.in-17.is
 
 pub returns-in_default : goal.returns-in_default
 unfolding archived
-returns-in_default c = rw (ne_eqb _ _ c.in-11.rest.0.0.0.0.0.0.1, ne_eqb _ _ c.in-11.rest.0.0.0.0.0.1, ne_eqb _ _ c.in-11.rest.0.0.0.0.1, ne_eqb _ _ c.in-11.rest.0.0.0.1, ne_eqb _ _ c.in-11.rest.0.0.1, ne_eqb _ _ c.in-11.rest.0.1, ne_eqb _ _ c.in-11.rest.1)
+returns-in_default c = rw (ne_eqb c.args.kind 11 (omega arith), ne_eqb c.args.kind 12 (omega arith), ne_eqb c.args.kind 13 (omega arith), ne_eqb c.args.kind 14 (omega arith), ne_eqb c.args.kind 15 (omega arith), ne_eqb c.args.kind 16 (omega arith), ne_eqb c.args.kind 17 (omega arith))

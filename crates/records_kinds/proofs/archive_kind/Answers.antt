@@ -1,4 +1,5 @@
 -- `records_kinds::archive_kind` meets its contract.
+use native.Mathlib.Omega.{arith}
 use borrow.Author.Tests.{ne_eqb}
 use Rattle.records.specs.format.Kinds.{kind_at, archive_kinds}
 use borrow.Author.Rules.{rules}
@@ -38,4 +39,4 @@ returns-in-18 c = rw c.in-18.is c.alone.ensures
 
 pub returns-in_default : goal.returns-in_default
 unfolding kind_at archive_kinds
-returns-in_default c = rw (ne_eqb _ _ c.in-11.rest.0.0.0.0.0.0.0.1, ne_eqb _ _ c.in-11.rest.0.0.0.0.0.0.1, ne_eqb _ _ c.in-11.rest.0.0.0.0.0.1, ne_eqb _ _ c.in-11.rest.0.0.0.0.1, ne_eqb _ _ c.in-11.rest.0.0.0.1, ne_eqb _ _ c.in-11.rest.0.0.1, ne_eqb _ _ c.in-11.rest.0.1, ne_eqb _ _ c.in-11.rest.1) c.unread.ensures
+returns-in_default c = rw (ne_eqb c.args.kind 11 (omega arith), ne_eqb c.args.kind 12 (omega arith), ne_eqb c.args.kind 13 (omega arith), ne_eqb c.args.kind 14 (omega arith), ne_eqb c.args.kind 15 (omega arith), ne_eqb c.args.kind 16 (omega arith), ne_eqb c.args.kind 17 (omega arith), ne_eqb c.args.kind 18 (omega arith)) c.unread.ensures

@@ -1,4 +1,5 @@
 -- `records_kinds::kenward_roger_kind` meets its contract.
+use native.Mathlib.Omega.{arith}
 use borrow.Author.Tests.{ne_eqb}
 use Rattle.records.specs.format.Kinds.{kind_at, kenward_roger_kinds}
 use borrow.Author.Rules.{rules}
@@ -46,4 +47,4 @@ returns-in-10 c = rw (c.in-10.is, ← c.given-in-10.ensures) c.by_row-in-10.ensu
 
 pub returns-in_default : goal.returns-in_default
 unfolding kind_at kenward_roger_kinds
-returns-in_default c = rw (ne_eqb _ _ c.in-1.rest.0.0.0.0.0.0.0.0.0.1, ne_eqb _ _ c.in-1.rest.0.0.0.0.0.0.0.0.1, ne_eqb _ _ c.in-1.rest.0.0.0.0.0.0.0.1, ne_eqb _ _ c.in-1.rest.0.0.0.0.0.0.1, ne_eqb _ _ c.in-1.rest.0.0.0.0.0.1, ne_eqb _ _ c.in-1.rest.0.0.0.0.1, ne_eqb _ _ c.in-1.rest.0.0.0.1, ne_eqb _ _ c.in-1.rest.0.0.1, ne_eqb _ _ c.in-1.rest.0.1, ne_eqb _ _ c.in-1.rest.1) c.unread.ensures
+returns-in_default c = rw (ne_eqb c.args.kind 1 (omega arith), ne_eqb c.args.kind 2 (omega arith), ne_eqb c.args.kind 3 (omega arith), ne_eqb c.args.kind 4 (omega arith), ne_eqb c.args.kind 5 (omega arith), ne_eqb c.args.kind 6 (omega arith), ne_eqb c.args.kind 7 (omega arith), ne_eqb c.args.kind 8 (omega arith), ne_eqb c.args.kind 9 (omega arith), ne_eqb c.args.kind 10 (omega arith)) c.unread.ensures

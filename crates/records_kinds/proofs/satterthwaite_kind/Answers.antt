@@ -1,4 +1,5 @@
 -- `records_kinds::satterthwaite_kind` meets its contract.
+use native.Mathlib.Omega.{arith}
 use borrow.Author.Tests.{ne_eqb}
 use Rattle.records.specs.format.Kinds.{kind_at, satterthwaite_kinds}
 use borrow.Author.Rules.{rules}
@@ -30,4 +31,4 @@ returns-in-32 c = rw c.in-32.is c.by_row_and_column-in-32.ensures
 
 pub returns-in_default : goal.returns-in_default
 unfolding kind_at satterthwaite_kinds
-returns-in_default c = rw (ne_eqb _ _ c.in-8.rest.0.0.0.0.0.1, ne_eqb _ _ c.in-8.rest.0.0.0.0.1, ne_eqb _ _ c.in-8.rest.0.0.0.1, ne_eqb _ _ c.in-8.rest.0.0.1, ne_eqb _ _ c.in-8.rest.0.1, ne_eqb _ _ c.in-8.rest.1) c.unread.ensures
+returns-in_default c = rw (ne_eqb c.args.kind 8 (omega arith), ne_eqb c.args.kind 9 (omega arith), ne_eqb c.args.kind 10 (omega arith), ne_eqb c.args.kind 30 (omega arith), ne_eqb c.args.kind 31 (omega arith), ne_eqb c.args.kind 32 (omega arith)) c.unread.ensures

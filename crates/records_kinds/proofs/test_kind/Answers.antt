@@ -1,4 +1,5 @@
 -- `records_kinds::test_kind` meets its contract.
+use native.Mathlib.Omega.{arith}
 use borrow.Author.Tests.{ne_eqb}
 use Rattle.records.specs.format.Kinds.{kind_at, test_kinds}
 use borrow.Author.Rules.{rules}
@@ -18,4 +19,4 @@ returns-in-10 c = rw (c.in-10.is, ← c.given.ensures) c.by_row-in-10.ensures
 
 pub returns-in_default : goal.returns-in_default
 unfolding kind_at test_kinds
-returns-in_default c = rw (ne_eqb _ _ c.in-8.rest.0.0.1, ne_eqb _ _ c.in-8.rest.0.1, ne_eqb _ _ c.in-8.rest.1) c.unread.ensures
+returns-in_default c = rw (ne_eqb c.args.kind 8 (omega arith), ne_eqb c.args.kind 9 (omega arith), ne_eqb c.args.kind 10 (omega arith)) c.unread.ensures
