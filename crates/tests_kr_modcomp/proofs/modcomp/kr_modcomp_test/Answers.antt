@@ -9,4 +9,4 @@ pub returns : goal.returns
 returns c =
     let r = rw c.seen_of-seen.ensures at c.kr_modcomp_full_rank.ensures in
     let e = contrast-is _ _ _ _ _ _ _ _ _ c.contrast_basis-basis.ensures.0 in
-    record { value = r.0 ∙ ap (λ (t : Tested). t.entry) e; zero_pivot_after = r.1 ∙ ap (λ (t : Tested). t.refused) e }
+    record { value = r.value ∙ ap (λ (t : Tested). t.entry) e; zero_pivot_after = r.zero_pivot_after ∙ ap (λ (t : Tested). t.refused) e }
