@@ -27,20 +27,20 @@ pub loop-i-preserved : goal.loop-i-preserved
 loop-i-preserved c =
     let g = c.args in
     let p = c.put_entry in
-    let k : length p.new.a ≡ length l.loop.a = p.auto.a in
-    let h : c.loop-i.i < length g.t2 = omega arith in (
+    let k : length p.new.a ≡ length c.loop-i.a = p.auto.a in
+    let h : c.loop-i.i < length g.es = omega arith in (
       omega arith,
       c.loop-i.invariant.1,
       c.loop-i.invariant.2,
       omega arith,
-      p.ensures ∙ ap (λ (a : List ℕ). sets a (24 * c.loop-i.i) (entry_bytes (get_or g.t2 c.loop-i.i past))) c.loop-i.invariant.4 ∙ store g.a.now g.t2 c.loop-i.i past h,
+      p.ensures ∙ ap (λ (a : List ℕ). sets a (24 * c.loop-i.i) (entry_bytes (get_or g.es c.loop-i.i past))) c.loop-i.invariant.4 ∙ store g.a.now g.es c.loop-i.i past h,
     )
 
 pub returns : goal.returns
 returns c =
     let g = c.args in
     let e : c.loop-i.i ≡ 7 = omega arith in
-    let x : length g.t2 ≡ 7 = c.loop-i.invariant.1 in
-    let all : take c.loop-i.i g.t2 ≡ g.t2 = take_all c.loop-i.i g.t2 (omega arith) in
-    let k : length (answer_bytes g.t2) ≡ length g.a.now = let y = length-answer g.t2 in let z = c.loop-i.invariant.2 in omega arith in
-    c.loop-i.invariant.4 ∙ ap (λ (es : List Entry). sets g.a.now 0 (answer_bytes es)) all ∙ sets-all g.a.now (answer_bytes g.t2) k
+    let x : length g.es ≡ 7 = c.loop-i.invariant.1 in
+    let all : take c.loop-i.i g.es ≡ g.es = take_all c.loop-i.i g.es (omega arith) in
+    let k : length (answer_bytes g.es) ≡ length g.a.now = let y = length-answer g.es in let z = c.loop-i.invariant.2 in omega arith in
+    c.loop-i.invariant.4 ∙ ap (λ (es : List Entry). sets g.a.now 0 (answer_bytes es)) all ∙ sets-all g.a.now (answer_bytes g.es) k

@@ -24,12 +24,12 @@ pub loop-i-preserved : goal.loop-i-preserved
 loop-i-preserved c =
     let g = c.args in
     let p = c.put_coefficient-next in
-    let h : c.loop-i.i < length g.t3 = omega arith in (
+    let h : c.loop-i.i < length g.es = omega arith in (
       omega arith,
       c.loop-i.invariant.1,
       c.loop-i.invariant.2,
       p.auto.out ∙ c.loop-i.invariant.3,
-      coefficients-more c.loop-i.i g.t3 h c.loop-i.invariant.4 p.ensures,
+      coefficients-more c.loop-i.i g.es h c.loop-i.invariant.4 p.ensures,
     )
 
 pub shape_of-out : goal.shape_of-out
@@ -39,4 +39,4 @@ pub returns : goal.returns
 returns c =
     let g = c.args in
     let six : c.loop-i.i ≡ 6 = omega arith in
-    named c.loop-i.invariant.4 (ap (λ (k : ℕ). coefficient_lines k g.t3) six) (omega arith)
+    named c.loop-i.invariant.4 (ap (λ (k : ℕ). coefficient_lines k g.es) six) (omega arith)

@@ -34,7 +34,7 @@ loop-k-preserved c =
     let p = c.put_kind-at in
     let g = c.args in
     let e : c.kind_at.result ≡ kind_at (archive_kinds (sizes_at g.p g.n)) c.loop-k.k = c.kind_at.ensures ∙ ap (λ (y : Sizes). kind_at (kinds_of Archived y) c.loop-k.k) c.loop-k.invariant.1 in
-    let k : length p.new.out ≡ length l.loop.out = p.auto.out in (
+    let k : length p.new.out ≡ length c.loop-k.out = p.auto.out in (
       omega arith,
       c.loop-k.invariant.1,
       omega arith,
@@ -44,4 +44,5 @@ loop-k-preserved c =
 pub returns : goal.returns
 returns c =
     let g = c.args in
-    front-all g.p g.n g.phi.now g.phi_a.now g.ps.now g.w.now g.sigma2 g.out.now c.loop-k.out c.loop-k.k c.loop-k.at (omega arith) c.loop-k.invariant.3
+    let both = front-all g.p g.n g.phi.now g.phi_a.now g.ps.now g.w.now g.sigma2 g.out.now c.loop-k.out c.loop-k.k c.loop-k.at (omega arith) c.loop-k.invariant.3 in
+    record { value = both.0; out_after = both.1 }

@@ -50,7 +50,7 @@ loop-n-preserved c =
     let p = c.put_sheet in
     let g = c.args in
     let a = archive_from 0 0 g.phi.now g.phi_a.now g.ps.now g.w.now g.sigma2 in
-    let k : length p.new.out ≡ length l.loop.out = p.auto.out in (
+    let k : length p.new.out ≡ length c.loop-n.out = p.auto.out in (
       omega arith,
       c.loop-n.invariant.1,
       c.loop-n.invariant.2,

@@ -24,7 +24,7 @@ loop-c-preserved c =
     let p = c.put_cell in
     let g = c.args in
     let a = archive_from 0 0 g.phi.now g.phi_a.now g.ps.now g.w.now g.sigma2 in
-    let k : length p.new.out ≡ length l.loop.out = p.auto.out in (
+    let k : length p.new.out ≡ length c.loop-c.out = p.auto.out in (
       omega arith,
       c.loop-c.invariant.1,
       omega arith,

@@ -20,4 +20,5 @@ pub returns : goal.returns
 returns c =
     let a = c.args in
     let j = c.judge-es.ensures in
-    filled-bytes _ (from_archive_number a.c a.archive.now a.tests.now) (answer_bytes (from_archive_entries a.c a.archive.now a.tests.now)) a.answer.now _ j.told_after c.if-told-ne0.false (c.put_answer.ensures ∙ ap answer_bytes j.value)
+    let both = filled-bytes _ (from_archive_number a.c a.archive.now a.tests.now) (answer_bytes (from_archive_entries a.c a.archive.now a.tests.now)) a.answer.now _ j.told_after c.if-told-ne0.false (c.put_answer.ensures ∙ ap answer_bytes j.value) in
+    record { value = both.0; answer_after = both.1 }

@@ -26,7 +26,8 @@ refusal-first-requires c = record { flags_value = (refl, archive-sheet); sheet_v
 pub returns-then-first-ne0 : goal.returns-then-first-ne0
 returns-then-first-ne0 c =
     let a = c.args in
-    archive-refuses a.c a.s.now a.t.now _ _ c.refusal-first.ensures.value c.if-first-ne0.true c.no_entry.ensures
+    let both = archive-refuses a.c a.s.now a.t.now _ _ c.refusal-first.ensures.value c.if-first-ne0.true c.no_entry.ensures in
+    record { value = both.0; told_after = both.1 }
 
 pub refusal-second-requires : goal.refusal-second-requires
 unfolding of_bits
@@ -35,7 +36,8 @@ refusal-second-requires c = record { flags_value = (refl, tests-sheet); sheet_va
 pub returns-then-second-ne0 : goal.returns-then-second-ne0
 returns-then-second-ne0 c =
     let a = c.args in
-    second-refuses a.c a.s.now a.t.now (archive-accepted c.before.before.before.before.before.before.before.before) _ _ _ (archive-p a.s.now _ c.archive_sizes-z.ensures) c.refusal-second.ensures.value c.if-second-ne0.true c.no_entry-then-second-ne0.ensures
+    let both = second-refuses a.c a.s.now a.t.now (archive-accepted c.before.before.before.before.before.before.before.before) _ _ _ (archive-p a.s.now _ c.archive_sizes-z.ensures) c.refusal-second.ensures.value c.if-second-ne0.true c.no_entry-then-second-ne0.ensures in
+    record { value = both.0; told_after = both.1 }
 
 pub tests_from-es-requires : goal.tests_from-es-requires
 tests_from-es-requires c =
@@ -48,4 +50,5 @@ pub returns : goal.returns
 returns c =
     let a = c.args in
     let e = c.tests_from-es.ensures in
-    tests-answer a.c a.s.now a.t.now (archive-accepted c.before.before.before.before.before.before.before.before.before.before.before.before.before) (second-accepted c.before.before.before.before.before.before) _ _ _ _ e.refused_after e.value c.answer_of.ensures.value c.answer_of.ensures.told_after
+    let both = tests-answer a.c a.s.now a.t.now (archive-accepted c.before.before.before.before.before.before.before.before.before.before.before.before.before) (second-accepted c.before.before.before.before.before.before) _ _ _ _ e.refused_after e.value c.answer_of.ensures.value c.answer_of.ensures.told_after in
+    record { value = both.0; told_after = both.1 }

@@ -14,11 +14,13 @@ use Rattle.records_archive_test.proofs.test.Goals as goal
 pub returns-then-answer-ne-ANSWER_LENGTH : goal.returns-then-answer-ne-ANSWER_LENGTH
 returns-then-answer-ne-ANSWER_LENGTH c =
     let a = c.args in
-    other_length (testing_call a.archive.now a.tests.now) built_in_table a.answer.now c.if-answer-ne-ANSWER_LENGTH.true
+    let both = other_length (testing_call a.archive.now a.tests.now) built_in_table a.answer.now c.if-answer-ne-ANSWER_LENGTH.true in
+    record { value = both.0; answer_after = both.1 }
 
 pub returns : goal.returns
 unfolding from_archive_number
 returns c =
     let a = c.args in
     let f = c.fill_tests.ensures in
-    own-answer (testing_call a.archive.now a.tests.now) built_in_table a.answer.now refl c.if-answer-ne-ANSWER_LENGTH.false built-in-accepted _ (c.document_cutoffs.ensures ∙ sym built-in-numbers) _ _ f.value f.answer_after
+    let both = own-answer (testing_call a.archive.now a.tests.now) built_in_table a.answer.now refl c.if-answer-ne-ANSWER_LENGTH.false built-in-accepted _ (c.document_cutoffs.ensures ∙ sym built-in-numbers) _ _ f.value f.answer_after in
+    record { value = both.0; answer_after = both.1 }

@@ -14,12 +14,14 @@ use Rattle.records_archive_test.proofs.test_with.Goals as goal
 pub returns-then-answer-ne-ANSWER_LENGTH : goal.returns-then-answer-ne-ANSWER_LENGTH
 returns-then-answer-ne-ANSWER_LENGTH c =
     let a = c.args in
-    other_length (testing_call a.archive.now a.tests.now) a.table.now a.answer.now c.if-answer-ne-ANSWER_LENGTH.true
+    let both = other_length (testing_call a.archive.now a.tests.now) a.table.now a.answer.now c.if-answer-ne-ANSWER_LENGTH.true in
+    record { value = both.0; answer_after = both.1 }
 
 pub returns-then-bad_table : goal.returns-then-bad_table
 returns-then-bad_table c =
     let a = c.args in
-    other-table (testing_call a.archive.now a.tests.now) a.table.now a.answer.now refl c.if-answer-ne-ANSWER_LENGTH.false (sym c.bad_table.ensures ∙ c.if-bad_table.true)
+    let both = other-table (testing_call a.archive.now a.tests.now) a.table.now a.answer.now refl c.if-answer-ne-ANSWER_LENGTH.false (sym c.bad_table.ensures ∙ c.if-bad_table.true) in
+    record { value = both.0; answer_after = both.1 }
 
 pub cutoffs_in-requires : goal.cutoffs_in-requires
 cutoffs_in-requires c = table-length c.args.table.now (sym c.bad_table.ensures ∙ c.if-bad_table.false)
@@ -29,4 +31,5 @@ unfolding from_archive_number
 returns c =
     let a = c.args in
     let f = c.fill_tests.ensures in
-    own-answer (testing_call a.archive.now a.tests.now) a.table.now a.answer.now refl c.if-answer-ne-ANSWER_LENGTH.false (sym c.bad_table.ensures ∙ c.if-bad_table.false) _ c.cutoffs_in.ensures _ _ f.value f.answer_after
+    let both = own-answer (testing_call a.archive.now a.tests.now) a.table.now a.answer.now refl c.if-answer-ne-ANSWER_LENGTH.false (sym c.bad_table.ensures ∙ c.if-bad_table.false) _ c.cutoffs_in.ensures _ _ f.value f.answer_after in
+    record { value = both.0; answer_after = both.1 }

@@ -72,7 +72,8 @@ returns-then-late-ne0 c =
     let r = run c.before in
     let b = start-of-run r.before in
     let a = b.args in
-    adjustment-refuses a.limit a.c a.s.now a.archive.now b.requires.series_read.0.taken _ r.kenward_roger_modcomp_data-late.ensures.number c.if-late-ne0.true
+    let both = adjustment-refuses a.limit a.c a.s.now a.archive.now b.requires.series_read.0.taken _ r.kenward_roger_modcomp_data-late.ensures.number c.if-late-ne0.true in
+    record { value = both.0; archive_after = both.1 }
 
 pub put_series-requires : goal.put_series-requires
 put_series-requires c =
@@ -91,4 +92,5 @@ returns c =
     let a = b.args in
     let z = sym r.kenward_roger_modcomp_data-late.ensures.number ∙ e.if-late-ne0.false in
     let q = p.put_series.ensures in
-    archives a.limit a.c a.s.now a.archive.now b.requires.series_read.0.taken _ _ z q.value q.archive_after
+    let both = archives a.limit a.c a.s.now a.archive.now b.requires.series_read.0.taken _ _ z q.value q.archive_after in
+    record { value = both.0; archive_after = both.1 }

@@ -9,11 +9,13 @@ use Rattle.records_archiving.proofs.archive.Goals as goal
 pub returns-then-lent-ne-ARCHIVE_LENGTH : goal.returns-then-lent-ne-ARCHIVE_LENGTH
 returns-then-lent-ne-ARCHIVE_LENGTH c =
     let a = c.args in
-    other-lent built_in_table a.records.now a.archive.now c.if-lent-ne-ARCHIVE_LENGTH.true
+    let both = other-lent built_in_table a.records.now a.archive.now c.if-lent-ne-ARCHIVE_LENGTH.true in
+    record { value = both.0; archive_after = both.1 }
 
 pub returns : goal.returns
 returns c =
     let a = c.args in
     let f = c.archive_panel.ensures in
     let cutoffs = c.document_cutoffs.ensures ∙ sym built-in-numbers in
-    own-call built_in_table a.records.now a.archive.now c.if-lent-ne-ARCHIVE_LENGTH.false built-in-accepted _ cutoffs _ _ f.value f.archive_after
+    let both = own-call built_in_table a.records.now a.archive.now c.if-lent-ne-ARCHIVE_LENGTH.false built-in-accepted _ cutoffs _ _ f.value f.archive_after in
+    record { value = both.0; archive_after = both.1 }

@@ -7,7 +7,8 @@ use Rattle.records_archiving.proofs.archive_series.Goals as goal
 pub returns-then-early-ne0 : goal.returns-then-early-ne0
 returns-then-early-ne0 c =
     let a = c.args in
-    reader-refuses a.limit a.c a.s.now a.archive.now _ c.refusal-early.ensures.value c.if-early-ne0.true
+    let both = reader-refuses a.limit a.c a.s.now a.archive.now _ c.refusal-early.ensures.value c.if-early-ne0.true in
+    record { value = both.0; archive_after = both.1 }
 
 pub adjust_and_put-requires : goal.adjust_and_put-requires
 adjust_and_put-requires c =

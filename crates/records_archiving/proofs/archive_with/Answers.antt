@@ -8,12 +8,14 @@ use Rattle.records_archiving.proofs.archive_with.Goals as goal
 pub returns-then-archive-ne-ARCHIVE_LENGTH : goal.returns-then-archive-ne-ARCHIVE_LENGTH
 returns-then-archive-ne-ARCHIVE_LENGTH c =
     let a = c.args in
-    other-lent a.table.now a.records.now a.archive.now c.if-archive-ne-ARCHIVE_LENGTH.true
+    let both = other-lent a.table.now a.records.now a.archive.now c.if-archive-ne-ARCHIVE_LENGTH.true in
+    record { value = both.0; archive_after = both.1 }
 
 pub returns-then-bad_table : goal.returns-then-bad_table
 returns-then-bad_table c =
     let a = c.args in
-    refused-table a.table.now a.records.now a.archive.now c.if-archive-ne-ARCHIVE_LENGTH.false (sym c.bad_table.ensures ∙ c.if-bad_table.true)
+    let both = refused-table a.table.now a.records.now a.archive.now c.if-archive-ne-ARCHIVE_LENGTH.false (sym c.bad_table.ensures ∙ c.if-bad_table.true) in
+    record { value = both.0; archive_after = both.1 }
 
 pub cutoffs_in-requires : goal.cutoffs_in-requires
 cutoffs_in-requires c = table-length (start c).args.table.now (sym c.bad_table.ensures ∙ c.if-bad_table.false)
@@ -23,4 +25,5 @@ returns c =
     let a = (start c).args in
     let f = c.archive_panel.ensures in
     let table = sym c.bad_table.ensures ∙ c.if-bad_table.false in
-    own-call a.table.now a.records.now a.archive.now c.if-archive-ne-ARCHIVE_LENGTH.false table _ c.cutoffs_in.ensures _ _ f.value f.archive_after
+    let both = own-call a.table.now a.records.now a.archive.now c.if-archive-ne-ARCHIVE_LENGTH.false table _ c.cutoffs_in.ensures _ _ f.value f.archive_after in
+    record { value = both.0; archive_after = both.1 }

@@ -14,11 +14,13 @@ use Rattle.records_ddf.proofs.call.Goals as goal
 pub returns-then-answer-ne-ENTRY_LENGTH : goal.returns-then-answer-ne-ENTRY_LENGTH
 returns-then-answer-ne-ENTRY_LENGTH c =
     let a = c.args in
-    other_length (test_call a.records.now) built_in_table a.answer.now c.if-answer-ne-ENTRY_LENGTH.true
+    let both = other_length (test_call a.records.now) built_in_table a.answer.now c.if-answer-ne-ENTRY_LENGTH.true in
+    record { value = both.0; answer_after = both.1 }
 
 pub returns : goal.returns
 unfolding number
 returns c =
     let a = c.args in
     let f = c.fill_entry.ensures in
-    own-answer (test_call a.records.now) built_in_table a.answer.now refl c.if-answer-ne-ENTRY_LENGTH.false built-in-accepted _ (c.document_cutoffs.ensures ∙ sym built-in-numbers) _ _ f.value f.answer_after
+    let both = own-answer (test_call a.records.now) built_in_table a.answer.now refl c.if-answer-ne-ENTRY_LENGTH.false built-in-accepted _ (c.document_cutoffs.ensures ∙ sym built-in-numbers) _ _ f.value f.answer_after in
+    record { value = both.0; answer_after = both.1 }

@@ -14,12 +14,14 @@ use Rattle.records_ddf.proofs.call_with.Goals as goal
 pub returns-then-answer-ne-ENTRY_LENGTH : goal.returns-then-answer-ne-ENTRY_LENGTH
 returns-then-answer-ne-ENTRY_LENGTH c =
     let a = c.args in
-    other_length (test_call a.records.now) a.table.now a.answer.now c.if-answer-ne-ENTRY_LENGTH.true
+    let both = other_length (test_call a.records.now) a.table.now a.answer.now c.if-answer-ne-ENTRY_LENGTH.true in
+    record { value = both.0; answer_after = both.1 }
 
 pub returns-then-bad_table : goal.returns-then-bad_table
 returns-then-bad_table c =
     let a = c.args in
-    other-table (test_call a.records.now) a.table.now a.answer.now refl c.if-answer-ne-ENTRY_LENGTH.false (sym c.bad_table.ensures ∙ c.if-bad_table.true)
+    let both = other-table (test_call a.records.now) a.table.now a.answer.now refl c.if-answer-ne-ENTRY_LENGTH.false (sym c.bad_table.ensures ∙ c.if-bad_table.true) in
+    record { value = both.0; answer_after = both.1 }
 
 pub cutoffs_in-requires : goal.cutoffs_in-requires
 cutoffs_in-requires c = table-length c.args.table.now (sym c.bad_table.ensures ∙ c.if-bad_table.false)
@@ -29,4 +31,5 @@ unfolding number
 returns c =
     let a = c.args in
     let f = c.fill_entry.ensures in
-    own-answer (test_call a.records.now) a.table.now a.answer.now refl c.if-answer-ne-ENTRY_LENGTH.false (sym c.bad_table.ensures ∙ c.if-bad_table.false) _ c.cutoffs_in.ensures _ _ f.value f.answer_after
+    let both = own-answer (test_call a.records.now) a.table.now a.answer.now refl c.if-answer-ne-ENTRY_LENGTH.false (sym c.bad_table.ensures ∙ c.if-bad_table.false) _ c.cutoffs_in.ensures _ _ f.value f.answer_after in
+    record { value = both.0; answer_after = both.1 }

@@ -21,4 +21,5 @@ pub returns : goal.returns
 returns c =
     let a = c.args in
     let j = c.judge-e.ensures in
-    filled-bytes _ (number a.c a.records.now) (entry_bytes (entry a.c a.records.now)) a.answer.now _ j.number_after c.if-number-ne0.false (c.put_entry.ensures ∙ entry-fills _ _ _ c.requires j.value)
+    let both = filled-bytes _ (number a.c a.records.now) (entry_bytes (entry a.c a.records.now)) a.answer.now _ j.number_after c.if-number-ne0.false (c.put_entry.ensures ∙ entry-fills _ _ _ c.requires j.value) in
+    record { value = both.0; answer_after = both.1 }

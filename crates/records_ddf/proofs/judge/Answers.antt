@@ -48,7 +48,9 @@ refusal-early-requires c =
 
 -- src/lib.rt:84:9
 pub returns-then-early-ne0 : goal.returns-then-early-ne0
-returns-then-early-ne0 c = judged-early _ _ _ _ c.refusal-early.ensures.value c.if-early-ne0.true c.no_entry.ensures
+returns-then-early-ne0 c =
+    let both = judged-early _ _ _ _ c.refusal-early.ensures.value c.if-early-ne0.true c.no_entry.ensures in
+    record { value = both.0; number_after = both.1 }
 
 -- src/lib.rt:87:18
 pub first_slots-firsts-requires : goal.first_slots-firsts-requires
@@ -68,10 +70,12 @@ test-e-requires c =
 pub returns-then-refused : goal.returns-then-refused
 returns-then-refused c =
     let o = outcome-at-hand c.before.before in
-    judged-late _ _ _ (accepted c.before.before.before.before.before.before.before.before) (sym (ap (λ (y : Outcome). y.refused) o) ∙ sym c.test-e.ensures.refused_after ∙ c.if-refused.true) c.no_entry-then-refused.ensures
+    let both = judged-late _ _ _ (accepted c.before.before.before.before.before.before.before.before) (sym (ap (λ (y : Outcome). y.refused) o) ∙ sym c.test-e.ensures.refused_after ∙ c.if-refused.true) c.no_entry-then-refused.ensures in
+    record { value = both.0; number_after = both.1 }
 
 -- src/lib.rt:75:1
 pub returns : goal.returns
 returns c =
     let o = outcome-at-hand c.before in
-    judged-taken _ _ _ (accepted c.before.before.before.before.before.before.before) (sym (ap (λ (y : Outcome). y.refused) o) ∙ sym c.test-e.ensures.refused_after ∙ c.if-refused.false) (c.test-e.ensures.value ∙ ap (λ (y : Outcome). y.entry) o)
+    let both = judged-taken _ _ _ (accepted c.before.before.before.before.before.before.before) (sym (ap (λ (y : Outcome). y.refused) o) ∙ sym c.test-e.ensures.refused_after ∙ c.if-refused.false) (c.test-e.ensures.value ∙ ap (λ (y : Outcome). y.entry) o) in
+    record { value = both.0; number_after = both.1 }

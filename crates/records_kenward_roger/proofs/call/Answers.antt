@@ -10,7 +10,8 @@ use Rattle.records_kenward_roger.proofs.call.Goals as goal
 pub returns-then-answer-ne-ANSWER_LENGTH : goal.returns-then-answer-ne-ANSWER_LENGTH
 returns-then-answer-ne-ANSWER_LENGTH c =
     let a = c.args in
-    other_length (series_call 24 a.records.now) built_in_table a.answer.now c.if-answer-ne-ANSWER_LENGTH.true
+    let both = other_length (series_call 24 a.records.now) built_in_table a.answer.now c.if-answer-ne-ANSWER_LENGTH.true in
+    record { value = both.0; answer_after = both.1 }
 
 pub returns : goal.returns
 unfolding number
@@ -18,4 +19,5 @@ returns c =
     let a = c.args in
     let f = c.fill_answer.ensures in
     let cutoffs = c.document_cutoffs.ensures ∙ sym built-in-numbers in
-    own-answer (series_call 24 a.records.now) built_in_table a.answer.now refl c.if-answer-ne-ANSWER_LENGTH.false built-in-accepted _ cutoffs _ _ f.value f.answer_after
+    let both = own-answer (series_call 24 a.records.now) built_in_table a.answer.now refl c.if-answer-ne-ANSWER_LENGTH.false built-in-accepted _ cutoffs _ _ f.value f.answer_after in
+    record { value = both.0; answer_after = both.1 }

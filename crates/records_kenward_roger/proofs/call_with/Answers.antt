@@ -9,12 +9,14 @@ use Rattle.records_kenward_roger.proofs.call_with.Goals as goal
 pub returns-then-answer-ne-ANSWER_LENGTH : goal.returns-then-answer-ne-ANSWER_LENGTH
 returns-then-answer-ne-ANSWER_LENGTH c =
     let a = c.args in
-    other_length (series_call 24 a.records.now) a.table.now a.answer.now c.if-answer-ne-ANSWER_LENGTH.true
+    let both = other_length (series_call 24 a.records.now) a.table.now a.answer.now c.if-answer-ne-ANSWER_LENGTH.true in
+    record { value = both.0; answer_after = both.1 }
 
 pub returns-then-bad_table : goal.returns-then-bad_table
 returns-then-bad_table c =
     let a = c.args in
-    other-table (series_call 24 a.records.now) a.table.now a.answer.now refl c.if-answer-ne-ANSWER_LENGTH.false (sym c.bad_table.ensures ∙ c.if-bad_table.true)
+    let both = other-table (series_call 24 a.records.now) a.table.now a.answer.now refl c.if-answer-ne-ANSWER_LENGTH.false (sym c.bad_table.ensures ∙ c.if-bad_table.true) in
+    record { value = both.0; answer_after = both.1 }
 
 pub cutoffs_in-requires : goal.cutoffs_in-requires
 cutoffs_in-requires c = table-length (start c).args.table.now (sym c.bad_table.ensures ∙ c.if-bad_table.false)
@@ -25,4 +27,5 @@ returns c =
     let a = (start c).args in
     let f = c.fill_answer.ensures in
     let table = sym c.bad_table.ensures ∙ c.if-bad_table.false in
-    own-answer (series_call 24 a.records.now) a.table.now a.answer.now refl c.if-answer-ne-ANSWER_LENGTH.false table _ c.cutoffs_in.ensures _ _ f.value f.answer_after
+    let both = own-answer (series_call 24 a.records.now) a.table.now a.answer.now refl c.if-answer-ne-ANSWER_LENGTH.false table _ c.cutoffs_in.ensures _ _ f.value f.answer_after in
+    record { value = both.0; answer_after = both.1 }

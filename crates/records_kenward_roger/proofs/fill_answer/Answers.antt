@@ -17,4 +17,5 @@ returns c =
     let a = c.args in
     let j = c.judge_panel-es.ensures in
     let filled = c.put_answer.ensures ∙ ap answer_bytes j.listed in
-    filled-bytes _ (number 24 a.c a.records.now) (answer_bytes (entries 24 a.c a.records.now)) a.answer.now _ j.told c.if-number-ne0.false filled
+    let both = filled-bytes _ (number 24 a.c a.records.now) (answer_bytes (entries 24 a.c a.records.now)) a.answer.now _ j.told c.if-number-ne0.false filled in
+    record { value = both.0; answer_after = both.1 }

@@ -57,4 +57,4 @@ pub returns : goal.returns
 returns c =
     let h = c.loop-i.invariant.1 in
     let e : c.loop-i.i ≡ c.args.n = omega arith in
-    rw (← e) ((h.number, h.few), h.rows)
+    record { value = rw (← e) (h.number, h.few); sheet_after = rw (← e) h.rows }
