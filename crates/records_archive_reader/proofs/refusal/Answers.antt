@@ -11,12 +11,6 @@ use borrow.Author.Rules.{rules}
 use Rattle.records_archive_reader.proofs.refusal.Goals as goal
 
 -- neither its length nor its order nor its form refuses the file
-sound : (c : goal.Else-formed-ne0) → formed_number reader c.args.s.now ≡ 0
-sound c = sym c.file_refusal-formed.ensures ∙ c.if-formed-ne0.false
-
--- so its sizes are small and its cells have room
-sizes-at-hand : (c : goal.After-archive_sizes-z) → FormedSizes Archived 1 c.args.s.now c.archive_sizes-z.result
-sizes-at-hand c = formed-sizes Archived 1 (omega arith) (omega arith) _ _ (sound c.before.before.before) c.archive_sizes-z.ensures
 
 pub file_refusal-formed-requires : goal.file_refusal-formed-requires
 file_refusal-formed-requires c =
@@ -28,26 +22,36 @@ unfolding refusal reasons
 returns-then-formed-ne0 c = record { value = form-refuses reader _ _ c.file_refusal-formed.ensures c.if-formed-ne0.true; sheet_after = λ e. absurd (c.if-formed-ne0.true e) }
 
 pub returns-then-any_not_finite : goal.returns-then-any_not_finite
-returns-then-any_not_finite c = record { value = value-refused _ (sound c.before.before) (sym c.any_not_finite.ensures ∙ c.if-any_not_finite.true); sheet_after = λ e. absurd (omega arith) }
+returns-then-any_not_finite c =
+    let sound : formed_number reader c.args.s.now ≡ 0 = sym c.file_refusal-formed.ensures ∙ c.if-formed-ne0.false in
+    record { value = value-refused _ sound (sym c.any_not_finite.ensures ∙ c.if-any_not_finite.true); sheet_after = λ e. absurd (omega arith) }
 
 pub first_slots-firsts-requires : goal.first_slots-firsts-requires
-first_slots-firsts-requires c = (sizes-at-hand c).small
+first_slots-firsts-requires c =
+    let sound : formed_number reader c.args.s.now ≡ 0 = sym c.file_refusal-formed.ensures ∙ c.if-formed-ne0.false in
+    let sizes-at-hand : FormedSizes Archived 1 c.args.s.now c.archive_sizes-z.result = formed-sizes Archived 1 (omega arith) (omega arith) _ _ sound c.archive_sizes-z.ensures in
+    sizes-at-hand.small
 
 pub fill_sheet-requires : goal.fill_sheet-requires
 fill_sheet-requires c =
-    let h = sizes-at-hand c.before.before.before in
+    let sound : formed_number reader c.args.s.now ≡ 0 = sym c.file_refusal-formed.ensures ∙ c.if-formed-ne0.false in
+    let sizes-at-hand : FormedSizes Archived 1 c.args.s.now c.archive_sizes-z.result = formed-sizes Archived 1 (omega arith) (omega arith) _ _ sound c.archive_sizes-z.ensures in
+    let h = sizes-at-hand in
     let p = c.requires in
     let f = h.fit in
     record { small = (h.small, c.first_slots-firsts.ensures, h.within); sheet_value = (p.sheet_value.0, omega arith) }
 
 pub numbers_refusal-requires : goal.numbers_refusal-requires
 numbers_refusal-requires c =
-    let h = sizes-at-hand c.before.before.before.before.before.before.before.before in
+    let sound : formed_number reader c.args.s.now ≡ 0 = sym c.file_refusal-formed.ensures ∙ c.if-formed-ne0.false in
+    let sizes-at-hand : FormedSizes Archived 1 c.args.s.now c.archive_sizes-z.result = formed-sizes Archived 1 (omega arith) (omega arith) _ _ sound c.archive_sizes-z.ensures in
+    let h = sizes-at-hand in
     (h.coefficients, h.parameters, c.first_slots-firsts.ensures, sheet-room _ _ _ _ h c.requires.sheet_value.1 c.fill_sheet.ensures)
 
 pub returns : goal.returns
 returns c =
+    let sound : formed_number reader c.args.s.now ≡ 0 = sym c.file_refusal-formed.ensures ∙ c.if-formed-ne0.false in
     let p = c.requires in
     let z = c.archive_sizes-z.ensures in
     let x = c.fill_sheet.ensures in
-    record { value = numbers-refused _ (sound c.before.before.before.before.before.before.before.before.before.before.before.before) (sym c.any_not_finite.ensures ∙ c.if-any_not_finite.false) _ _ _ _ p.sheet_value.1 z x c.numbers_refusal.ensures; sheet_after = λ _. sheet-from Archived _ _ _ _ z x }
+    record { value = numbers-refused _ sound (sym c.any_not_finite.ensures ∙ c.if-any_not_finite.false) _ _ _ _ p.sheet_value.1 z x c.numbers_refusal.ensures; sheet_after = λ _. sheet-from Archived _ _ _ _ z x }

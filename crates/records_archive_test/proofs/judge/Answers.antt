@@ -10,14 +10,6 @@ use borrow.Author.Rules.{rules}
 use Rattle.records_archive_test.proofs.judge.Goals as goal
 
 -- the archive's reader takes it
-archive-accepted : (c : goal.Else-first-ne0) → archive.refusal c.args.s.now ≡ 0
-archive-accepted c = sym c.refusal-first.ensures.value ∙ c.if-first-ne0.false
-
--- and the second file's takes that, for the archive's coefficients
-second-accepted : (c : goal.Else-second-ne0) → second.refusal (archive.coefficients c.args.s.now) c.args.t.now ≡ 0
-second-accepted c =
-    let a = c.args in
-    ap (λ (p : ℕ). second.refusal p a.t.now) (sym (archive-p a.s.now _ c.archive_sizes-z.ensures)) ∙ sym c.refusal-second.ensures.value ∙ c.if-second-ne0.false
 
 pub refusal-first-requires : goal.refusal-first-requires
 unfolding of_bits
@@ -35,20 +27,27 @@ refusal-second-requires c = record { flags_value = (refl, tests-sheet); sheet_va
 
 pub returns-then-second-ne0 : goal.returns-then-second-ne0
 returns-then-second-ne0 c =
+    let archive-accepted : archive.refusal c.args.s.now ≡ 0 = sym c.refusal-first.ensures.value ∙ c.if-first-ne0.false in
     let a = c.args in
-    let both = second-refuses a.c a.s.now a.t.now (archive-accepted c.before.before.before.before.before.before.before.before) _ _ _ (archive-p a.s.now _ c.archive_sizes-z.ensures) c.refusal-second.ensures.value c.if-second-ne0.true c.no_entry-then-second-ne0.ensures in
+    let both = second-refuses a.c a.s.now a.t.now archive-accepted _ _ _ (archive-p a.s.now _ c.archive_sizes-z.ensures) c.refusal-second.ensures.value c.if-second-ne0.true c.no_entry-then-second-ne0.ensures in
     record { value = both.0; told_after = both.1 }
 
 pub tests_from-es-requires : goal.tests_from-es-requires
 tests_from-es-requires c =
+    let archive-accepted : archive.refusal c.args.s.now ≡ 0 = sym c.refusal-first.ensures.value ∙ c.if-first-ne0.false in
+    let second-accepted : second.refusal (archive.coefficients c.args.s.now) c.args.t.now ≡ 0 = let a = c.args in
+    ap (λ (p : ℕ). second.refusal p a.t.now) (sym (archive-p a.s.now _ c.archive_sizes-z.ensures)) ∙ sym c.refusal-second.ensures.value ∙ c.if-second-ne0.false in
     let a = c.args in
     let e = c.refusal-first.ensures.sheet_after c.if-first-ne0.false in
     let f = c.refusal-second.ensures.sheet_after c.if-second-ne0.false in
-    (archive-taken a.s.now 512 _ archive-sheet (archive-accepted c.before.before.before.before.before.before.before.before.before.before) e, second-taken (archive.coefficients a.s.now) a.t.now 64 _ tests-sheet (second-accepted c.before.before.before) f)
+    (archive-taken a.s.now 512 _ archive-sheet archive-accepted e, second-taken (archive.coefficients a.s.now) a.t.now 64 _ tests-sheet second-accepted f)
 
 pub returns : goal.returns
 returns c =
+    let archive-accepted : archive.refusal c.args.s.now ≡ 0 = sym c.refusal-first.ensures.value ∙ c.if-first-ne0.false in
+    let second-accepted : second.refusal (archive.coefficients c.args.s.now) c.args.t.now ≡ 0 = let a = c.args in
+    ap (λ (p : ℕ). second.refusal p a.t.now) (sym (archive-p a.s.now _ c.archive_sizes-z.ensures)) ∙ sym c.refusal-second.ensures.value ∙ c.if-second-ne0.false in
     let a = c.args in
     let e = c.tests_from-es.ensures in
-    let both = tests-answer a.c a.s.now a.t.now (archive-accepted c.before.before.before.before.before.before.before.before.before.before.before.before.before) (second-accepted c.before.before.before.before.before.before) _ _ _ _ e.refused_after e.value c.answer_of.ensures.value c.answer_of.ensures.told_after in
+    let both = tests-answer a.c a.s.now a.t.now archive-accepted second-accepted _ _ _ _ e.refused_after e.value c.answer_of.ensures.value c.answer_of.ensures.told_after in
     record { value = both.0; told_after = both.1 }

@@ -12,69 +12,62 @@ use borrow.Author.Rules.{rules}
 use Rattle.records_archiving.proofs.put_series.Goals as goal
 
 -- ---- the stages of the code, each from the next that is named here: where a line is put in, one of these moves
-abbrev start : goal.After-blocks_of-blocks → goal.Start
-start c = c.before.before.before.before
 
-abbrev blocks : goal.After-cells_at-phi → goal.After-blocks_of-blocks
-blocks c = c.before.before.before.before
-
-abbrev cells : goal.After-put_archive → goal.After-cells_at-phi
-cells c = c.before.before.before.before
-
--- ---- what holds at them: the series that is lent
-abbrev lent : (c : goal.Start) → SeriesShort c.args.limit c.args.s.now c.args.z c.args.firsts.now c.args.sheet.now
-lent c = c.requires.series_short.0
-
--- the matrices P are few
 few-matrices : (b : goal.After-places_before-n) → b.places-before.result + 1 ≤ 4
-few-matrices b = matrices-few _ _ _ _ _ (lent (start b.before)) _ b.before.blocks-of.ensures.0 _ b.places-before.ensures
+few-matrices b =
+    let lent : SeriesShort c.args.limit c.args.s.now c.args.z c.args.firsts.now c.args.sheet.now = c.requires.series_short.0 in
+    matrices-few _ _ _ _ _ lent _ b.before.blocks-of.ensures.0 _ b.places-before.ensures
 
 pub blocks_of-blocks-requires : goal.blocks_of-blocks-requires
-blocks_of-blocks-requires c = few-blocks _ _ _ _ _ (lent c.before.before.before)
+blocks_of-blocks-requires c =
+    let lent : SeriesShort c.args.limit c.args.s.now c.args.z c.args.firsts.now c.args.sheet.now = c.requires.series_short.0 in
+    few-blocks _ _ _ _ _ lent
 
 pub places_before-n-requires : goal.places_before-n-requires
-places_before-n-requires c = lent-sound _ _ _ _ _ (lent (start c)) _ c.blocks_of-blocks.ensures.0
+places_before-n-requires c =
+    let lent : SeriesShort c.args.limit c.args.s.now c.args.z c.args.firsts.now c.args.sheet.now = c.requires.series_short.0 in
+    lent-sound _ _ _ _ _ lent _ c.blocks_of-blocks.ensures.0
 
 pub overflow_add-n : goal.overflow_add-n
 overflow_add-n c =
-    let h = matrices-few _ _ _ _ _ (lent (start c.before)) _ c.blocks_of-blocks.ensures.0 _ c.places_before-n.ensures in
+    let lent : SeriesShort c.args.limit c.args.s.now c.args.z c.args.firsts.now c.args.sheet.now = c.requires.series_short.0 in
+    let h = matrices-few _ _ _ _ _ lent _ c.blocks_of-blocks.ensures.0 _ c.places_before-n.ensures in
     omega arith
 
 pub cells_at-phi-requires : goal.cells_at-phi-requires
-cells_at-phi-requires c = let h = lent (start c.before.before.before) in let few = few-coefficients _ _ _ _ _ h in (few, few, phi-ends _ _ _ _ _ h)
+cells_at-phi-requires c =
+    let lent : SeriesShort c.args.limit c.args.s.now c.args.z c.args.firsts.now c.args.sheet.now = c.requires.series_short.0 in
+    let h = lent in let few = few-coefficients _ _ _ _ _ h in (few, few, phi-ends _ _ _ _ _ h)
 
 pub offset_bounds-sheet-variance : goal.offset_bounds-sheet-variance
 offset_bounds-sheet-variance c =
-    let x = start-within _ _ _ _ _ (lent (start (blocks c))) 7 (omega arith) in
+    let lent : SeriesShort c.args.limit c.args.s.now c.args.z c.args.firsts.now c.args.sheet.now = c.requires.series_short.0 in
+    let x = start-within _ _ _ _ _ lent 7 (omega arith) in
     let y = x.1 in
     omega arith
 
 pub bounds-sheet-variance : goal.bounds-sheet-variance
-bounds-sheet-variance c = sigma2-place _ _ _ _ _ (lent (start (blocks c.before)))
+bounds-sheet-variance c =
+    let lent : SeriesShort c.args.limit c.args.s.now c.args.z c.args.firsts.now c.args.sheet.now = c.requires.series_short.0 in
+    sigma2-place _ _ _ _ _ lent
 
 pub put_archive-requires : goal.put_archive-requires
 put_archive-requires c =
-    let d = c.before.before.before in
-    let b = blocks d in
-    let s = start b in
-    (few-coefficients _ _ _ _ _ (lent s), few-matrices d.before.before.before, omega (arith, s.requires.series_short.1))
+    let lent : SeriesShort c.args.limit c.args.s.now c.args.z c.args.firsts.now c.args.sheet.now = c.requires.series_short.0 in
+    (few-coefficients _ _ _ _ _ lent, few-matrices c.before, omega (arith, c.requires.series_short.1))
 
 pub told-requires : goal.told-requires
 told-requires c =
-    let p = c.before.before in
-    let d = cells p in
-    archive-short _ _ _ _ _ _ _ _ (few-coefficients _ _ _ _ _ (lent (start (blocks d)))) (few-matrices d.before.before.before) p.put_archive.ensures.value
+    let lent : SeriesShort c.args.limit c.args.s.now c.args.z c.args.firsts.now c.args.sheet.now = c.requires.series_short.0 in
+    archive-short _ _ _ _ _ _ _ _ (few-coefficients _ _ _ _ _ lent) (few-matrices c) c.put_archive.ensures.value
 
 pub returns : goal.returns
 returns c =
-    let p = c.before.before.before in
-    let d = cells p in
-    let b = blocks d in
-    let a = start b in
-    let h = lent a in
-    let q = p.put_archive.ensures in
-    let m = matrices-are _ _ _ _ _ h _ b.blocks_of-blocks.ensures.0 _ d.places_before-n.ensures in
-    let f = d.cells_at-phi.ensures ∙ phi-read _ _ _ _ _ h in
+    let lent : SeriesShort c.args.limit c.args.s.now c.args.z c.args.firsts.now c.args.sheet.now = c.requires.series_short.0 in
+    let h = lent in
+    let q = c.put_archive.ensures in
+    let m = matrices-are _ _ _ _ _ h _ c.blocks_of-blocks.ensures.0 _ c.places_before-n.ensures in
+    let f = c.cells_at-phi.ensures ∙ phi-read _ _ _ _ _ h in
     let v = sigma2-read _ _ _ _ _ h in
-    let e = series-archive-is a.args.c a.args.s.now _ _ _ _ _ _ _ (coefficients-read _ _ _ _ _ h) m f a.requires.phi_a_value.0 a.requires.phi_a_value.1 a.requires.phi_a_value.2 v in
-    record { value = c.told.ensures ∙ q.value ∙ ap (λ (x : Archive). length (archive_bytes x)) e; archive_after = q.out_after ∙ ap (λ (x : Archive). sets a.args.archive.now 0 (archive_bytes x)) e }
+    let e = series-archive-is c.args.c c.args.s.now _ _ _ _ _ _ _ (coefficients-read _ _ _ _ _ h) m f c.requires.phi_a_value.0 c.requires.phi_a_value.1 c.requires.phi_a_value.2 v in
+    record { value = c.told.ensures ∙ q.value ∙ ap (λ (x : Archive). length (archive_bytes x)) e; archive_after = q.out_after ∙ ap (λ (x : Archive). sets c.args.archive.now 0 (archive_bytes x)) e }

@@ -10,39 +10,35 @@ use Rattle.records.specs.declared.Shape.TheVariants.{Test}
 use Rattle.records_ddf.proofs.refusal.Goals as goal
 
 -- the file is not refused, so that its sizes are small and its cells have room
-accepted : (c : goal.Else-any_not_finite) → refusal c.args.s.now ≡ 0
-accepted c = sym (reader-accepts _ (sym c.file_refusal-formed.ensures ∙ c.if-formed-ne0.false) (sym c.any_not_finite.ensures ∙ c.if-any_not_finite.false))
 
-sizes-at-hand : (c : goal.After-parameter_sizes-z) → FormedSizes Test 1 c.args.s.now c.parameter_sizes-z.result
-sizes-at-hand c = accepted-sizes _ _ (accepted c.before) c.parameter_sizes-z.ensures
-
--- src/lib.rt:35:9
 pub file_refusal-formed-requires : goal.file_refusal-formed-requires
 file_refusal-formed-requires c =
     let p = c.requires in
     (omega arith, omega arith, p.flags_value.0, p.flags_value.1)
 
--- src/lib.rt:37:9
 pub returns-then-formed-ne0 : goal.returns-then-formed-ne0
 unfolding refusal reasons
 returns-then-formed-ne0 c = record { value = form-refuses reader _ _ c.file_refusal-formed.ensures c.if-formed-ne0.true; sheet_after = λ e. absurd (c.if-formed-ne0.true e) }
 
--- src/lib.rt:40:9
 pub returns-then-any_not_finite : goal.returns-then-any_not_finite
 returns-then-any_not_finite c = record { value = value-refused _ (sym c.file_refusal-formed.ensures ∙ c.if-formed-ne0.false) (sym c.any_not_finite.ensures ∙ c.if-any_not_finite.true); sheet_after = λ e. absurd (omega arith) }
 
--- src/lib.rt:43:18
 pub first_slots-firsts-requires : goal.first_slots-firsts-requires
-first_slots-firsts-requires c = (sizes-at-hand c).small
+first_slots-firsts-requires c =
+    let accepted : refusal c.args.s.now ≡ 0 = sym (reader-accepts _ (sym c.file_refusal-formed.ensures ∙ c.if-formed-ne0.false) (sym c.any_not_finite.ensures ∙ c.if-any_not_finite.false)) in
+    let sizes-at-hand : FormedSizes Test 1 c.args.s.now c.parameter_sizes-z.result = accepted-sizes _ _ accepted c.parameter_sizes-z.ensures in
+    sizes-at-hand.small
 
--- src/lib.rt:44:5
 pub fill_sheet-requires : goal.fill_sheet-requires
 fill_sheet-requires c =
-    let t = sizes-at-hand c.before.before.before in
+    let accepted : refusal c.args.s.now ≡ 0 = sym (reader-accepts _ (sym c.file_refusal-formed.ensures ∙ c.if-formed-ne0.false) (sym c.any_not_finite.ensures ∙ c.if-any_not_finite.false)) in
+    let sizes-at-hand : FormedSizes Test 1 c.args.s.now c.parameter_sizes-z.result = accepted-sizes _ _ accepted c.parameter_sizes-z.ensures in
+    let t = sizes-at-hand in
     let p = c.requires in
     let f = t.fit in
     record { small = (t.small, c.first_slots-firsts.ensures, t.within); sheet_value = (p.sheet_value.0, omega arith) }
 
--- src/lib.rt:29:1
 pub returns : goal.returns
-returns c = record { value = sym (accepted c.before.before.before.before.before.before.before); sheet_after = λ _. sheet-from Test _ _ _ _ c.parameter_sizes-z.ensures c.fill_sheet.ensures }
+returns c =
+    let accepted : refusal c.args.s.now ≡ 0 = sym (reader-accepts _ (sym c.file_refusal-formed.ensures ∙ c.if-formed-ne0.false) (sym c.any_not_finite.ensures ∙ c.if-any_not_finite.false)) in
+    record { value = sym accepted; sheet_after = λ _. sheet-from Test _ _ _ _ c.parameter_sizes-z.ensures c.fill_sheet.ensures }

@@ -6,34 +6,37 @@ use borrow.Author.Rules.{rules}
 use Rattle.records_ddf.proofs.test.Goals as goal
 
 -- the cells of each kind stand on the lent sheet
-placed : (c : goal.After-shared_slice_known-1) → OnSheet c.args.z c.args.firsts.now (length c.args.sheet.now)
-placed c = on-sheet _ _ c.requires.firsts_value.0 _ c.requires.firsts_value.1
 
--- src/lib.rt:65:9
 pub six_at-beta-requires : goal.six_at-beta-requires
-six_at-beta-requires c = let h = placed c.before.before.before.before.before.before in (omega arith, omega arith)
+six_at-beta-requires c =
+    let placed : OnSheet c.args.z c.args.firsts.now (length c.args.sheet.now) = on-sheet _ _ c.requires.firsts_value.0 _ c.requires.firsts_value.1 in
+    let h = placed in (omega arith, omega arith)
 
--- src/lib.rt:66:9
 pub cells_at-l-requires : goal.cells_at-l-requires
-cells_at-l-requires c = let h = placed c.before.before.before.before.before.before.before in (omega arith, omega arith, h.contrast)
+cells_at-l-requires c =
+    let placed : OnSheet c.args.z c.args.firsts.now (length c.args.sheet.now) = on-sheet _ _ c.requires.firsts_value.0 _ c.requires.firsts_value.1 in
+    let h = placed in (omega arith, omega arith, h.contrast)
 
--- src/lib.rt:67:9
 pub six_at-beta_h-requires : goal.six_at-beta_h-requires
-six_at-beta_h-requires c = let h = placed c.before.before.before.before.before.before.before.before.before in (omega arith, omega arith)
+six_at-beta_h-requires c =
+    let placed : OnSheet c.args.z c.args.firsts.now (length c.args.sheet.now) = on-sheet _ _ c.requires.firsts_value.0 _ c.requires.firsts_value.1 in
+    let h = placed in (omega arith, omega arith)
 
--- src/lib.rt:68:9
 pub cells_at-v-requires : goal.cells_at-v-requires
-cells_at-v-requires c = let h = placed c.before.before.before.before.before.before.before.before.before.before in (omega arith, omega arith, h.variance)
+cells_at-v-requires c =
+    let placed : OnSheet c.args.z c.args.firsts.now (length c.args.sheet.now) = on-sheet _ _ c.requires.firsts_value.0 _ c.requires.firsts_value.1 in
+    let h = placed in (omega arith, omega arith, h.variance)
 
--- src/lib.rt:69:9
 pub stack_at-js-requires : goal.stack_at-js-requires
-stack_at-js-requires c = let h = placed c.before.before.before.before.before.before.before.before.before.before.before in (omega arith, omega arith, h.jacobians)
+stack_at-js-requires c =
+    let placed : OnSheet c.args.z c.args.firsts.now (length c.args.sheet.now) = on-sheet _ _ c.requires.firsts_value.0 _ c.requires.firsts_value.1 in
+    let h = placed in (omega arith, omega arith, h.jacobians)
 
--- src/lib.rt:70:9
 pub cells_at-a-requires : goal.cells_at-a-requires
-cells_at-a-requires c = let h = placed c.before.before.before.before.before.before.before.before.before.before.before.before in (omega arith, omega arith, h.parameters)
+cells_at-a-requires c =
+    let placed : OnSheet c.args.z c.args.firsts.now (length c.args.sheet.now) = on-sheet _ _ c.requires.firsts_value.0 _ c.requires.firsts_value.1 in
+    let h = placed in (omega arith, omega arith, h.parameters)
 
--- src/lib.rt:49:1
 pub returns : goal.returns
 returns c =
     let a = c.args in

@@ -46,12 +46,6 @@ sound-of file w s z l bad far h1 h2 el eb fb ez ef ff =
       fit = subst (λ (y : Sizes). slot_count (kinds_of file y) ≤ slot_count (kinds_of file (limits w))) (sym ez) (sizes-fit file w h1 s g);
     }
 
-sound : (c : goal.Else-any_beyond) → Sound c.args.file c.args.w c.args.s.now c.sizes_of-z.result
-sound c =
-    let p = c.requires in
-    sound-of c.args.file c.args.w c.args.s.now _ _ _ _ p.0 p.1 c.limits.ensures c.any_bad.ensures c.if-any_bad.false c.sizes_of-z.ensures c.any_beyond.ensures c.if-any_beyond.false
-
--- what the flags say is missing is what the file misses
 absent : (file : Shape) (w : ℕ) (s : List ℕ) (z : Sizes) (r : Bool) (N : ℕ) (fs : List Bool) → Sound file w s z → slot_count (kinds_of file (limits w)) ≤ N → fs ≡ flags_after N (kinds_of file z) s (count s) → r ≡ any kind_numbers (missing_in (kinds_of file z) fs) → r ≡ any kind_numbers (missing (kinds_of file (sizes_of file s)) s)
 absent file w s z r N fs h l ef er =
     let f = h.fit in
@@ -74,49 +68,57 @@ returns-then-any_beyond c =
     cell-beyond (reader_of a.file a.w) a.s.now (ap (λ (z : Sizes). any (count a.s.now) (beyond (kinds_of a.file z) a.s.now)) (sym e) ∙ sym c.any_beyond.ensures ∙ c.if-any_beyond.true)
 
 pub first_slots-firsts-requires : goal.first_slots-firsts-requires
-first_slots-firsts-requires c = (sound c).small
+first_slots-firsts-requires c =
+    let sound : Sound c.args.file c.args.w c.args.s.now c.sizes_of-z.result = let p = c.requires in
+    sound-of c.args.file c.args.w c.args.s.now _ _ _ _ p.0 p.1 c.limits.ensures c.any_bad.ensures c.if-any_bad.false c.sizes_of-z.ensures c.any_beyond.ensures c.if-any_beyond.false in
+    sound.small
 
 pub mark_cells-requires : goal.mark_cells-requires
 mark_cells-requires c =
-    let d = c.before.before.before in
-    let h = sound d in
-    let p = d.requires in
+    let sound : Sound c.args.file c.args.w c.args.s.now c.sizes_of-z.result = let p = c.requires in
+    sound-of c.args.file c.args.w c.args.s.now _ _ _ _ p.0 p.1 c.limits.ensures c.any_bad.ensures c.if-any_bad.false c.sizes_of-z.ensures c.any_beyond.ensures c.if-any_beyond.false in
+    let h = sound in
+    let p = c.requires in
     let f = h.fit in
     record { small = (h.small, c.first_slots-firsts.ensures, h.within); flags_value = (p.2, omega arith) }
 
 pub returns-then-mark_cells : goal.returns-then-mark_cells
 returns-then-mark_cells c =
-    let d = c.before.before.before.before.before.before.before in
-    let h = sound d in
+    let sound : Sound c.args.file c.args.w c.args.s.now c.sizes_of-z.result = let p = c.requires in
+    sound-of c.args.file c.args.w c.args.s.now _ _ _ _ p.0 p.1 c.limits.ensures c.any_bad.ensures c.if-any_bad.false c.sizes_of-z.ensures c.any_beyond.ensures c.if-any_beyond.false in
+    let h = sound in
     let a = c.args in
     let e = h.sized in
     cell-again (reader_of a.file a.w) a.s.now (ap (λ (z : Sizes). any (count a.s.now) (again (kinds_of a.file z) a.s.now)) (sym e) ∙ sym c.mark_cells.ensures.value ∙ c.if-mark_cells.true)
 
 pub any_missing-requires : goal.any_missing-requires
 any_missing-requires c =
-    let d = c.before.before.before.before.before.before.before.before.before in
-    let h = sound d in
-    let p = d.requires in
-    let a = d.args in
+    let sound : Sound c.args.file c.args.w c.args.s.now c.sizes_of-z.result = let p = c.requires in
+    sound-of c.args.file c.args.w c.args.s.now _ _ _ _ p.0 p.1 c.limits.ensures c.any_bad.ensures c.if-any_bad.false c.sizes_of-z.ensures c.any_beyond.ensures c.if-any_beyond.false in
+    let h = sound in
+    let p = c.requires in
+    let a = c.args in
     let f = h.fit in
-    let e = ap length (c.mark_cells.ensures.flags_after c.if-mark_cells.false) ∙ length-flags (length a.flags.now) (kinds_of a.file d.sizes_of-z.result) a.s.now (count a.s.now) in
+    let e = ap length (c.mark_cells.ensures.flags_after c.if-mark_cells.false) ∙ length-flags (length a.flags.now) (kinds_of a.file c.sizes_of-z.result) a.s.now (count a.s.now) in
     (h.small, c.first_slots-firsts.ensures, omega arith)
 
 pub returns-then-any_missing : goal.returns-then-any_missing
 returns-then-any_missing c =
-    let d = c.before.before.before.before.before.before.before.before.before.before.before in
-    let h = sound d in
-    let a = d.args in
-    let p = d.requires in
+    let sound : Sound c.args.file c.args.w c.args.s.now c.sizes_of-z.result = let p = c.requires in
+    sound-of c.args.file c.args.w c.args.s.now _ _ _ _ p.0 p.1 c.limits.ensures c.any_bad.ensures c.if-any_bad.false c.sizes_of-z.ensures c.any_beyond.ensures c.if-any_beyond.false in
+    let h = sound in
+    let a = c.args in
+    let p = c.requires in
     let m = absent a.file a.w a.s.now _ _ (length a.flags.now) _ h p.3 (c.mark_cells.ensures.flags_after c.if-mark_cells.false) c.any_missing.ensures in
     cell-missing (reader_of a.file a.w) a.s.now (sym m ∙ c.if-any_missing.true)
 
 pub returns : goal.returns
 returns c =
-    let d = c.before.before.before.before.before.before.before.before.before.before.before in
-    let h = sound d in
-    let a = d.args in
-    let p = d.requires in
+    let sound : Sound c.args.file c.args.w c.args.s.now c.sizes_of-z.result = let p = c.requires in
+    sound-of c.args.file c.args.w c.args.s.now _ _ _ _ p.0 p.1 c.limits.ensures c.any_bad.ensures c.if-any_bad.false c.sizes_of-z.ensures c.any_beyond.ensures c.if-any_beyond.false in
+    let h = sound in
+    let a = c.args in
+    let p = c.requires in
     let m = absent a.file a.w a.s.now _ _ (length a.flags.now) _ h p.3 (c.mark_cells.ensures.flags_after c.if-mark_cells.false) c.any_missing.ensures in
     let e = h.sized in
     none-holds (reader_of a.file a.w) a.s.now h.good

@@ -12,13 +12,6 @@ use Rattle.records_limits.proofs.any_beyond.Goals as goal
 use Rattle.records_limits.proofs.any_beyond.Goals.{then-kind-last, else-kind-last}
 
 -- what the loop keeps is what the table says of record i's kind
-known-kind : (c : goal.Joined-kind-last)
-    → let a = c.args in Known (kinds_of a.file a.z) (kind_of a.s.now c.loop-i.i) c.if-kind-last.last c.if-kind-last.k
-known-kind c =
-    elim c.if-kind-last.branch [
-      | then-kind-last w ↦ asked _ _ _ _ _ _ c.kind_of-kind.ensures w.kind_at-k-then-kind-last.ensures w.last-is w.k-is
-      | else-kind-last w ↦ same_kind _ _ _ _ _ _ _ c.kind_of-kind.ensures w.if-kind-last.false c.loop-i.invariant.2 w.last-is w.k-is
-    ]
 
 pub kind_at-k-requires : goal.kind_at-k-requires
 kind_at-k-requires c = tt
@@ -32,16 +25,25 @@ kind_at-k-requires-then-kind-last c = tt
 
 pub returns-then-out_of : goal.returns-then-out_of
 unfolding beyond
-returns-then-out_of c = sym (any-hit _ _ c.loop-i.i (omega arith) (rw (← (known-kind c.before.before).known) (sym c.out_of.ensures ∙ c.if-out_of.true)))
+returns-then-out_of c =
+    let known-kind : let a = c.args in Known (kinds_of a.file a.z) (kind_of a.s.now c.loop-i.i) c.if-kind-last.last c.if-kind-last.k = elim c.if-kind-last.branch [
+      | then-kind-last w ↦ asked _ _ _ _ _ _ c.kind_of-kind.ensures w.kind_at-k-then-kind-last.ensures w.last-is w.k-is
+      | else-kind-last w ↦ same_kind _ _ _ _ _ _ _ c.kind_of-kind.ensures w.if-kind-last.false c.loop-i.invariant.2 w.last-is w.k-is
+    ] in
+    sym (any-hit _ _ c.loop-i.i (omega arith) (rw (← known-kind.known) (sym c.out_of.ensures ∙ c.if-out_of.true)))
 
 pub loop-i-preserved : goal.loop-i-preserved
 unfolding beyond
-loop-i-preserved c = (
-  refl,
-  omega arith,
-  kept-kind _ _ _ _ (known-kind c.before.before),
-  any-miss _ _ c.loop-i.invariant.3 (rw (← (known-kind c.before.before).known) (sym c.out_of.ensures ∙ c.if-out_of.false)),
-)
+loop-i-preserved c =
+    let known-kind : let a = c.args in Known (kinds_of a.file a.z) (kind_of a.s.now c.loop-i.i) c.if-kind-last.last c.if-kind-last.k = elim c.if-kind-last.branch [
+      | then-kind-last w ↦ asked _ _ _ _ _ _ c.kind_of-kind.ensures w.kind_at-k-then-kind-last.ensures w.last-is w.k-is
+      | else-kind-last w ↦ same_kind _ _ _ _ _ _ _ c.kind_of-kind.ensures w.if-kind-last.false c.loop-i.invariant.2 w.last-is w.k-is
+    ] in (
+      refl,
+      omega arith,
+      kept-kind _ _ _ _ known-kind,
+      any-miss _ _ c.loop-i.invariant.3 (rw (← known-kind.known) (sym c.out_of.ensures ∙ c.if-out_of.false)),
+    )
 
 pub returns : goal.returns
 returns c = let e : c.loop-i.i ≡ count c.args.s.now = omega arith in cc

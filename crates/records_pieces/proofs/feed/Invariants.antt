@@ -8,7 +8,7 @@ use Rattle.records_pieces.proofs.PieceLaws.{fed-none, fed-more, fed-all, byte-op
 use Rattle.records_pieces.proofs.feed.Given as goal
 
 abbrev pub invariant-loop-i : goal.invariant-loop-i
-invariant-loop-i l = (l.i_end ≡ length l.piece) × (l.i ≤ l.i_end) × (length l.kept ≡ length l.initial.kept) × (length l.current ≡ length l.initial.current) × (arrived_as l.so_far l.kept l.current ≡ fed (take l.i l.piece) (arrived_as l.initial.so_far l.initial.kept l.initial.current)) × Open (arrived_as l.so_far l.kept l.current)
+invariant-loop-i l = (l.i-end ≡ length l.piece) × (l.i ≤ l.i-end) × (length l.kept ≡ length l.initial.kept) × (length l.current ≡ length l.initial.current) × (arrived_as l.so_far l.kept l.current ≡ fed (take l.i l.piece) (arrived_as l.initial.so_far l.initial.kept l.initial.current)) × Open (arrived_as l.so_far l.kept l.current)
 
 abbrev pub decreases-loop-i : goal.decreases-loop-i
-decreases-loop-i l = l.i_end - l.i
+decreases-loop-i l = l.i-end - l.i

@@ -12,11 +12,6 @@ use Rattle.records_season.proofs.WindowCode.{window-length, worst-more}
 use Rattle.records_season.proofs.worst_of.Goals as goal
 
 -- ---- the stages of the code, each from the next that is named here: where a line is put in, one of these moves
-abbrev start : goal.At-loop-i → goal.Start
-start c = c.before.before.before
-
-abbrev turn : goal.After-worse-next → goal.At-loop-i
-turn c = c.before.before.before.before.before
 
 pub loop-i-init : goal.loop-i-init
 unfolding worst_after
@@ -30,14 +25,12 @@ worse-next-requires c = tt
 
 pub loop-i-preserved : goal.loop-i-preserved
 loop-i-preserved c =
-    let l = (turn c).loop-i in
-    let s = start (turn c) in
-    let same = s.requires.0 ∙ sym s.requires.1 in
-    (omega arith, worst-more s.args.values.now s.args.given.now l.i nan false l.w _ _ same (omega arith) l.invariant.1 c.given_number-f.ensures c.worse-next.ensures)
+    let l = c.loop-i in
+    let same = c.requires.0 ∙ sym c.requires.1 in
+    (omega arith, worst-more c.args.values.now c.args.given.now l.i nan false l.w _ _ same (omega arith) l.invariant.1 c.given_number-f.ensures c.worse-next.ensures)
 
 pub returns : goal.returns
 returns c =
     let l = c.loop-i in
-    let s = start c.before in
-    let n = window-length s.args.values.now s.args.given.now (s.requires.0 ∙ sym s.requires.1) in
-    l.invariant.1 ∙ ap worst (take_all l.i (window_of s.args.values.now s.args.given.now) (omega arith))
+    let n = window-length c.args.values.now c.args.given.now (c.requires.0 ∙ sym c.requires.1) in
+    l.invariant.1 ∙ ap worst (take_all l.i (window_of c.args.values.now c.args.given.now) (omega arith))

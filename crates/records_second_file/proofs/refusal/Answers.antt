@@ -10,8 +10,6 @@ use borrow.Author.Rules.{rules}
 use Rattle.records_second_file.proofs.refusal.Goals as goal
 
 -- the file is formed, so that its sizes are small and its cells have room
-formed : (c : goal.Else-any_not_finite) → FormedSizes Second 1 c.args.t.now c.second_sizes-z.result
-formed c = formed-sizes Second 1 (omega arith) (omega arith) _ _ (sym c.file_refusal-formed.ensures ∙ c.if-formed-ne0.false) c.second_sizes-z.ensures
 
 pub file_refusal-formed-requires : goal.file_refusal-formed-requires
 file_refusal-formed-requires c =
@@ -29,25 +27,30 @@ pub returns-then-any_not_finite : goal.returns-then-any_not_finite
 returns-then-any_not_finite c = record { value = value-refused _ _ (sym c.file_refusal-formed.ensures ∙ c.if-formed-ne0.false) (same-coefficients _ _ c.second_sizes-z.ensures ∙ c.if-z-p.false) (sym c.any_not_finite.ensures ∙ c.if-any_not_finite.true); sheet_after = λ e. absurd (omega arith) }
 
 pub first_slots-firsts-requires : goal.first_slots-firsts-requires
-first_slots-firsts-requires c = (formed c).small
+first_slots-firsts-requires c =
+    let formed : FormedSizes Second 1 c.args.t.now c.second_sizes-z.result = formed-sizes Second 1 (omega arith) (omega arith) _ _ (sym c.file_refusal-formed.ensures ∙ c.if-formed-ne0.false) c.second_sizes-z.ensures in
+    formed.small
 
 pub fill_sheet-requires : goal.fill_sheet-requires
 fill_sheet-requires c =
-    let h = formed c.before.before.before in
+    let formed : FormedSizes Second 1 c.args.t.now c.second_sizes-z.result = formed-sizes Second 1 (omega arith) (omega arith) _ _ (sym c.file_refusal-formed.ensures ∙ c.if-formed-ne0.false) c.second_sizes-z.ensures in
+    let h = formed in
     let p = c.requires in
     let f = h.fit in
     record { small = (h.small, c.first_slots-firsts.ensures, h.within); sheet_value = (p.sheet_value.0, omega arith) }
 
 pub zero_contrast-requires : goal.zero_contrast-requires
 zero_contrast-requires c =
-    let h = formed c.before.before.before.before.before.before.before in
+    let formed : FormedSizes Second 1 c.args.t.now c.second_sizes-z.result = formed-sizes Second 1 (omega arith) (omega arith) _ _ (sym c.file_refusal-formed.ensures ∙ c.if-formed-ne0.false) c.second_sizes-z.ensures in
+    let h = formed in
     let p = c.requires in
     let f = h.fit in
     (h.small, contrast-fits _ _ _ c.first_slots-firsts.ensures (omega arith))
 
 pub returns-then-zero_contrast : goal.returns-then-zero_contrast
 returns-then-zero_contrast c =
-    let h = formed c.before.before.before.before.before.before.before.before.before in
+    let formed : FormedSizes Second 1 c.args.t.now c.second_sizes-z.result = formed-sizes Second 1 (omega arith) (omega arith) _ _ (sym c.file_refusal-formed.ensures ∙ c.if-formed-ne0.false) c.second_sizes-z.ensures in
+    let h = formed in
     let f = h.fit in
     let p = c.requires in
     let x = zero-read _ _ _ _ _ c.second_sizes-z.ensures c.first_slots-firsts.ensures h.within (omega arith) c.fill_sheet.ensures in
@@ -55,7 +58,8 @@ returns-then-zero_contrast c =
 
 pub returns : goal.returns
 returns c =
-    let h = formed c.before.before.before.before.before.before.before.before.before in
+    let formed : FormedSizes Second 1 c.args.t.now c.second_sizes-z.result = formed-sizes Second 1 (omega arith) (omega arith) _ _ (sym c.file_refusal-formed.ensures ∙ c.if-formed-ne0.false) c.second_sizes-z.ensures in
+    let h = formed in
     let f = h.fit in
     let p = c.requires in
     let x = zero-read _ _ _ _ _ c.second_sizes-z.ensures c.first_slots-firsts.ensures h.within (omega arith) c.fill_sheet.ensures in

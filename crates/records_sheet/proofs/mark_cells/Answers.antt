@@ -17,34 +17,6 @@ use Rattle.records_sheet.proofs.mark_cells.Goals as goal
 use Rattle.records_sheet.proofs.mark_cells.Goals.{then-kind-last, else-kind-last}
 
 -- what the loop keeps is what the table says of record i's kind
-known-kind : (c : goal.Joined-kind-last)
-    → let a = c.args in Known (kinds_of a.file a.z) (kind_of a.s.now c.loop-i.i) c.if-kind-last.last c.if-kind-last.k
-known-kind c =
-    elim c.if-kind-last.branch [
-      | then-kind-last w ↦ asked _ _ _ _ _ _ c.kind_of-kind.ensures w.kind_at-k-then-kind-last.ensures w.last-is w.k-is
-      | else-kind-last w ↦ same_kind _ _ _ _ _ _ _ c.kind_of-kind.ensures w.if-kind-last.false c.loop-i.invariant.2 w.last-is w.k-is
-    ]
-
--- what the loop has when it asks for record i's slot
-at-record : (c : goal.Joined-kind-last)
-    → let a = c.args in AtRecord a.file a.z a.firsts.now a.s.now c.loop-i.i c.kind_of-kind.result c.if-kind-last.last c.if-kind-last.k
-at-record c =
-    let p = c.requires.small in
-    record { small = p.0; firsts = p.1; sized = any_none _ _ c.loop-i.i (omega arith) p.2; read = c.kind_of-kind.ensures; table = known-kind c }
-
--- what it is answered is that slot
-at_slot : (c : goal.After-slot_at-at)
-    → let a = c.args in c.slot_at-at.result ≡ slot_of (kinds_of a.file a.z) a.s.now c.loop-i.i
-at_slot c = c.slot_at-at.ensures ∙ slot-known (at-record c.before.before)
-
--- record i's flag before it is set says whether an earlier record names its cell
-was-named : (c : goal.After-slot_at-at)
-    → let a = c.args in let x = c.loop-i in again (kinds_of a.file a.z) a.s.now x.i ≡ get_or x.flags c.slot_at-at.result false
-was-named c =
-    let d = c.before.before.before.before.before.before.before.before.before in
-    let a = d.args in
-    sym (flag-again a.file a.z a.s.now d.requires.small.2 (length a.flags.now) d.requires.flags_value.1 c.loop-i.i false (omega arith))
-    ∙ sym (ap₂ (λ (fs : List Bool) (j : ℕ). get_or fs j false) c.loop-i.invariant.3 (at_slot c))
 
 pub kind_at-k-requires : goal.kind_at-k-requires
 kind_at-k-requires c = tt
@@ -52,35 +24,67 @@ kind_at-k-requires c = tt
 pub loop-i-init : goal.loop-i-init
 unfolding any
 loop-i-init c =
-    let d = c.before.before.before in
-    (refl, omega arith, c.kind_at-k.ensures, flags-start (length d.args.flags.now) (kinds_of d.args.file d.args.z) d.args.s.now _ d.requires.flags_value.0, refl)
+    (refl, omega arith, c.kind_at-k.ensures, flags-start (length c.args.flags.now) (kinds_of c.args.file c.args.z) c.args.s.now _ c.requires.flags_value.0, refl)
 
 pub kind_at-k-requires-then-kind-last : goal.kind_at-k-requires-then-kind-last
 kind_at-k-requires-then-kind-last c = tt
 
 pub overflow_cast-kind : goal.overflow_cast-kind
-overflow_cast-kind c = let l = kind-placed (at-record c) in omega arith
+overflow_cast-kind c =
+    let known-kind : let a = c.args in Known (kinds_of a.file a.z) (kind_of a.s.now c.loop-i.i) c.if-kind-last.last c.if-kind-last.k = elim c.if-kind-last.branch [
+      | then-kind-last w ↦ asked _ _ _ _ _ _ c.kind_of-kind.ensures w.kind_at-k-then-kind-last.ensures w.last-is w.k-is
+      | else-kind-last w ↦ same_kind _ _ _ _ _ _ _ c.kind_of-kind.ensures w.if-kind-last.false c.loop-i.invariant.2 w.last-is w.k-is
+    ] in
+    let at-record : let a = c.args in AtRecord a.file a.z a.firsts.now a.s.now c.loop-i.i c.kind_of-kind.result c.if-kind-last.last c.if-kind-last.k = let p = c.requires.small in
+    record { small = p.0; firsts = p.1; sized = any_none _ _ c.loop-i.i (omega arith) p.2; read = c.kind_of-kind.ensures; table = known-kind } in
+    let l = kind-placed at-record in omega arith
 
 pub offset_bounds-firsts-kind : goal.offset_bounds-firsts-kind
-offset_bounds-firsts-kind c = let l = kind-placed (at-record c) in omega arith
+offset_bounds-firsts-kind c =
+    let known-kind : let a = c.args in Known (kinds_of a.file a.z) (kind_of a.s.now c.loop-i.i) c.if-kind-last.last c.if-kind-last.k = elim c.if-kind-last.branch [
+      | then-kind-last w ↦ asked _ _ _ _ _ _ c.kind_of-kind.ensures w.kind_at-k-then-kind-last.ensures w.last-is w.k-is
+      | else-kind-last w ↦ same_kind _ _ _ _ _ _ _ c.kind_of-kind.ensures w.if-kind-last.false c.loop-i.invariant.2 w.last-is w.k-is
+    ] in
+    let at-record : let a = c.args in AtRecord a.file a.z a.firsts.now a.s.now c.loop-i.i c.kind_of-kind.result c.if-kind-last.last c.if-kind-last.k = let p = c.requires.small in
+    record { small = p.0; firsts = p.1; sized = any_none _ _ c.loop-i.i (omega arith) p.2; read = c.kind_of-kind.ensures; table = known-kind } in
+    let l = kind-placed at-record in omega arith
 
 pub bounds-firsts-kind : goal.bounds-firsts-kind
-bounds-firsts-kind c = kind-placed (at-record c)
+bounds-firsts-kind c =
+    let known-kind : let a = c.args in Known (kinds_of a.file a.z) (kind_of a.s.now c.loop-i.i) c.if-kind-last.last c.if-kind-last.k = elim c.if-kind-last.branch [
+      | then-kind-last w ↦ asked _ _ _ _ _ _ c.kind_of-kind.ensures w.kind_at-k-then-kind-last.ensures w.last-is w.k-is
+      | else-kind-last w ↦ same_kind _ _ _ _ _ _ _ c.kind_of-kind.ensures w.if-kind-last.false c.loop-i.invariant.2 w.last-is w.k-is
+    ] in
+    let at-record : let a = c.args in AtRecord a.file a.z a.firsts.now a.s.now c.loop-i.i c.kind_of-kind.result c.if-kind-last.last c.if-kind-last.k = let p = c.requires.small in
+    record { small = p.0; firsts = p.1; sized = any_none _ _ c.loop-i.i (omega arith) p.2; read = c.kind_of-kind.ensures; table = known-kind } in
+    kind-placed at-record
 
 pub slot_at-at-requires : goal.slot_at-at-requires
 slot_at-at-requires c =
-    let h = at-record c.before in
+    let known-kind : let a = c.args in Known (kinds_of a.file a.z) (kind_of a.s.now c.loop-i.i) c.if-kind-last.last c.if-kind-last.k = elim c.if-kind-last.branch [
+      | then-kind-last w ↦ asked _ _ _ _ _ _ c.kind_of-kind.ensures w.kind_at-k-then-kind-last.ensures w.last-is w.k-is
+      | else-kind-last w ↦ same_kind _ _ _ _ _ _ _ c.kind_of-kind.ensures w.if-kind-last.false c.loop-i.invariant.2 w.last-is w.k-is
+    ] in
+    let at-record : let a = c.args in AtRecord a.file a.z a.firsts.now a.s.now c.loop-i.i c.kind_of-kind.result c.if-kind-last.last c.if-kind-last.k = let p = c.requires.small in
+    record { small = p.0; firsts = p.1; sized = any_none _ _ c.loop-i.i (omega arith) p.2; read = c.kind_of-kind.ensures; table = known-kind } in
+    let h = at-record in
     let w = known-widths h in
     (omega arith, known-holds h, w.number, w.row, w.column, first_small h)
 
 pub bounds-flags-at : goal.bounds-flags-at
 bounds-flags-at c =
-    let d = c.before.before.before.before.before.before.before.before.before.before in
-    let e = at_slot c.before in
-    let l = slot-within (at-record c.before.before.before) in
-    let r = d.requires.flags_value.1 in
+    let known-kind : let a = c.args in Known (kinds_of a.file a.z) (kind_of a.s.now c.loop-i.i) c.if-kind-last.last c.if-kind-last.k = elim c.if-kind-last.branch [
+      | then-kind-last w ↦ asked _ _ _ _ _ _ c.kind_of-kind.ensures w.kind_at-k-then-kind-last.ensures w.last-is w.k-is
+      | else-kind-last w ↦ same_kind _ _ _ _ _ _ _ c.kind_of-kind.ensures w.if-kind-last.false c.loop-i.invariant.2 w.last-is w.k-is
+    ] in
+    let at-record : let a = c.args in AtRecord a.file a.z a.firsts.now a.s.now c.loop-i.i c.kind_of-kind.result c.if-kind-last.last c.if-kind-last.k = let p = c.requires.small in
+    record { small = p.0; firsts = p.1; sized = any_none _ _ c.loop-i.i (omega arith) p.2; read = c.kind_of-kind.ensures; table = known-kind } in
+    let at_slot : let a = c.args in c.slot_at-at.result ≡ slot_of (kinds_of a.file a.z) a.s.now c.loop-i.i = c.slot_at-at.ensures ∙ slot-known at-record in
+    let e = at_slot in
+    let l = slot-within at-record in
+    let r = c.requires.flags_value.1 in
     let x = c.loop-i in
-    let q = ap length x.invariant.3 ∙ length-flags (length d.args.flags.now) (kinds_of d.args.file d.args.z) d.args.s.now x.i in
+    let q = ap length x.invariant.3 ∙ length-flags (length c.args.flags.now) (kinds_of c.args.file c.args.z) c.args.s.now x.i in
     omega arith
 
 pub shape_of-flags-then-flags-at : goal.shape_of-flags-then-flags-at
@@ -89,20 +93,41 @@ shape_of-flags-then-flags-at c =
     ap length c.loop-i.invariant.3 ∙ length-flags (length a.flags.now) (kinds_of a.file a.z) a.s.now c.loop-i.i
 
 pub returns-then-flags-at : goal.returns-then-flags-at
-returns-then-flags-at c = record { value = sym (any-hit _ _ c.loop-i.i (omega arith) (was-named c.before.before ∙ c.if-flags-at.true)); flags_after = λ f. absurd (false≢true (sym f)) }
+returns-then-flags-at c =
+    let known-kind : let a = c.args in Known (kinds_of a.file a.z) (kind_of a.s.now c.loop-i.i) c.if-kind-last.last c.if-kind-last.k = elim c.if-kind-last.branch [
+      | then-kind-last w ↦ asked _ _ _ _ _ _ c.kind_of-kind.ensures w.kind_at-k-then-kind-last.ensures w.last-is w.k-is
+      | else-kind-last w ↦ same_kind _ _ _ _ _ _ _ c.kind_of-kind.ensures w.if-kind-last.false c.loop-i.invariant.2 w.last-is w.k-is
+    ] in
+    let at-record : let a = c.args in AtRecord a.file a.z a.firsts.now a.s.now c.loop-i.i c.kind_of-kind.result c.if-kind-last.last c.if-kind-last.k = let p = c.requires.small in
+    record { small = p.0; firsts = p.1; sized = any_none _ _ c.loop-i.i (omega arith) p.2; read = c.kind_of-kind.ensures; table = known-kind } in
+    let at_slot : let a = c.args in c.slot_at-at.result ≡ slot_of (kinds_of a.file a.z) a.s.now c.loop-i.i = c.slot_at-at.ensures ∙ slot-known at-record in
+    let was-named : let a = c.args in let x = c.loop-i in again (kinds_of a.file a.z) a.s.now x.i ≡ get_or x.flags c.slot_at-at.result false = let a = c.args in
+    sym (flag-again a.file a.z a.s.now c.requires.small.2 (length a.flags.now) c.requires.flags_value.1 c.loop-i.i false (omega arith))
+    ∙ sym (ap₂ (λ (fs : List Bool) (j : ℕ). get_or fs j false) c.loop-i.invariant.3 at_slot) in
+    record { value = sym (any-hit _ _ c.loop-i.i (omega arith) (was-named ∙ c.if-flags-at.true)); flags_after = λ f. absurd (false≢true (sym f)) }
 
 pub bounds-flags-at-in-loop-i : goal.bounds-flags-at-in-loop-i
-bounds-flags-at-in-loop-i c = bounds-flags-at c.before
+bounds-flags-at-in-loop-i c = bounds-flags-at c
 
 pub loop-i-preserved : goal.loop-i-preserved
 loop-i-preserved c =
+    let known-kind : let a = c.args in Known (kinds_of a.file a.z) (kind_of a.s.now c.loop-i.i) c.if-kind-last.last c.if-kind-last.k = elim c.if-kind-last.branch [
+      | then-kind-last w ↦ asked _ _ _ _ _ _ c.kind_of-kind.ensures w.kind_at-k-then-kind-last.ensures w.last-is w.k-is
+      | else-kind-last w ↦ same_kind _ _ _ _ _ _ _ c.kind_of-kind.ensures w.if-kind-last.false c.loop-i.invariant.2 w.last-is w.k-is
+    ] in
+    let at-record : let a = c.args in AtRecord a.file a.z a.firsts.now a.s.now c.loop-i.i c.kind_of-kind.result c.if-kind-last.last c.if-kind-last.k = let p = c.requires.small in
+    record { small = p.0; firsts = p.1; sized = any_none _ _ c.loop-i.i (omega arith) p.2; read = c.kind_of-kind.ensures; table = known-kind } in
+    let at_slot : let a = c.args in c.slot_at-at.result ≡ slot_of (kinds_of a.file a.z) a.s.now c.loop-i.i = c.slot_at-at.ensures ∙ slot-known at-record in
+    let was-named : let a = c.args in let x = c.loop-i in again (kinds_of a.file a.z) a.s.now x.i ≡ get_or x.flags c.slot_at-at.result false = let a = c.args in
+    sym (flag-again a.file a.z a.s.now c.requires.small.2 (length a.flags.now) c.requires.flags_value.1 c.loop-i.i false (omega arith))
+    ∙ sym (ap₂ (λ (fs : List Bool) (j : ℕ). get_or fs j false) c.loop-i.invariant.3 at_slot) in
     let a = c.args in
     let x = c.loop-i in (
       refl,
       omega arith,
-      kept-kind _ _ _ _ (known-kind c.before.before.before.before),
-      flags-next (length a.flags.now) (kinds_of a.file a.z) a.s.now x.i c.slot_at-at.result _ x.invariant.3 (at_slot c.before.before),
-      any-miss _ _ x.invariant.4 (was-named c.before.before ∙ c.if-flags-at.false),
+      kept-kind _ _ _ _ known-kind,
+      flags-next (length a.flags.now) (kinds_of a.file a.z) a.s.now x.i c.slot_at-at.result _ x.invariant.3 at_slot,
+      any-miss _ _ x.invariant.4 (was-named ∙ c.if-flags-at.false),
     )
 
 pub shape_of-flags : goal.shape_of-flags

@@ -11,21 +11,6 @@ use Rattle.records_sheet.proofs.offset_in.Lts as lts
 use Rattle.records_kinds.proofs.width.Reads as width-reads
 use Rattle.records_sheet.proofs.offset_in.Goals as goal
 
-is-offset : (c : goal.After-width-2) → (c.args.n * c.width.result + c.args.r) * c.width-2.result + c.args.c ≡ offset c.args.k c.args.n c.args.r c.args.c
-unfolding offset
-is-offset c =
-    let a = c.width.ensures in
-    let b = c.width-2.ensures in
-    cc
-
-few : (c : goal.After-width-2) → offset c.args.k c.args.n c.args.r c.args.c < 16777216
-few c =
-    let p = c.requires in
-    let k = c.args.k in
-    let l = slots-bound k (record { number = p.0; row = p.1; column = p.2 }) in
-    let m = offset-below k c.args.n c.args.r c.args.c (record { number = p.3; row = p.4; column = p.5 }) in
-    omega arith
-
 pub overflow_mul-result : goal.overflow_mul-result
 overflow_mul-result c =
     let p = c.requires in
@@ -39,10 +24,40 @@ overflow_add-result c =
     omega (arith, two-widths c.args.n c.width.result (omega arith) (omega arith))
 
 pub overflow_mul-result-2 : goal.overflow_mul-result-2
-overflow_mul-result-2 c = let e = is-offset c in let l = few c in omega arith
+unfolding offset
+overflow_mul-result-2 c =
+    let is-offset : (c.args.n * c.width.result + c.args.r) * c.width-2.result + c.args.c ≡ offset c.args.k c.args.n c.args.r c.args.c = let a = c.width.ensures in
+    let b = c.width-2.ensures in
+    cc in
+    let few : offset c.args.k c.args.n c.args.r c.args.c < 16777216 = let p = c.requires in
+    let k = c.args.k in
+    let l = slots-bound k (record { number = p.0; row = p.1; column = p.2 }) in
+    let m = offset-below k c.args.n c.args.r c.args.c (record { number = p.3; row = p.4; column = p.5 }) in
+    omega arith in
+    let e = is-offset in let l = few in omega arith
 
 pub overflow_add-result-2 : goal.overflow_add-result-2
-overflow_add-result-2 c = let e = is-offset c in let l = few c in omega arith
+unfolding offset
+overflow_add-result-2 c =
+    let is-offset : (c.args.n * c.width.result + c.args.r) * c.width-2.result + c.args.c ≡ offset c.args.k c.args.n c.args.r c.args.c = let a = c.width.ensures in
+    let b = c.width-2.ensures in
+    cc in
+    let few : offset c.args.k c.args.n c.args.r c.args.c < 16777216 = let p = c.requires in
+    let k = c.args.k in
+    let l = slots-bound k (record { number = p.0; row = p.1; column = p.2 }) in
+    let m = offset-below k c.args.n c.args.r c.args.c (record { number = p.3; row = p.4; column = p.5 }) in
+    omega arith in
+    let e = is-offset in let l = few in omega arith
 
 pub returns : goal.returns
-returns c = let e = is-offset c in let l = few c in (e, omega arith)
+unfolding offset
+returns c =
+    let is-offset : (c.args.n * c.width.result + c.args.r) * c.width-2.result + c.args.c ≡ offset c.args.k c.args.n c.args.r c.args.c = let a = c.width.ensures in
+    let b = c.width-2.ensures in
+    cc in
+    let few : offset c.args.k c.args.n c.args.r c.args.c < 16777216 = let p = c.requires in
+    let k = c.args.k in
+    let l = slots-bound k (record { number = p.0; row = p.1; column = p.2 }) in
+    let m = offset-below k c.args.n c.args.r c.args.c (record { number = p.3; row = p.4; column = p.5 }) in
+    omega arith in
+    let e = is-offset in let l = few in (e, omega arith)

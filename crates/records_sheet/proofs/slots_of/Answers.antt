@@ -10,17 +10,6 @@ use Rattle.records_sheet.proofs.slots_of.Lts as lts
 use Rattle.records_kinds.proofs.width.Reads as width-reads
 use Rattle.records_sheet.proofs.slots_of.Goals as goal
 
-is-slots : (c : goal.After-width-3) → c.width.result * c.width-2.result * c.width-3.result ≡ slots c.args.k
-unfolding slots
-is-slots c =
-    let a = c.width.ensures in
-    let b = c.width-2.ensures in
-    let d = c.width-3.ensures in
-    cc
-
-few : (c : goal.After-width-3) → slots c.args.k ≤ 16777216
-few c = let p = c.requires in slots-bound c.args.k (record { number = p.0; row = p.1; column = p.2 })
-
 pub overflow_mul-result : goal.overflow_mul-result
 overflow_mul-result c =
     let p = c.requires in
@@ -29,7 +18,21 @@ overflow_mul-result c =
     omega (arith, two-widths c.width.result c.width-2.result (omega arith) (omega arith))
 
 pub overflow_mul-result-2 : goal.overflow_mul-result-2
-overflow_mul-result-2 c = let e = is-slots c in let l = few c in omega arith
+unfolding slots
+overflow_mul-result-2 c =
+    let is-slots : c.width.result * c.width-2.result * c.width-3.result ≡ slots c.args.k = let a = c.width.ensures in
+    let b = c.width-2.ensures in
+    let d = c.width-3.ensures in
+    cc in
+    let few : slots c.args.k ≤ 16777216 = let p = c.requires in slots-bound c.args.k (record { number = p.0; row = p.1; column = p.2 }) in
+    let e = is-slots in let l = few in omega arith
 
 pub returns : goal.returns
-returns c = let e = is-slots c in let l = few c in (e, omega arith)
+unfolding slots
+returns c =
+    let is-slots : c.width.result * c.width-2.result * c.width-3.result ≡ slots c.args.k = let a = c.width.ensures in
+    let b = c.width-2.ensures in
+    let d = c.width-3.ensures in
+    cc in
+    let few : slots c.args.k ≤ 16777216 = let p = c.requires in slots-bound c.args.k (record { number = p.0; row = p.1; column = p.2 }) in
+    let e = is-slots in let l = few in (e, omega arith)

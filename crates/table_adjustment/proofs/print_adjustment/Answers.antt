@@ -23,17 +23,6 @@ use Rattle.table_adjustment.proofs.print.rotations.Reads as rotations-reads
 use Rattle.table_adjustment.proofs.print_adjustment.Goals as goal
 
 -- the series is read, and then its torn specimens are left out
-as_read : (c : goal.After-first_slots-firsts) → SeriesRead 24 c.args.file.now c.series_sizes-z.result c.first_slots-firsts.result c.args.sheet.now
-as_read c =
-    let a = c.args in
-    at-hand 24 a.file.now _ _ a.sheet.now c.requires c.series_sizes-z.ensures c.first_slots-firsts.ensures
-
-as_short : (c : goal.After-shorten-kept) → SeriesShort 24 c.args.file.now c.series_sizes-z.result c.first_slots-firsts.result c.shorten-kept.new.sheet
-as_short c = series-short _ _ _ _ _ (as_read c.before.before.before) _ c.shorten-kept.ensures.sheet_after
-
--- as many specimens are left as are run
-left-run : (c : goal.After-shorten-kept) → c.shorten-kept.result ≡ (design c.args.file.now).n
-left-run c = kept_run _ _ _ _ _ (as_read c.before.before.before) _ c.shorten-kept.ensures.value.0
 
 pub first_slots-firsts-requires : goal.first_slots-firsts-requires
 first_slots-firsts-requires c =
@@ -42,10 +31,18 @@ first_slots-firsts-requires c =
     subst Small (sym c.series_sizes-z.ensures) (accepted-small 24 g.some a.file.now g.taken g.most)
 
 pub shorten-kept-requires : goal.shorten-kept-requires
-shorten-kept-requires c = can-shorten _ _ _ _ _ (as_read c.before.before)
+shorten-kept-requires c =
+    let as_read : SeriesRead 24 c.args.file.now c.series_sizes-z.result c.first_slots-firsts.result c.args.sheet.now = let a = c.args in
+    at-hand 24 a.file.now _ _ a.sheet.now c.requires c.series_sizes-z.ensures c.first_slots-firsts.ensures in
+    can-shorten _ _ _ _ _ as_read
 
 pub kenward_roger_modcomp_data-requires : goal.kenward_roger_modcomp_data-requires
-kenward_roger_modcomp_data-requires c = (as_short c.before.before.before.before.before.before.before.before.before.before.before.before.before.before, left-run c.before.before.before.before.before.before.before.before.before.before.before.before.before.before, omega arith, omega arith)
+kenward_roger_modcomp_data-requires c =
+    let as_read : SeriesRead 24 c.args.file.now c.series_sizes-z.result c.first_slots-firsts.result c.args.sheet.now = let a = c.args in
+    at-hand 24 a.file.now _ _ a.sheet.now c.requires c.series_sizes-z.ensures c.first_slots-firsts.ensures in
+    let as_short : SeriesShort 24 c.args.file.now c.series_sizes-z.result c.first_slots-firsts.result c.shorten-kept.new.sheet = series-short _ _ _ _ _ as_read _ c.shorten-kept.ensures.sheet_after in
+    let left-run : c.shorten-kept.result ≡ (design c.args.file.now).n = kept_run _ _ _ _ _ as_read _ c.shorten-kept.ensures.value.0 in
+    (as_short, left-run, omega arith, omega arith)
 
 pub shape_of-sheet : goal.shape_of-sheet
 shape_of-sheet c = ap length c.shorten-kept.ensures.sheet_after ∙ length-short _ _

@@ -6,7 +6,7 @@ use borrow.Author.Rules.{rules}
 use Rattle.replay.proofs.files.commas_in.Given as goal
 
 abbrev pub invariant-loop-i : goal.invariant-loop-i
-invariant-loop-i l = (l.i ≤ l.i_end) × (l.i_end ≡ length l.digits) × (l.n ≤ l.i)
+invariant-loop-i l = (l.i ≤ l.i-end) × (l.i-end ≡ length l.digits) × (l.n ≤ l.i)
 
 abbrev pub decreases-loop-i : goal.decreases-loop-i
-decreases-loop-i l = l.i_end - l.i
+decreases-loop-i l = l.i-end - l.i
