@@ -11,13 +11,6 @@ use Rattle.records_refusals.specs.joints.Room.{SeriesShort}
 use borrow.Author.Rules.{rules}
 use Rattle.records_archiving.proofs.put_series.Goals as goal
 
--- ---- the stages of the code, each from the next that is named here: where a line is put in, one of these moves
-
-few-matrices : (b : goal.After-places_before-n) → b.places-before.result + 1 ≤ 4
-few-matrices b =
-    let lent : SeriesShort c.args.limit c.args.s.now c.args.z c.args.firsts.now c.args.sheet.now = c.requires.series_short.0 in
-    matrices-few _ _ _ _ _ lent _ b.before.blocks-of.ensures.0 _ b.places-before.ensures
-
 pub blocks_of-blocks-requires : goal.blocks_of-blocks-requires
 blocks_of-blocks-requires c =
     let lent : SeriesShort c.args.limit c.args.s.now c.args.z c.args.firsts.now c.args.sheet.now = c.requires.series_short.0 in
@@ -54,12 +47,14 @@ bounds-sheet-variance c =
 pub put_archive-requires : goal.put_archive-requires
 put_archive-requires c =
     let lent : SeriesShort c.args.limit c.args.s.now c.args.z c.args.firsts.now c.args.sheet.now = c.requires.series_short.0 in
-    (few-coefficients _ _ _ _ _ lent, few-matrices c.before, omega (arith, c.requires.series_short.1))
+    let few-matrices : c.places_before-n.result + 1 ≤ 4 = matrices-few _ _ _ _ _ lent _ c.blocks_of-blocks.ensures.0 _ c.places_before-n.ensures in
+    (few-coefficients _ _ _ _ _ lent, few-matrices, omega (arith, c.requires.series_short.1))
 
 pub told-requires : goal.told-requires
 told-requires c =
     let lent : SeriesShort c.args.limit c.args.s.now c.args.z c.args.firsts.now c.args.sheet.now = c.requires.series_short.0 in
-    archive-short _ _ _ _ _ _ _ _ (few-coefficients _ _ _ _ _ lent) (few-matrices c) c.put_archive.ensures.value
+    let few-matrices : c.places_before-n.result + 1 ≤ 4 = matrices-few _ _ _ _ _ lent _ c.blocks_of-blocks.ensures.0 _ c.places_before-n.ensures in
+    archive-short _ _ _ _ _ _ _ _ (few-coefficients _ _ _ _ _ lent) few-matrices c.put_archive.ensures.value
 
 pub returns : goal.returns
 returns c =

@@ -168,8 +168,8 @@ vcov_adj16_with_pw-requires c =
     let h = lent in
     let eb = c.blocks_of-blocks.ensures.0 in
     let own = same-most (slice_bounds-vcov_adj16_with_pw-end-2 c) in
-    let narrow = same-most (slice_bounds-vcov_adj16_with_pw-end-4 l) in (
-      record { high = omega arith; few = few-coefficients _ _ _ _ _ h; c own; c omega (arith, narrow) },
+    let narrow = same-most (slice_bounds-vcov_adj16_with_pw-end-4 c) in (
+      record { high = omega arith; few = few-coefficients _ _ _ _ _ h; squares = own; parts = omega (arith, narrow) },
       holds-is _ _ _ _ _ h _ c.requires.1,
       lent_is _ _ _ _ _ h _ c.requires.1 _ c.given.ensures _ eb,
     )
@@ -191,4 +191,3 @@ returns c =
       w = answer-same (λ (t : Adjustment). t.w) _ _ _ _ _ r.w_after ea;
       rotations = answer-same (λ (t : Adjustment). t.rotations) _ _ _ _ _ r.rotations_after ea;
     }
-

@@ -10,11 +10,11 @@ use Rattle.records_order.proofs.matrix_at.Goals as goal
 pub returns-then-numbers_matrix : goal.returns-then-numbers_matrix
 unfolding matrix_of
 returns-then-numbers_matrix c =
-    let e : numbers_matrix (kind_of c.before.before.before.before.before.before.args.s.now c.before.before.before.before.before.before.args.i) ≡ true = cc in
+    let e : numbers_matrix (kind_of c.args.s.now c.args.i) ≡ true = cc in
     (rw e (cc), omega arith)
 
 pub returns : goal.returns
 unfolding matrix_of
 returns c =
-    let e : numbers_matrix (kind_of c.before.before.before.before.before.args.s.now c.before.before.before.before.before.args.i) ≡ false = cc in
+    let e : numbers_matrix (kind_of c.args.s.now c.args.i) ≡ false = cc in
     (rw e, omega arith)

@@ -68,5 +68,4 @@ returns c =
     let wrote = all.wrote first.file first.came in
     let m = wrote.moved in
     let n = wrote.short in
-    record { c all; written_in_bounds = omega (arith, c.requires.season_arrives.1) }
-
+    record { fed = all; written_in_bounds = omega (arith, c.requires.season_arrives.1) }
