@@ -107,7 +107,20 @@ returns-then-flags-at c =
     record { value = sym (any-hit _ _ c.loop-i.i (omega arith) (was-named ∙ c.if-flags-at.true)); flags_after = λ f. absurd (false≢true (sym f)) }
 
 pub bounds-flags-at-in-loop-i : goal.bounds-flags-at-in-loop-i
-bounds-flags-at-in-loop-i c = bounds-flags-at c
+bounds-flags-at-in-loop-i c =
+    let known-kind : let a = c.args in Known (kinds_of a.file a.z) (kind_of a.s.now c.loop-i.i) c.if-kind-last.last c.if-kind-last.k = elim c.if-kind-last.branch [
+      | then-kind-last w ↦ asked _ _ _ _ _ _ c.kind_of-kind.ensures w.kind_at-k-then-kind-last.ensures w.last-is w.k-is
+      | else-kind-last w ↦ same_kind _ _ _ _ _ _ _ c.kind_of-kind.ensures w.if-kind-last.false c.loop-i.invariant.2 w.last-is w.k-is
+    ] in
+    let at-record : let a = c.args in AtRecord a.file a.z a.firsts.now a.s.now c.loop-i.i c.kind_of-kind.result c.if-kind-last.last c.if-kind-last.k = let p = c.requires.small in
+    record { small = p.0; firsts = p.1; sized = any_none _ _ c.loop-i.i (omega arith) p.2; read = c.kind_of-kind.ensures; table = known-kind } in
+    let at_slot : let a = c.args in c.slot_at-at.result ≡ slot_of (kinds_of a.file a.z) a.s.now c.loop-i.i = c.slot_at-at.ensures ∙ slot-known at-record in
+    let e = at_slot in
+    let l = slot-within at-record in
+    let r = c.requires.flags_value.1 in
+    let x = c.loop-i in
+    let q = ap length x.invariant.3 ∙ length-flags (length c.args.flags.now) (kinds_of c.args.file c.args.z) c.args.s.now x.i in
+    omega arith
 
 pub loop-i-preserved : goal.loop-i-preserved
 loop-i-preserved c =

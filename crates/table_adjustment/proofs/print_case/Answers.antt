@@ -20,7 +20,10 @@ refusal-requires c =
     record { some = omega arith; most = omega arith; clear = refl; blank = refl; flagged = omega arith; written = omega arith }
 
 pub print_adjustment-requires : goal.print_adjustment-requires
+unfolding of_bits
 print_adjustment-requires c =
     let a = c.args in
     let r = c.refusal.ensures in
-    series-read 24 a.file.now _ _ _ _ (refusal-requires c c.refusal.lifetimes) r.value c.if-refusal-eq0.true r.sheet_after
+    series-read 24 a.file.now _ _ _ _ ((let e = slot-count 24 Series in
+    record { some = omega arith; most = omega arith; clear = refl; blank = refl; flagged = omega arith; written = omega arith }) c.refusal.lifetimes) r.value c.if-refusal-eq0.true r.sheet_after
+
