@@ -18,11 +18,11 @@ returns-then-bad_table c =
     record { value = both.0; archive_after = both.1 }
 
 pub cutoffs_in-requires : goal.cutoffs_in-requires
-cutoffs_in-requires c = table-length (start c).args.table.now (sym c.bad_table.ensures ∙ c.if-bad_table.false)
+cutoffs_in-requires c = table-length c.args.table.now (sym c.bad_table.ensures ∙ c.if-bad_table.false)
 
 pub returns : goal.returns
 returns c =
-    let a = (start c).args in
+    let a = c.args in
     let f = c.archive_panel.ensures in
     let table = sym c.bad_table.ensures ∙ c.if-bad_table.false in
     let both = own-call a.table.now a.records.now a.archive.now c.if-archive-ne-ARCHIVE_LENGTH.false table _ c.cutoffs_in.ensures _ _ f.value f.archive_after in

@@ -19,12 +19,12 @@ returns-then-bad_table c =
     record { value = both.0; answer_after = both.1 }
 
 pub cutoffs_in-requires : goal.cutoffs_in-requires
-cutoffs_in-requires c = table-length (start c).args.table.now (sym c.bad_table.ensures ∙ c.if-bad_table.false)
+cutoffs_in-requires c = table-length c.args.table.now (sym c.bad_table.ensures ∙ c.if-bad_table.false)
 
 pub returns : goal.returns
 unfolding number
 returns c =
-    let a = (start c).args in
+    let a = c.args in
     let f = c.fill_answer.ensures in
     let table = sym c.bad_table.ensures ∙ c.if-bad_table.false in
     let both = own-answer (series_call 24 a.records.now) a.table.now a.answer.now refl c.if-answer-ne-ANSWER_LENGTH.false table _ c.cutoffs_in.ensures _ _ f.value f.answer_after in

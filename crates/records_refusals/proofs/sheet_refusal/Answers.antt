@@ -73,9 +73,8 @@ returns-then-misfit c =
 
 pub zero_contrast-requires : goal.zero_contrast-requires
 zero_contrast-requires c =
-    let s = start (weighed c) in
-    let a = s.args in
-    let p = s.pre.0 in
+    let a = c.args in
+    let p = c.requires.small in
     let e = starts a.z 9 a.firsts.now (lit≤ tt) p.2 in
     let b = contrast-fits a.z (length a.sheet.now) p.3 in
     (p.0, omega arith)

@@ -8,9 +8,8 @@ use Rattle.records_season.proofs.take_byte.Goals as goal
 
 pub take_last_byte-requires : goal.take_last_byte-requires
 take_last_byte-requires c =
-    let s = start c in
     let e = c.if-a-eq15.true in
-    record { values_len = s.pre.0; season_arrives = (s.pre.1.0, e, omega (arith, s.pre.1.1)) }
+    record { values_len = c.requires.values_len; season_arrives = (c.requires.season_arrives.0, e, omega (arith, c.requires.season_arrives.1)) }
 
 pub returns-then-a-eq15 : goal.returns-then-a-eq15
 returns-then-a-eq15 c =
@@ -20,6 +19,6 @@ returns-then-a-eq15 c =
 pub returns : goal.returns
 returns c =
     let a = c.args in
-    let small : a.b < 256 = omega (arith, c.fits.b) in
+    let small : a.b < 256 = omega (arith, c.ranges.b) in
     let window = window_of a.values.now a.given.now in
     open-fed a.a a.kept.now a.current.now window a.b small _ _ c.take_byte.ensures (λ q. absurd (c.if-a-eq15.false q)) _ _

@@ -11,7 +11,7 @@ use Rattle.records_season.proofs.take_last_byte.Goals as goal
 pub returns-then-closes : goal.returns-then-closes
 returns-then-closes c =
     let a = c.args in
-    let small : a.b < 256 = omega (arith, c.fits.b) in
+    let small : a.b < 256 = omega (arith, c.ranges.b) in
     let window = window_of a.values.now a.given.now in
     let whole = sym c.closes.ensures ∙ c.if-closes.true in
     let q = c.close_series-next.ensures in
@@ -25,7 +25,7 @@ shape_of-current c =
 pub returns : goal.returns
 returns c =
     let a = c.args in
-    let small : a.b < 256 = omega (arith, c.fits.b) in
+    let small : a.b < 256 = omega (arith, c.ranges.b) in
     let window = window_of a.values.now a.given.now in
     let open' = sym c.closes.ensures ∙ c.if-closes.false in
     let taken = c.take_byte.ensures ∙ set-again a.a a.kept.now a.current.now window a.b small c.requires.season_arrives.1 in
