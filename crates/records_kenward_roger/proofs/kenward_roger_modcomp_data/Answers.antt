@@ -175,8 +175,16 @@ vcov_adj16_with_pw-requires c =
     let lent : SeriesShort c.args.limit c.args.s.now c.args.z c.args.firsts.now c.args.sheet.now = c.requires.0 in
     let h = lent in
     let eb = c.blocks_of-blocks.ensures.0 in
-    let own = same-most ((sym (length-take-le _ _ (slice_bounds-vcov_adj16_with_pw-end c)))) in
-    let narrow = same-most ((sym (length-take-le _ _ (slice_bounds-vcov_adj16_with_pw-end-3 c)))) in (
+    let own = same-most ((sym (length-take-le _ _ ((let lent : SeriesShort c.args.limit c.args.s.now c.args.z c.args.firsts.now c.args.sheet.now = c.requires.0 in
+    let within : c.args.n ≤ c.args.limit = run-within _ _ _ _ _ lent _ c.requires.1 in
+    let y = squares-within c.args.n c.args.limit within in
+    let r = c.requires.2 in
+    omega arith))))) in
+    let narrow = same-most ((sym (length-take-le _ _ ((let lent : SeriesShort c.args.limit c.args.s.now c.args.z c.args.firsts.now c.args.sheet.now = c.requires.0 in
+    let within : c.args.n ≤ c.args.limit = run-within _ _ _ _ _ lent _ c.requires.1 in
+    let x = within in
+    let r = c.requires.3 in
+    omega arith))))) in (
       record { high = omega arith; few = few-coefficients _ _ _ _ _ h; squares = own; parts = omega (arith, narrow) },
       holds-is _ _ _ _ _ h _ c.requires.1,
       lent_is _ _ _ _ _ h _ c.requires.1 _ c.given.ensures _ eb,

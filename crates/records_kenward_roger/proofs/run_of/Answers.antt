@@ -74,7 +74,7 @@ returns c =
     let h = c.if-late-ne0.false in
     let z = sym d.number ∙ h in
     let g = c.requires.0.taken in
-    let v = run-answer a.limit a.c a.s.now g z _ _ _ _ t.1 t.0 c.answer_of.ensures.value c.answer_of.ensures.told_after in
-    let m = run-rotations a.limit a.c a.s.now g z _ _ _ t.1 (d.rotations ∙ accepted-yes _ _ _ h) c.counted.ensures in
-    let n = run-specimens a.limit a.c a.s.now g z _ _ _ t.1 left-run c.counted-2.ensures in
+    let v = run-answer a.limit a.c a.s.now g z _ _ _ _ t.refused_after t.value c.answer_of.ensures.value c.answer_of.ensures.told_after in
+    let m = run-rotations a.limit a.c a.s.now g z _ _ _ t.refused_after (d.rotations ∙ accepted-yes _ _ _ h) c.counted.ensures in
+    let n = run-specimens a.limit a.c a.s.now g z _ _ _ t.refused_after left-run c.counted-2.ensures in
     record { listed = v.0; told = v.1; made = m; pulled = n }
