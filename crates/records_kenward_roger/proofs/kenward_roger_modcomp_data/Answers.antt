@@ -3,6 +3,7 @@ use Prim.Native.Nat.{ℕ, ◌*◌, ◌≤◌}
 use native.Mathlib.Nat.{mul-le-mul}
 use native.Mathlib.Omega.{arith}
 use mathlib.Core.Path.{◌≡◌, refl, sym, ◌∙◌}
+use lib.ListN.{length, take}
 use lib.Seq.{length-take-le}
 use Rattle.adjustment.specs.Adjusted.{Adjustment}
 use Rattle.records_refusals.specs.joints.Room.{SeriesShort}
@@ -172,19 +173,16 @@ bounds-sheet-variance c =
 
 pub vcov_adj16_with_pw-requires : goal.vcov_adj16_with_pw-requires
 vcov_adj16_with_pw-requires c =
-    let lent : SeriesShort c.args.limit c.args.s.now c.args.z c.args.firsts.now c.args.sheet.now = c.requires.0 in
-    let h = lent in
-    let eb = c.blocks_of-blocks.ensures.0 in
-    let own = same-most ((sym (length-take-le _ _ ((let lent : SeriesShort c.args.limit c.args.s.now c.args.z c.args.firsts.now c.args.sheet.now = c.requires.0 in
-    let within : c.args.n ≤ c.args.limit = run-within _ _ _ _ _ lent _ c.requires.1 in
+    let h : SeriesShort c.args.limit c.args.s.now c.args.z c.args.firsts.now c.args.sheet.now = c.requires.0 in
+    let within : c.args.n ≤ c.args.limit = run-within _ _ _ _ _ h _ c.requires.1 in
     let y = squares-within c.args.n c.args.limit within in
     let r = c.requires.2 in
-    omega arith))))) in
-    let narrow = same-most ((sym (length-take-le _ _ ((let lent : SeriesShort c.args.limit c.args.s.now c.args.z c.args.firsts.now c.args.sheet.now = c.requires.0 in
-    let within : c.args.n ≤ c.args.limit = run-within _ _ _ _ _ lent _ c.requires.1 in
-    let x = within in
-    let r = c.requires.3 in
-    omega arith))))) in (
+    let q = c.requires.3 in
+    let square_room : 6 * (c.args.n * c.args.n) ≤ length c.args.work.now = omega arith in
+    let part_room : 36 * c.args.n ≤ length c.args.narrow.now = omega arith in
+    let eb = c.blocks_of-blocks.ensures.0 in
+    let own : 6 * (c.args.n * c.args.n) ≤ length (take (6 * (c.args.n * c.args.n)) c.args.work.now) = same-most (sym (length-take-le _ _ square_room)) in
+    let narrow : 36 * c.args.n ≤ length (take (36 * c.args.n) c.args.narrow.now) = same-most (sym (length-take-le _ _ part_room)) in (
       record { high = omega arith; few = few-coefficients _ _ _ _ _ h; squares = own; parts = omega (arith, narrow) },
       holds-is _ _ _ _ _ h _ c.requires.1,
       lent_is _ _ _ _ _ h _ c.requires.1 _ c.given.ensures _ eb,
