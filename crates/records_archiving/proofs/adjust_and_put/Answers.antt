@@ -29,7 +29,7 @@ kenward_roger_modcomp_data-late-requires c =
     at-hand a.limit a.s.now _ _ a.sheet.now c.requires.series_read.0 c.series_sizes-z.ensures c.first_slots-firsts.ensures in
     let as_short : let a = c.args in SeriesShort a.limit a.s.now c.series_sizes-z.result c.first_slots-firsts.result c.shorten-n.new.sheet = series-short _ _ _ _ _ as_read _ c.shorten-n.ensures.sheet_after in
     let left-run : c.shorten-n.result ≡ (design c.args.s.now).n = kept_run _ _ _ _ _ as_read _ c.shorten-n.ensures.value.0 in
-    let g = c.requires in (as_short, left-run, g.1.0, g.1.1)
+    let g = c.requires in (as_short, left-run, g.limit_in_bounds.0, g.limit_in_bounds.1)
 
 pub returns-then-late-ne0 : goal.returns-then-late-ne0
 returns-then-late-ne0 c =

@@ -1,7 +1,10 @@
 -- `table_adjustment::print_case` meets its contract.
 use native.Mathlib.Omega.{arith}
 use mathlib.Core.Path.{refl}
-use lib.Ieee.{of_bits}
+use lib.Ieee.{of_bits, binary64}
+use lib.ListN.{replicate}
+use mathlib.Core.Bool.{false}
+use Rattle.records_refusals.specs.joints.Room.{Room}
 use Rattle.records.specs.declared.Shape.TheVariants.{Series}
 use Rattle.records.proofs.readers.Limits.{slot-count}
 use Rattle.records_refusals.proofs.RoomLaws.{series-read}
@@ -24,6 +27,7 @@ unfolding of_bits
 print_adjustment-requires c =
     let a = c.args in
     let r = c.refusal.ensures in
-    series-read 24 a.file.now _ _ _ _ ((let e = slot-count 24 Series in
-    record { some = omega arith; most = omega arith; clear = refl; blank = refl; flagged = omega arith; written = omega arith }) c.refusal.lifetimes) r.value c.if-refusal-eq0.true r.sheet_after
-
+    let e = slot-count 24 Series in
+    let room : Room 24 (replicate 835 false) (replicate 835 (of_bits binary64 0)) =
+    record { some = omega arith; most = omega arith; clear = refl; blank = refl; flagged = omega arith; written = omega arith } in
+    series-read 24 a.file.now _ _ _ _ room r.value c.if-refusal-eq0.true r.sheet_after

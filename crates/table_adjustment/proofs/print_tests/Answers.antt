@@ -14,4 +14,3 @@ slice_bounds-out-end c =
 pub slice_bounds-write_all-end : goal.slice_bounds-write_all-end
 slice_bounds-write_all-end c = sym (length-take-le c.text-n.result c.text-n.new.out ((let e : length c.text-n.new.out ≡ 512 = rw (c.text-n.ensures.stored, length-sets) in
     omega (arith, c.text-n.ensures.moved, c.text-n.ensures.short))))
-
