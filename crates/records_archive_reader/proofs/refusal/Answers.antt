@@ -10,8 +10,6 @@ use Rattle.records_archive_reader.proofs.ReaderLaws.{value-refused, sheet-room, 
 use borrow.Author.Rules.{rules}
 use Rattle.records_archive_reader.proofs.refusal.Goals as goal
 
--- neither its length nor its order nor its form refuses the file
-
 pub file_refusal-formed-requires : goal.file_refusal-formed-requires
 file_refusal-formed-requires c =
     let p = c.requires in

@@ -9,8 +9,6 @@ use Rattle.records_archive_test.proofs.NumberLaws.{archive-refuses, second-refus
 use borrow.Author.Rules.{rules}
 use Rattle.records_archive_test.proofs.judge.Goals as goal
 
--- the archive's reader takes it
-
 pub refusal-first-requires : goal.refusal-first-requires
 unfolding of_bits
 refusal-first-requires c = record { flags_value = (refl, archive-sheet); sheet_value = (refl, archive-sheet) }

@@ -9,8 +9,6 @@ use Rattle.records_archiving.proofs.ArchivingLaws.{adjustment-refuses, archives}
 use borrow.Author.Rules.{rules}
 use Rattle.records_archiving.proofs.adjust_and_put.Goals as goal
 
--- ---- the stages of the code, each from the next that is named here: where a line is put in, one of these moves
-
 pub first_slots-firsts-requires : goal.first_slots-firsts-requires
 first_slots-firsts-requires c =
     let a = c.args in

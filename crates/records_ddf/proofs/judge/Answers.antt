@@ -20,8 +20,6 @@ use Rattle.algebra.specs.Kind.{marks}
 use Rattle.records.specs.declared.Shape.TheVariants.{Test}
 use Rattle.records_ddf.proofs.judge.Goals as goal
 
--- the file is not refused: its sizes are small, and the sheet holds its numbers
-
 pub refusal-early-requires : goal.refusal-early-requires
 unfolding of_bits
 refusal-early-requires c =

@@ -9,8 +9,6 @@ use borrow.Author.Rules.{rules}
 use Rattle.records.specs.declared.Shape.TheVariants.{Test}
 use Rattle.records_ddf.proofs.refusal.Goals as goal
 
--- the file is not refused, so that its sizes are small and its cells have room
-
 pub file_refusal-formed-requires : goal.file_refusal-formed-requires
 file_refusal-formed-requires c =
     let p = c.requires in

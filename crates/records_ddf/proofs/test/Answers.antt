@@ -5,8 +5,6 @@ use Rattle.records_ddf.proofs.Inputs.{OnSheet, on-sheet, test-is}
 use borrow.Author.Rules.{rules}
 use Rattle.records_ddf.proofs.test.Goals as goal
 
--- the cells of each kind stand on the lent sheet
-
 pub six_at-beta-requires : goal.six_at-beta-requires
 six_at-beta-requires c =
     let placed : OnSheet c.args.z c.args.firsts.now (length c.args.sheet.now) = on-sheet _ _ c.requires.firsts_value.0 _ c.requires.firsts_value.1 in

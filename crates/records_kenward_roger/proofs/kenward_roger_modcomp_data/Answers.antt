@@ -12,8 +12,6 @@ use Rattle.records_kenward_roger.proofs.Calls.{holds-is, lent_is, number-is-own,
 use borrow.Author.Rules.{rules}
 use Rattle.records_kenward_roger.proofs.kenward_roger_modcomp_data.Goals as goal
 
--- ---- the stages of the code, each from the next that is named here: where a line is put in, one of these moves
-
 square-small : (n : ℕ) → n ≤ 256 → n * n ≤ 65536
 square-small n l = mul-le-mul l l
 

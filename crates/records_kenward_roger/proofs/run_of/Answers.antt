@@ -22,8 +22,6 @@ use Rattle.tests_entries.proofs.answer_of.Reads as answer-of-reads
 use Rattle.tests_entries.proofs.no_entry.Reads as no-entry-reads
 use Rattle.records_kenward_roger.proofs.run_of.Goals as goal
 
--- ---- the stages of the code, each from the next that is named here: where a line is put in, one of these moves
-
 pub first_slots-firsts-requires : goal.first_slots-firsts-requires
 first_slots-firsts-requires c =
     let a = c.args in

@@ -9,8 +9,6 @@ use Rattle.records_kenward_roger.proofs.Calls.{start-within, sigma2-place, phi-e
 use borrow.Author.Rules.{rules}
 use Rattle.records_kenward_roger.proofs.tests_of.Goals as goal
 
--- ---- the stages of the code, each from the next that is named here: where a line is put in, one of these moves
-
 pub blocks_of-blocks-requires : goal.blocks_of-blocks-requires
 blocks_of-blocks-requires c =
     let lent : SeriesShort c.args.limit c.args.s.now c.args.z c.args.firsts.now c.args.sheet.now = c.requires.series_short in

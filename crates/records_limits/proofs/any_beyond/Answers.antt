@@ -11,8 +11,6 @@ use Rattle.records_kinds.proofs.KnownKind.{Known, asked, same_kind, kept-kind}
 use Rattle.records_limits.proofs.any_beyond.Goals as goal
 use Rattle.records_limits.proofs.any_beyond.Goals.{then-kind-last, else-kind-last}
 
--- what the loop keeps is what the table says of record i's kind
-
 pub kind_at-k-requires : goal.kind_at-k-requires
 kind_at-k-requires c = tt
 

@@ -18,8 +18,6 @@ use borrow.Author.Rules.{rules}
 use Rattle.records.specs.declared.Shape.TheVariants.{Series}
 use Rattle.records_refusals.proofs.refusal.Goals as goal
 
--- ---- the stages of the code, each from the next that is named here: where a line is put in, one of these moves
-
 pub records_refusal-recorded-requires : goal.records_refusal-recorded-requires
 records_refusal-recorded-requires c = let p = c.requires in (p.some, p.most, p.clear, p.flagged)
 

@@ -7,8 +7,6 @@ use Rattle.records_season.specs.joints.SeasonCame.{season_as, SeasonArrives, Fed
 use Rattle.records_season.proofs.FedLaws.{fed-none, fed-more, fed-all, fed-arrives, fed-part, fed-wider}
 use Rattle.records_season.proofs.feed.Goals as goal
 
--- ---- the stages of the code, each from the next that is named here: where a line is put in, one of these moves
-
 pub loop-i-init : goal.loop-i-init
 loop-i-init c =
     let few = c.requires.season_arrives.0.came.unclosed.ready.part in

@@ -11,8 +11,6 @@ use Rattle.records_season.specs.joints.SeasonCame.{window_of}
 use Rattle.records_season.proofs.WindowCode.{window-length, worst-more}
 use Rattle.records_season.proofs.worst_of.Goals as goal
 
--- ---- the stages of the code, each from the next that is named here: where a line is put in, one of these moves
-
 pub loop-i-init : goal.loop-i-init
 unfolding worst_after
 loop-i-init c = (omega arith, refl)

@@ -9,8 +9,6 @@ use Rattle.records_second_file.proofs.SecondLaws.{other-coefficients, value-refu
 use borrow.Author.Rules.{rules}
 use Rattle.records_second_file.proofs.refusal.Goals as goal
 
--- the file is formed, so that its sizes are small and its cells have room
-
 pub file_refusal-formed-requires : goal.file_refusal-formed-requires
 file_refusal-formed-requires c =
     let p = c.requires in

@@ -16,8 +16,6 @@ use Rattle.records_sheet.proofs.KnownSlots.{AtRecord, kind-placed, first_small, 
 use Rattle.records_sheet.proofs.mark_cells.Goals as goal
 use Rattle.records_sheet.proofs.mark_cells.Goals.{then-kind-last, else-kind-last}
 
--- what the loop keeps is what the table says of record i's kind
-
 pub kind_at-k-requires : goal.kind_at-k-requires
 kind_at-k-requires c = tt
 

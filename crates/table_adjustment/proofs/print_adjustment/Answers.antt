@@ -22,8 +22,6 @@ use Rattle.table_adjustment.proofs.print.numbered.Reads as numbered-reads
 use Rattle.table_adjustment.proofs.print.rotations.Reads as rotations-reads
 use Rattle.table_adjustment.proofs.print_adjustment.Goals as goal
 
--- the series is read, and then its torn specimens are left out
-
 pub first_slots-firsts-requires : goal.first_slots-firsts-requires
 first_slots-firsts-requires c =
     let a = c.args in
