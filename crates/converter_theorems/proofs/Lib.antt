@@ -14,5 +14,7 @@ pub mod ReadCall
 pub mod PullExample
 pub mod ArchiveExample
 pub mod BatchExample
+pub mod ReadParameters
 pub mod ParameterExample
+pub mod CorrelatedExample
 pub mod Lot

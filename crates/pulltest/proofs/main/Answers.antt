@@ -14,4 +14,3 @@ slice_bounds-out-end c =
 pub slice_bounds-write_all-end : goal.slice_bounds-write_all-end
 slice_bounds-write_all-end c = sym (length-take-le c.text_arrived-m.result c.text_arrived-m.new.out ((let e : length c.text_arrived-m.new.out ≡ 512 = rw (c.text_arrived-m.ensures.stored, length-sets) in
     omega (arith, c.text_arrived-m.ensures.moved, c.text_arrived-m.ensures.short))))
-
