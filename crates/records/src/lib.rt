@@ -2,48 +2,31 @@
 
 #![tactic(auto)]
 
-// The numbers of the kinds of record, as specs/format/KindNumbers.antt has them.
-pub const KIND_X: usize = 1;
-
-pub const KIND_Z: usize = 2;
-
-pub const KIND_BLOCK: usize = 3;
-
-pub const KIND_THETA: usize = 4;
-
-pub const KIND_WEIGHT: usize = 5;
-
-pub const KIND_PHI: usize = 6;
-
-pub const KIND_SIGMA2: usize = 7;
-
-pub const KIND_BETA: usize = 8;
-
-pub const KIND_CONTRAST: usize = 9;
-
-pub const KIND_BETA_H: usize = 10;
-
-pub const KIND_SCALED_PHI: usize = 11;
-
-pub const KIND_SCALED_PHI_A: usize = 12;
-
-pub const KIND_SCALED_P: usize = 13;
-
-pub const KIND_W: usize = 14;
-
-pub const KIND_ARCHIVED_PHI: usize = 15;
-
-pub const KIND_ARCHIVED_PHI_A: usize = 16;
-
-pub const KIND_ARCHIVED_P: usize = 17;
-
-pub const KIND_ARCHIVED_SIGMA2: usize = 18;
-
-pub const KIND_V: usize = 30;
-
-pub const KIND_JACOBIAN: usize = 31;
-
-pub const KIND_A: usize = 32;
+// The kinds of record, each with its number in a file, as specs/format/KindNumbers.antt has them.
+#[derive(Clone, Copy, PartialEq, Eq)]
+pub enum RecordKind {
+    X = 1,
+    Z = 2,
+    Block = 3,
+    Theta = 4,
+    Weight = 5,
+    Phi = 6,
+    Sigma2 = 7,
+    Beta = 8,
+    Contrast = 9,
+    BetaH = 10,
+    ScaledPhi = 11,
+    ScaledPhiA = 12,
+    ScaledP = 13,
+    W = 14,
+    ArchivedPhi = 15,
+    ArchivedPhiA = 16,
+    ArchivedP = 17,
+    ArchivedSigma2 = 18,
+    V = 30,
+    Jacobian = 31,
+    A = 32,
+}
 
 // The bytes of an entry, of an answer of seven, and of the longest archive; the panel's limit of specimens; and what the programs keep of a file, which has room for every record within that limit.
 pub const ENTRY_LENGTH: usize = 24;

@@ -10,10 +10,7 @@ ghost use Rattle.records.specs.readers.Archive.{kinds, refusal};
 ghost use Rattle.records_sheet.specs.joints.Sheet.{first_slots, sheet_after};
 ghost use Rattle.records_archive_reader.specs.joints.Checks.{differs, in_units, not_scaled, misscaled_in, numbers_refusal};
 
-use records::{
-    KIND_ARCHIVED_P, KIND_ARCHIVED_PHI, KIND_ARCHIVED_PHI_A, KIND_ARCHIVED_SIGMA2, KIND_SCALED_P,
-    KIND_SCALED_PHI, KIND_SCALED_PHI_A, Shape, Sizes,
-};
+use records::{RecordKind, Shape, Sizes};
 
 // The bits of two numbers differ: +0 and -0 do.
 fn differs(x: f64, y: f64) -> bool
@@ -63,28 +60,28 @@ fn misscaled(z: Sizes, firsts: &[usize; 34], sheet: &[f64]) -> bool
     let p = z.coefficients;
     let square = p * p;
     let squares = z.parameters * square;
-    let sigma2 = sheet[firsts[KIND_ARCHIVED_SIGMA2]];
+    let sigma2 = sheet[firsts[RecordKind::ArchivedSigma2 as usize]];
     let phi = any_not_scaled(
         false,
         sheet,
-        firsts[KIND_SCALED_PHI],
-        firsts[KIND_ARCHIVED_PHI],
+        firsts[RecordKind::ScaledPhi as usize],
+        firsts[RecordKind::ArchivedPhi as usize],
         square,
         sigma2,
     );
     let phi_a = any_not_scaled(
         false,
         sheet,
-        firsts[KIND_SCALED_PHI_A],
-        firsts[KIND_ARCHIVED_PHI_A],
+        firsts[RecordKind::ScaledPhiA as usize],
+        firsts[RecordKind::ArchivedPhiA as usize],
         square,
         sigma2,
     );
     let ps = any_not_scaled(
         true,
         sheet,
-        firsts[KIND_SCALED_P],
-        firsts[KIND_ARCHIVED_P],
+        firsts[RecordKind::ScaledP as usize],
+        firsts[RecordKind::ArchivedP as usize],
         squares,
         sigma2,
     );
@@ -96,7 +93,7 @@ fn numbers_refusal(z: Sizes, firsts: &[usize; 34], sheet: &[f64]) -> u32
     requires { (z.coefficients ≤ 6) × (z.parameters ≤ 4) × (firsts.now ≡ first_slots (archive_kinds z)) × (slot_count (archive_kinds z) ≤ length sheet.now) }
     ensures { result ≡ numbers_refusal z sheet.now }
 {
-    if sheet[firsts[KIND_ARCHIVED_SIGMA2]] <= 0.0 {
+    if sheet[firsts[RecordKind::ArchivedSigma2 as usize]] <= 0.0 {
         return 5;
     }
     if misscaled(z, firsts, sheet) {

@@ -13,10 +13,7 @@ ghost use Rattle.records.specs.calls.ArchiveCall.{archive_run, from_archive_numb
 ghost use Rattle.records_archive_test.specs.joints.Read.{ArchiveOnSheet, SecondOnSheet};
 
 use arithmetic_cutoffs::{Cutoffs, document_cutoffs};
-use records::{
-    ANSWER_LENGTH, KIND_ARCHIVED_P, KIND_ARCHIVED_PHI, KIND_ARCHIVED_PHI_A, KIND_ARCHIVED_SIGMA2,
-    KIND_BETA, KIND_BETA_H, KIND_CONTRAST, KIND_W, Shape,
-};
+use records::{ANSWER_LENGTH, RecordKind, Shape};
 use records_answer_bytes::put_answer;
 use records_sheet_parts::{cells_at, six_at, stack_at};
 use tests::Entry;
@@ -43,9 +40,9 @@ fn tests_with(
     let z = records_sizes::second_sizes(t);
     let firsts = records_sheet::first_slots(Shape::Second, z);
     // β, the contrast and β_H start here.
-    let estimates = firsts[KIND_BETA];
-    let contrast = firsts[KIND_CONTRAST];
-    let hypotheses = firsts[KIND_BETA_H];
+    let estimates = firsts[RecordKind::Beta as usize];
+    let contrast = firsts[RecordKind::Contrast as usize];
+    let hypotheses = firsts[RecordKind::BetaH as usize];
     let beta = six_at(numbers, estimates, p);
     let beta_h = six_at(numbers, hypotheses, records_kinds::given(z.hypothesis, p));
     let l = cells_at(numbers, contrast, z.contrasts, p);
@@ -84,11 +81,11 @@ fn tests_from(
     let p = z.coefficients;
     let n = z.parameters;
     // W, Φ, Φ_A, each P and sigma2 start here.
-    let inverse = firsts[KIND_W];
-    let square = firsts[KIND_ARCHIVED_PHI];
-    let adjusted = firsts[KIND_ARCHIVED_PHI_A];
-    let squares = firsts[KIND_ARCHIVED_P];
-    let variance = firsts[KIND_ARCHIVED_SIGMA2];
+    let inverse = firsts[RecordKind::W as usize];
+    let square = firsts[RecordKind::ArchivedPhi as usize];
+    let adjusted = firsts[RecordKind::ArchivedPhiA as usize];
+    let squares = firsts[RecordKind::ArchivedP as usize];
+    let variance = firsts[RecordKind::ArchivedSigma2 as usize];
     let w = cells_at(sheet, inverse, n, n);
     let phi = cells_at(sheet, square, p, p);
     let phi_a = cells_at(sheet, adjusted, p, p);

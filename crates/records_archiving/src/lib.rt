@@ -13,7 +13,7 @@ ghost use Rattle.records_sheet.specs.joints.Sheet.{first_slots};
 ghost use Rattle.records_refusals.specs.joints.Room.{Room, SeriesRead, SeriesShort};
 
 use arithmetic_cutoffs::{Cutoffs, document_cutoffs};
-use records::{ARCHIVE_LENGTH, KIND_PHI, KIND_SIGMA2, PANEL_LIMIT, Shape, Sizes};
+use records::{ARCHIVE_LENGTH, PANEL_LIMIT, RecordKind, Shape, Sizes};
 use records_archive_bytes::put_archive;
 use records_kenward_roger::{PANEL_CELLS, PANEL_NARROW, PANEL_WORK};
 
@@ -47,8 +47,8 @@ fn put_series(
     let blocks = records_series::blocks_of(s, z.blocks);
     let n = adjustment_covariance::blocks::places_before(blocks, z.blocks) + 1;
     // Φ and sigma2 start here.
-    let square = firsts[KIND_PHI];
-    let variance = firsts[KIND_SIGMA2];
+    let square = firsts[RecordKind::Phi as usize];
+    let variance = firsts[RecordKind::Sigma2 as usize];
     let phi = records_sheet_parts::cells_at(sheet, square, p, p);
     let sigma2 = sheet[variance];
     told(put_archive(archive, p, n, &phi, phi_a, ps, w, sigma2))

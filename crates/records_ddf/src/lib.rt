@@ -16,10 +16,7 @@ ghost use Rattle.records.specs.calls.SatterthwaiteCall.{number as fileNumber, en
 ghost use Rattle.algebra.specs.Kind.{marks};
 
 use arithmetic_cutoffs::{Cutoffs, document_cutoffs};
-use records::{
-    ENTRY_LENGTH, KIND_A, KIND_BETA, KIND_BETA_H, KIND_CONTRAST, KIND_JACOBIAN, KIND_V, Shape,
-    Sizes,
-};
+use records::{ENTRY_LENGTH, RecordKind, Shape, Sizes};
 use records_answer_bytes::put_entry;
 use records_sheet_parts::{cells_at, six_at, stack_at};
 use tests::Entry;
@@ -58,12 +55,12 @@ fn test(c: Cutoffs, sheet: &[f64], firsts: &[usize; 34], z: Sizes, refused: &mut
     let q = z.contrasts;
     let n = z.parameters;
     // β, the contrast, β_H, v, the Jacobians and A start here.
-    let estimates = firsts[KIND_BETA];
-    let contrast = firsts[KIND_CONTRAST];
-    let hypotheses = firsts[KIND_BETA_H];
-    let variance = firsts[KIND_V];
-    let jacobians = firsts[KIND_JACOBIAN];
-    let parameters = firsts[KIND_A];
+    let estimates = firsts[RecordKind::Beta as usize];
+    let contrast = firsts[RecordKind::Contrast as usize];
+    let hypotheses = firsts[RecordKind::BetaH as usize];
+    let variance = firsts[RecordKind::V as usize];
+    let jacobians = firsts[RecordKind::Jacobian as usize];
+    let parameters = firsts[RecordKind::A as usize];
     let beta = six_at(sheet, estimates, p);
     let l = cells_at(sheet, contrast, q, p);
     let beta_h = six_at(sheet, hypotheses, records_kinds::given(z.hypothesis, p));

@@ -16,10 +16,7 @@ ghost use Rattle.records_answer_text.specs.joints.Cursor.{Put, text_room};
 
 use adjustment_kr_vcov_adj::vcov_adj16_with_pw;
 use arithmetic_cutoffs::{Cutoffs, document_cutoffs};
-use records::{
-    ANSWER_LENGTH, KIND_BETA, KIND_BETA_H, KIND_BLOCK, KIND_CONTRAST, KIND_PHI, KIND_SIGMA2,
-    KIND_THETA, KIND_WEIGHT, KIND_X, KIND_Z, PANEL_LIMIT, Shape, Sizes,
-};
+use records::{ANSWER_LENGTH, PANEL_LIMIT, RecordKind, Shape, Sizes};
 use records_answer_bytes::put_answer;
 use records_answer_text::{TEXT_ROOM, put_run};
 use records_sheet_parts::{cells_at, six_at};
@@ -58,13 +55,13 @@ pub fn kenward_roger_modcomp_data(
     let squares = 6 * (n * n);
     let parts = 36 * n;
     // X, Z, the blocks, the thetas, the weights, Φ and sigma2 start here.
-    let x = firsts[KIND_X];
-    let random = firsts[KIND_Z];
-    let block = firsts[KIND_BLOCK];
-    let thetas = firsts[KIND_THETA];
-    let weights = firsts[KIND_WEIGHT];
-    let square = firsts[KIND_PHI];
-    let variance = firsts[KIND_SIGMA2];
+    let x = firsts[RecordKind::X as usize];
+    let random = firsts[RecordKind::Z as usize];
+    let block = firsts[RecordKind::Block as usize];
+    let thetas = firsts[RecordKind::Theta as usize];
+    let weights = firsts[RecordKind::Weight as usize];
+    let square = firsts[RecordKind::Phi as usize];
+    let variance = firsts[RecordKind::Sigma2 as usize];
     let weighed = weights + records_kinds::given(z.weighted, n);
     let blocks = records_series::blocks_of(s, z.blocks);
     let theta = records_sheet_parts::three_at(sheet, thetas, z.thetas);
@@ -117,11 +114,11 @@ pub fn tests_of(
     let blocks = records_series::blocks_of(s, z.blocks);
     let n = adjustment_covariance::blocks::places_before(blocks, z.blocks) + 1;
     // Φ, sigma2, β, the contrast and β_H start here.
-    let square = firsts[KIND_PHI];
-    let variance = firsts[KIND_SIGMA2];
-    let estimates = firsts[KIND_BETA];
-    let contrast = firsts[KIND_CONTRAST];
-    let hypotheses = firsts[KIND_BETA_H];
+    let square = firsts[RecordKind::Phi as usize];
+    let variance = firsts[RecordKind::Sigma2 as usize];
+    let estimates = firsts[RecordKind::Beta as usize];
+    let contrast = firsts[RecordKind::Contrast as usize];
+    let hypotheses = firsts[RecordKind::BetaH as usize];
     let phi = cells_at(sheet, square, p, p);
     let beta = six_at(sheet, estimates, p);
     let beta_h = six_at(sheet, hypotheses, records_kinds::given(z.hypothesis, p));

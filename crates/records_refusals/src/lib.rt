@@ -12,7 +12,7 @@ ghost use Rattle.records_refusals.specs.joints.Checks.{records_refusal, negative
 ghost use Rattle.records_refusals.specs.joints.Room.{Room};
 ghost use Rattle.records.specs.declared.Shape.TheVariants.{Series};
 
-use records::{KIND_CONTRAST, KIND_SIGMA2, KIND_WEIGHT, Shape, Sizes};
+use records::{RecordKind, Shape, Sizes};
 use records_block_limits::{bad_size, misfit};
 use records_series::{any_miscounted, blocks_of};
 
@@ -64,9 +64,9 @@ fn sheet_refusal(
     requires by_index { (b : ℕ) → ((block_at blocks b).effects ≤ 255) × ((block_at blocks b).groups ≤ 4294967295) }
     ensures { result ≡ sheet_refusal z blocks sheet.now }
 {
-    let variance = firsts[KIND_SIGMA2];
-    let weights = firsts[KIND_WEIGHT];
-    let contrast = firsts[KIND_CONTRAST];
+    let variance = firsts[RecordKind::Sigma2 as usize];
+    let weights = firsts[RecordKind::Weight as usize];
+    let contrast = firsts[RecordKind::Contrast as usize];
     if sheet[variance] <= 0.0 {
         return 5;
     }
@@ -114,7 +114,7 @@ pub fn refusal(w: usize, s: &[u8], flags: &mut [bool], sheet: &mut [f64]) -> u32
     }
     let firsts = records_sheet::first_slots(Shape::Series, z);
     records_sheet::fill_sheet(Shape::Series, z, &firsts, s, sheet);
-    let weights = firsts[KIND_WEIGHT];
+    let weights = firsts[RecordKind::Weight as usize];
     if all_torn(z, &sheet[..], weights) {
         return 3;
     }

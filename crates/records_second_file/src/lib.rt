@@ -9,7 +9,7 @@ ghost use Rattle.records.specs.format.File.{count};
 ghost use Rattle.records.specs.readers.SecondFile.{kinds, refusal};
 ghost use Rattle.records_sheet.specs.joints.Sheet.{sheet_after};
 
-use records::{KIND_CONTRAST, Shape};
+use records::{RecordKind, Shape};
 
 // The number with which it is refused, p being the archive's coefficients; 0 where it is not, and then the lent sheet holds its numbers. The flags are all clear at first and the sheet is all +0, with a slot
 // for every cell that the limits allow.
@@ -32,7 +32,7 @@ pub fn refusal(p: usize, t: &[u8], flags: &mut [bool], sheet: &mut [f64]) -> u32
     }
     let firsts = records_sheet::first_slots(Shape::Second, z);
     records_sheet::fill_sheet(Shape::Second, z, &firsts, t, sheet);
-    let contrast = firsts[KIND_CONTRAST];
+    let contrast = firsts[RecordKind::Contrast as usize];
     if records_contrast::zero_contrast(z, &sheet[..], contrast) {
         return 8;
     }

@@ -11,7 +11,7 @@ ghost use Rattle.records_sheet.specs.joints.Sheet.{Small, first_slots};
 ghost use Rattle.records_torn.specs.joints.Packed.{Packs, torn_at, packed_rows, kept_in, short_sheet};
 ghost use Rattle.records.specs.declared.Shape.TheVariants.{Series};
 
-use records::{KIND_WEIGHT, KIND_X, KIND_Z, Sizes};
+use records::{RecordKind, Sizes};
 
 // The `stride` numbers from `from` on are copied to `to`, which is not after them.
 fn move_row(sheet: &mut [f64], from: usize, to: usize, stride: usize)
@@ -58,9 +58,9 @@ pub fn shorten(z: Sizes, firsts: &[usize; 34], sheet: &mut [f64]) -> usize
         return n;
     }
     // X, Z and the weights start here.
-    let x = firsts[KIND_X];
-    let random = firsts[KIND_Z];
-    let weights = firsts[KIND_WEIGHT];
+    let x = firsts[RecordKind::X as usize];
+    let random = firsts[RecordKind::Z as usize];
+    let weights = firsts[RecordKind::Weight as usize];
     pack_rows(sheet, x, z.coefficients, weights, n);
     pack_rows(sheet, random, z.columns, weights, n);
     pack_rows(sheet, weights, 1, weights, n)
