@@ -15,9 +15,9 @@ pub fn scaled_up(p: usize, m: [[f64; 6]; 6], sigma2: f64) -> [[Marked; 6]; 6]
     requires { p ≤ 6 }
     ensures { result ≡ scaled_up marks p m sigma2 }
 {
-    let cells = algebra_products_marked::cells::given_cells(m, p, p);
+    let cells = algebra_products::cells::given_cells(m, p, p);
     let x = given(sigma2);
-    algebra_products_marked::times_number(cells, x, p, p)
+    algebra_products::times_number(cells, x, p, p)
 }
 
 // m divided by sigma2, as marked steps.
@@ -25,9 +25,9 @@ pub fn scaled_down(p: usize, m: [[f64; 6]; 6], sigma2: f64) -> [[Marked; 6]; 6]
     requires { p ≤ 6 }
     ensures { result ≡ scaled_down marks p m sigma2 }
 {
-    let cells = algebra_products_marked::cells::given_cells(m, p, p);
+    let cells = algebra_products::cells::given_cells(m, p, p);
     let x = given(sigma2);
-    algebra_products_marked::over_number(cells, x, p, p)
+    algebra_products::over_number(cells, x, p, p)
 }
 
 // Whether some cell is a NaN or an infinity.

@@ -9,7 +9,7 @@ ghost use Rattle.algebra.specs.Elimination.{pivot_row, factor, less_by, cleared,
 ghost use Rattle.algebra_elimination.specs.joints.BackSubstitution.{known_cell};
 ghost use Rattle.algebra_elimination.specs.joints.Parts.{singular, joined_cell};
 
-use algebra_products_marked::cells::identity;
+use algebra_products::identity;
 use arithmetic::Marked;
 use arithmetic::plain::{is_larger, is_zero};
 use arithmetic_steps::{div, mul, sub, zero_of};

@@ -11,7 +11,7 @@ ghost use Rattle.algebra_jacobi.specs.joints.Tested.{rotates, seen_after, rotate
 ghost use Rattle.algebra_jacobi.specs.joints.Starts.{mirrored_cell};
 ghost use Rattle.algebra.specs.Jacobi.{State, ratio, tangent, cosine, sine, turned_first, turned_second, turn_row, turn_columns, rotated, sweeps_to, mirrored, jacobi};
 
-use algebra_products_marked::cells::identity;
+use algebra_products::identity;
 use arithmetic::Marked;
 use arithmetic::plain::{is_zero, sign};
 use arithmetic_steps::{

@@ -4,11 +4,9 @@ use native.Mathlib.Omega.{arith}
 use native.Mathlib.Nat.{le_antisymm}
 use mathlib.Core.Path.{◌≡◌, ap, ◌∙◌}
 use mathlib.Core.List.{List}
-use Rattle.arithmetic.specs.declared.Marked.{Marked}
-use Rattle.arithmetic.specs.Marks.{also}
 use Rattle.algebra.specs.Fold.{fold}
 use Rattle.algebra.specs.Table.{table}
-use Rattle.algebra.specs.Kind.{Arith, marks, zero_of}
+use Rattle.algebra.specs.Kind.{Arith, zero_of}
 use Rattle.algebra.specs.Product.{at, sum}
 use Rattle.algebra.proofs.FoldLaws.{fold_start, fold_next, fold_end}
 
@@ -50,5 +48,5 @@ module _ {A : Type 0} (t : ℕ → ℕ → A → A) (a : A) (c : ℕ) where
 abbrev pub like_step : {A : Type 0} → Arith A → List (List A) → List (List A) → ℕ → ℕ → A → A
 like_step N a b i j s = N.plus s (N.times (at N a i j) (at N b i j))
 
-abbrev pub mark_step : List (List Marked) → ℕ → ℕ → Marked → Marked
-mark_step a i j s = also s (at marks a i j)
+abbrev pub mark_step : {A : Type 0} → Arith A → List (List A) → ℕ → ℕ → A → A
+mark_step N a i j s = N.also s (at N a i j)

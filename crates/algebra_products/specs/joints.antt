@@ -1,2 +1,3 @@
 -- Files that join code to its definitions. None is needed to check document 01.
 pub mod Terms
+pub mod CellMarks

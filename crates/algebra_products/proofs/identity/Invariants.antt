@@ -1,25 +1,21 @@
 use Prim.Native.Nat.{◌≤◌, ◌<◌, ◌-◌}
 use mathlib.Core.Path.{◌≡◌}
 use Rattle.algebra.specs.Table.{table}
-use Rattle.algebra.specs.Kind.{floats, zero_of}
+use Rattle.algebra.specs.Kind.{zero_of}
 use mathlib.Core.Bool.{cond}
 use lib.Dec.{eqb}
 use Rattle.arithmetic.specs.Numbers.{one}
-use Rattle.algebra.specs.Product.{identity}
-use Rattle.algebra.proofs.TableLaws.{table_none, Filling, filling-none, filling-more, filling-row}
-use Rattle.algebra_products.proofs.LoopLaws.{table-end}
-use borrow.Author.Rules.{rules}
-use native.Mathlib.Omega.{arith}
+use Rattle.algebra.proofs.TableLaws.{Filling}
 use Rattle.algebra_products.proofs.identity.Given as goal
 
 abbrev pub invariant-loop-j : goal.invariant-loop-j
-invariant-loop-j l = (l.i < l.n) × (l.j ≤ l.n) × Filling (zero_of floats) 6 6 (λ i j. cond (eqb i j) (floats.of one) (zero_of floats)) l.n l.i l.j l.initial.out l.out
+invariant-loop-j g l = (l.i < l.n) × (l.j ≤ l.n) × Filling (zero_of g.T.Scalar.arith) 6 6 (λ i j. cond (eqb i j) (g.T.Scalar.arith.of one) (zero_of g.T.Scalar.arith)) l.n l.i l.j l.initial.out l.out
 
 abbrev pub decreases-loop-j : goal.decreases-loop-j
-decreases-loop-j l = l.n - l.j
+decreases-loop-j g l = l.n - l.j
 
 abbrev pub invariant-loop-i : goal.invariant-loop-i
-invariant-loop-i l = (l.i ≤ l.n) × (l.out ≡ table (zero_of floats) 6 6 l.i l.n (λ i j. cond (eqb i j) (floats.of one) (zero_of floats)))
+invariant-loop-i g l = (l.i ≤ l.n) × (l.out ≡ table (zero_of g.T.Scalar.arith) 6 6 l.i l.n (λ i j. cond (eqb i j) (g.T.Scalar.arith.of one) (zero_of g.T.Scalar.arith)))
 
 abbrev pub decreases-loop-i : goal.decreases-loop-i
-decreases-loop-i l = l.n - l.i
+decreases-loop-i g l = l.n - l.i

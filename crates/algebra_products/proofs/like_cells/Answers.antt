@@ -1,28 +1,27 @@
 -- `algebra_products::like_cells` meets its contract.
-use Prim.Native.Nat.{◌≤◌, ◌<◌, ◌-◌}
-use mathlib.Core.Path.{◌≡◌, refl}
+use mathlib.Core.Path.{◌∙◌}
 use lib.Ieee.{of_bits}
-use Rattle.algebra.specs.Kind.{floats, zero_of}
 use Rattle.algebra.specs.Product.{sum_cells, like_cells}
-use Rattle.algebra.specs.Fold.{fold}
 use Rattle.algebra.proofs.FoldLaws.{fold_start, fold_next}
-use Rattle.algebra_products.proofs.LoopLaws.{like_step, rows_to, rows_none, rows_more, rows_end}
+use Rattle.algebra_products.proofs.LoopLaws.{rows_none, rows_more, rows_end}
+use Rattle.std.proofs.Common.{rules}
+use Rattle.std.proofs.lemmas.Grind.{common_steps}
 use native.Mathlib.Omega.{arith}
 use Rattle.algebra_products.proofs.like_cells.Goals as goal
 
 pub loop-i-init : goal.loop-i-init
 unfolding of_bits
-loop-i-init c = (omega arith, rows_none _ _ _)
+loop-i-init g c = (omega arith, c.of-sum.ensures ∙ rows_none _ _ _)
 
 pub loop-j-init : goal.loop-j-init
-loop-j-init c = (omega arith, omega arith, fold_start _ _ _)
+loop-j-init g c = (omega arith, omega arith, fold_start _ _ _)
 
 pub loop-j-preserved : goal.loop-j-preserved
-loop-j-preserved c = (omega arith, omega arith, fold_next _ _ _ _ _ _ (omega arith) c.loop-j.invariant.2 refl)
+loop-j-preserved g c = (omega arith, omega arith, fold_next _ _ _ _ _ _ (omega arith) c.loop-j.invariant.2 (search (rules, common_steps)))
 
 pub loop-i-preserved : goal.loop-i-preserved
-loop-i-preserved c = (omega arith, rows_more _ _ _ _ _ _ _ c.loop-i.invariant.1 c.loop-j.invariant.2 c.loop-j.invariant.1 c.loop-j-test.false)
+loop-i-preserved g c = (omega arith, rows_more _ _ _ _ _ _ _ c.loop-i.invariant.1 c.loop-j.invariant.2 c.loop-j.invariant.1 c.loop-j-test.false)
 
 pub returns : goal.returns
 unfolding like_cells sum_cells
-returns c = rows_end _ _ _ _ _ _ c.loop-i.invariant.0 c.loop-i-test.false c.loop-i.invariant.1
+returns g c = rows_end _ _ _ _ _ _ c.loop-i.invariant.0 c.loop-i-test.false c.loop-i.invariant.1

@@ -1,22 +1,19 @@
 use Prim.Native.Nat.{◌≤◌, ◌<◌, ◌-◌}
-use mathlib.Core.Path.{◌≡◌, refl}
+use mathlib.Core.Path.{◌≡◌}
 use Rattle.algebra.specs.Table.{table}
-use Rattle.algebra.specs.Kind.{floats, zero_of}
-use Rattle.algebra.specs.Product.{at, times_number}
-use Rattle.algebra.proofs.TableLaws.{table_none, Filling, filling-none, filling-more, filling-row}
-use Rattle.algebra_products.proofs.LoopLaws.{table-end}
-use borrow.Author.Rules.{rules}
-use native.Mathlib.Omega.{arith}
+use Rattle.algebra.specs.Kind.{zero_of}
+use Rattle.algebra.specs.Product.{at}
+use Rattle.algebra.proofs.TableLaws.{Filling}
 use Rattle.algebra_products.proofs.times_number.Given as goal
 
 abbrev pub invariant-loop-j : goal.invariant-loop-j
-invariant-loop-j l = (l.i < l.rows) × (l.j ≤ l.cols) × Filling (zero_of floats) 6 6 (λ i j. floats.times (at floats l.a i j) l.x) l.cols l.i l.j l.initial.out l.out
+invariant-loop-j g l = (l.i < l.rows) × (l.j ≤ l.cols) × Filling (zero_of g.T.Scalar.arith) 6 6 (λ i j. g.T.Scalar.arith.times (at g.T.Scalar.arith l.a i j) l.x) l.cols l.i l.j l.initial.out l.out
 
 abbrev pub decreases-loop-j : goal.decreases-loop-j
-decreases-loop-j l = l.cols - l.j
+decreases-loop-j g l = l.cols - l.j
 
 abbrev pub invariant-loop-i : goal.invariant-loop-i
-invariant-loop-i l = (l.i ≤ l.rows) × (l.out ≡ table (zero_of floats) 6 6 l.i l.cols (λ i j. floats.times (at floats l.a i j) l.x))
+invariant-loop-i g l = (l.i ≤ l.rows) × (l.out ≡ table (zero_of g.T.Scalar.arith) 6 6 l.i l.cols (λ i j. g.T.Scalar.arith.times (at g.T.Scalar.arith l.a i j) l.x))
 
 abbrev pub decreases-loop-i : goal.decreases-loop-i
-decreases-loop-i l = l.rows - l.i
+decreases-loop-i g l = l.rows - l.i

@@ -5,8 +5,8 @@ use Rattle.algebra_products.proofs.unit_cell.Goals as goal
 
 pub returns-then-i-j : goal.returns-then-i-j
 unfolding of_bits
-returns-then-i-j c = rw (eq-eqb _ _ c.if-i-j.true)
+returns-then-i-j g c = rw (c.of.ensures, eq-eqb _ _ c.if-i-j.true)
 
 pub returns : goal.returns
 unfolding of_bits
-returns c = rw (ne_eqb _ _ c.if-i-j.false)
+returns g c = rw (c.of-2.ensures, ne_eqb _ _ c.if-i-j.false)

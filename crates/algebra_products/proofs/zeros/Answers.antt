@@ -1,9 +1,8 @@
 -- `algebra_products::zeros` meets its contract.
-use mathlib.Core.Path.{refl}
 use lib.Ieee.{of_bits}
 use Rattle.algebra.specs.Table.{blank}
 use Rattle.algebra_products.proofs.zeros.Goals as goal
 
 pub returns : goal.returns
 unfolding blank of_bits
-returns c = refl
+returns g c = rw c.of.ensures

@@ -1,2 +1,0 @@
--- The laws of the marked products' own steps.
-pub mod CellMarkLaws

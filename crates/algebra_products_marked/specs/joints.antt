@@ -1,2 +1,0 @@
--- Files that join code to its definitions. None is needed to check document 01.
-pub mod CellMarks
