@@ -1,5 +1,6 @@
 -- Laws of questions over records, of cells and their slots, of the order, and of a written file.
 pub mod ScanLaws
+pub mod RangeScans
 pub mod Slots
 pub mod WrittenLaws
 pub mod CellLaws

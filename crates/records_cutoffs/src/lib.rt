@@ -46,17 +46,7 @@ fn bad_cutoff(table: &[u8], i: usize) -> bool
 pub fn bad_table(table: &[u8]) -> bool
     ensures { result ≡ bad_table table.now }
 {
-    if table.len() != 144 {
-        return true;
-    }
-    let mut i = 0;
-    while i < 9 {
-        if bad_cutoff(table, i) {
-            return true;
-        }
-        i += 1;
-    }
-    false
+    table.len() != 144 || (0..9).any(|i| bad_cutoff(table, i))
 }
 
 // The nine numbers of a table of that length.

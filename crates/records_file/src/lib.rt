@@ -9,7 +9,7 @@ ghost use Rattle.records.specs.format.File.{count, kind_of, row_of, column_of, p
 pub fn index(x: u8) -> usize
     ensures { (result ≡ x) × (result < 256) }
 {
-    x as usize
+    usize::from(x)
 }
 
 // The fields of record i.
@@ -88,13 +88,5 @@ fn not_finite(s: &[u8], i: usize) -> bool
 pub fn any_not_finite(s: &[u8]) -> bool
     ensures { result ≡ any (count s.now) (not_finite s.now) }
 {
-    let n = s.len() / 16;
-    let mut i = 0;
-    while i < n {
-        if not_finite(s, i) {
-            return true;
-        }
-        i += 1;
-    }
-    false
+    (0..s.len() / 16).any(|i| not_finite(s, i))
 }

@@ -49,16 +49,13 @@ pub fn key_at(s: &[u8], i: usize) -> u64
 pub fn falls(s: &[u8]) -> bool
     ensures { result ≡ falls s.now }
 {
-    let n = s.len() / 16;
     let mut least: u64 = 0;
-    let mut i = 0;
-    while i < n {
+    for i in 0..s.len() / 16 {
         let key = key_at(s, i);
         if key < least {
             return true;
         }
         least = key + 1;
-        i += 1;
     }
     false
 }

@@ -19,43 +19,23 @@ fn is_block(s: &[u8], b: usize, i: usize) -> bool
     records_file::row_at(s, i) == b
 }
 
-fn effects_of(s: &[u8], b: usize) -> usize
-    ensures { (result ≡ (block_of s.now b).effects) × (result ≤ 255) }
-{
-    let n = s.len() / 16;
-    let mut v: usize = 0;
-    let mut i = 0;
-    while i < n {
-        if is_block(s, b, i) {
-            v = records_file::column_at(s, i);
-        }
-        i += 1;
-    }
-    v
-}
-
-fn groups_of(s: &[u8], b: usize) -> usize
-    ensures { (result ≡ (block_of s.now b).groups) × (result ≤ 4294967295) }
-{
-    let n = s.len() / 16;
-    let mut v: usize = 0;
-    let mut i = 0;
-    while i < n {
-        if is_block(s, b, i) {
-            v = records_file::count_at(s, i);
-        }
-        i += 1;
-    }
-    v
-}
-
+// Block b, by the last record that is of it.
 pub fn block_of(s: &[u8], b: usize) -> adjustment::Block
     ensures { (result ≡ block_of s.now b) × (result.effects ≤ 255) × (result.groups ≤ 4294967295) }
 {
-    adjustment::Block {
-        effects: effects_of(s, b),
-        groups: groups_of(s, b),
+    let mut block = adjustment::Block {
+        effects: 0,
+        groups: 0,
+    };
+    for i in 0..s.len() / 16 {
+        if is_block(s, b, i) {
+            block = adjustment::Block {
+                effects: records_file::column_at(s, i),
+                groups: records_file::count_at(s, i),
+            };
+        }
     }
+    block
 }
 
 // The first n blocks.
@@ -67,10 +47,8 @@ pub fn blocks_of(s: &[u8], n: usize) -> [adjustment::Block; 3]
         effects: 0,
         groups: 0,
     }; 3];
-    let mut b = 0;
-    while b < n {
+    for b in 0..n {
         blocks[b] = block_of(s, b);
-        b += 1;
     }
     blocks
 }
@@ -91,13 +69,5 @@ fn miscounted(s: &[u8], i: usize) -> bool
 pub fn any_miscounted(s: &[u8]) -> bool
     ensures { result ≡ any (count s.now) (miscounted s.now) }
 {
-    let n = s.len() / 16;
-    let mut i = 0;
-    while i < n {
-        if miscounted(s, i) {
-            return true;
-        }
-        i += 1;
-    }
-    false
+    (0..s.len() / 16).any(|i| miscounted(s, i))
 }

@@ -1,5 +1,4 @@
 -- `records_file::value_at` meets its contract.
-use borrow.Author.Rules.{rules}
 use Rattle.records_file.proofs.value_at.Goals as goal
 
 pub returns : goal.returns

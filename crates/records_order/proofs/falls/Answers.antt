@@ -1,7 +1,5 @@
 -- `records_order::falls` meets its contract.
-use Prim.Native.Nat.{◌≤◌, ◌-◌}
 use mathlib.Core.Path.{◌≡◌, refl, sym, ◌∙◌}
-use mathlib.Core.Bool.{false}
 use native.Mathlib.Omega.{arith}
 use Rattle.records.specs.format.Scan.{any}
 use Rattle.records.specs.format.File.{count}
@@ -12,13 +10,13 @@ use Rattle.records_order.proofs.falls.Goals as goal
 
 pub loop-i-init : goal.loop-i-init
 unfolding any least_key
-loop-i-init c = (refl, omega arith, refl, refl)
+loop-i-init c = (refl, refl)
 
 pub returns-then-key-least : goal.returns-then-key-least
 returns-then-key-least c =
     let s = c.args.s.now in
     let i = c.loop-i.i in
-    let e = fall-here s i c.key_at-key.result c.loop-i.least c.key_at-key.ensures.0 c.loop-i.invariant.2 (omega arith) in
+    let e = fall-here s i c.key_at-key.result c.loop-i.least c.key_at-key.ensures.0 c.loop-i.invariant.0 (omega arith) in
     sym (falls-each s (λ j. omega (arith, c.type_inv.s j)) ∙ any-hit (count s) (falls_at s) i (omega arith) e)
 
 pub loop-i-preserved : goal.loop-i-preserved
@@ -26,11 +24,11 @@ loop-i-preserved c =
     let s = c.args.s.now in
     let i = c.loop-i.i in
     let key = c.key_at-key.result in
-    let e = rise-here s i key c.loop-i.least c.key_at-key.ensures.0 c.loop-i.invariant.2 (omega arith) in
-    (refl, omega arith, next-least s i key c.key_at-key.ensures.0, any-miss i (falls_at s) c.loop-i.invariant.3 e)
+    let e = rise-here s i key c.loop-i.least c.key_at-key.ensures.0 c.loop-i.invariant.0 (omega arith) in
+    (next-least s i key c.key_at-key.ensures.0, any-miss i (falls_at s) c.loop-i.invariant.1 e)
 
 pub returns : goal.returns
 returns c =
     let s = c.args.s.now in
     let e : c.loop-i.i ≡ count s = omega arith in
-    sym (falls-each s (λ j. omega (arith, c.type_inv.s j)) ∙ (rw (← e) c.loop-i.invariant.3))
+    sym (falls-each s (λ j. omega (arith, c.type_inv.s j)) ∙ (rw (← e) c.loop-i.invariant.1))

@@ -1,7 +1,6 @@
 -- `records_order::key_at` meets its contract.
 use native.Mathlib.Omega.{arith}
 use Rattle.records_order.specs.joints.Keys.{key_of}
-use borrow.Author.Rules.{rules}
 use Rattle.records_order.proofs.key_at.Goals as goal
 
 pub returns : goal.returns

@@ -4,7 +4,6 @@ use mathlib.Core.Bool.{true, false}
 use native.Mathlib.Omega.{arith}
 use Rattle.records.specs.format.File.{kind_of}
 use Rattle.records.specs.format.Order.{numbers_matrix, matrix_of}
-use borrow.Author.Rules.{rules}
 use Rattle.records_order.proofs.matrix_at.Goals as goal
 
 pub returns-then-numbers_matrix : goal.returns-then-numbers_matrix

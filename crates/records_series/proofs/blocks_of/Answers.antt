@@ -15,15 +15,15 @@ use Rattle.records_series.proofs.blocks_of.Goals as goal
 
 pub loop-b-init : goal.loop-b-init
 unfolding row
-loop-b-init c = (omega arith, c.requires, fold_start 0 (λ k ys. set ys k (block_of c.args.s.now k)) (replicate 3 no_block), none-bounded)
+loop-b-init c = (fold_start 0 (λ k ys. set ys k (block_of c.args.s.now k)) (replicate 3 no_block), none-bounded)
 
 pub block_of-requires : goal.block_of-requires
 block_of-requires c = tt
 
 pub loop-b-preserved : goal.loop-b-preserved
 unfolding row
-loop-b-preserved c = (omega arith, omega arith, fold_next 0 c.loop-b.b (λ k ys. set ys k (block_of c.args.s.now k)) (replicate 3 no_block) c.loop-b.blocks _ (omega arith) c.loop-b.invariant.2 (ap (set c.loop-b.blocks c.loop-b.b) c.block_of.ensures.0), set-bounded c.loop-b.blocks c.loop-b.b c.block_of.result (c.block_of.ensures.1, c.block_of.ensures.2) c.loop-b.invariant.3)
+loop-b-preserved c = (fold_next 0 c.loop-b.b (λ k ys. set ys k (block_of c.args.s.now k)) (replicate 3 no_block) c.loop-b.blocks _ (omega arith) c.loop-b.invariant.0 (ap (set c.loop-b.blocks c.loop-b.b) c.block_of.ensures.0), set-bounded c.loop-b.blocks c.loop-b.b c.block_of.result (c.block_of.ensures.1, c.block_of.ensures.2) c.loop-b.invariant.1)
 
 pub returns : goal.returns
 unfolding row
-returns c = (fold_end 0 c.loop-b.b c.args.n (λ k ys. set ys k (block_of c.args.s.now k)) (replicate 3 no_block) c.loop-b.blocks (omega arith) (omega arith) c.loop-b.invariant.2, c.loop-b.invariant.3)
+returns c = (fold_end 0 c.loop-b.b c.args.n (λ k ys. set ys k (block_of c.args.s.now k)) (replicate 3 no_block) c.loop-b.blocks (omega arith) (omega arith) c.loop-b.invariant.0, c.loop-b.invariant.1)
