@@ -8,7 +8,7 @@ use Rattle.arithmetic.specs.declared.Marked.{Marked}
 use Rattle.arithmetic.specs.Numbers.{is_zero}
 use Rattle.arithmetic.specs.Marks.{Mark, no_mark, join_marks, own_mark, in_range, step_mark, lost_product, reported, product_mark, marked_add, marked_mul}
 use Rattle.arithmetic.proofs.Operations.{Zero}
-use Rattle.arithmetic.proofs.RangeTest.{zero-of-test, zero-range}
+use Rattle.arithmetic.proofs.RangeTest.{zero-range}
 
 -- ---- a join
 pub record Join {M : Type 0} (none : M) (join : M → M → M) : Type 0 where

@@ -3,20 +3,20 @@ use mathlib.Core.Path.{◌≡◌, refl, sym, ap, ◌∙◌, subst}
 use Prim.Native.Nat.{ℕ, zero, suc, ◌+◌, ◌-◌, ◌*◌, ◌/◌, ◌%◌, ◌^◌, ◌≤◌, ◌<◌, compare}
 use native.Mathlib.Nat.{le_trans, le_of_eq, le_of_lt, lt_of_lt_of_le, lt_of_le_of_lt, mul_assoc, mul_comm, mul_left_comm, mul-one, one-mul, mul-pos, mul-le-mul_right, eq_of_mul-eq-mul_right, zero-lt-suc, lt_irrefl, zero-mul, mul-sub, div-div-eq-div-mul, le-div_iff_mul-le}
 use native.Mathlib.Omega.{arith}
-use mathlib.Core.Bool.{Bool, true, false, not, ◌&&◌, ◌||◌, beq, cond}
+use mathlib.Core.Bool.{Bool, true, false, not, ◌&&◌, beq, cond}
 use mathlib.Core.Logic.{◌⊎◌, inl, inr}
 use lib.IntN.{ℤ, pos, negsuc, neg_ℤ, ◌+ℤ◌, ◌-ℤ◌}
-use lib.Dec.{T, ltb, leb, eqb, ltb→lt, lt→ltb, nltb→le, eqb→eq, leb→le}
+use lib.Dec.{T, ltb, leb, eqb, leb→le}
 use lib.Pow.{pow-add, pow_pos, pow_mono}
 use lib.Ieee.{Float, nan, inf, fin, Format, binary32, binary64, prec, emax, low, up, down, size, round, units, fits, neg, sum, add, sub, mul, div, unlike}
 use lib.Ieee.Exact.{HasValue}
 use lib.Ieee.Fits.{up_pos, down_pos, and_l, and_r, round_is, round-fits}
-use lib.Ieee.Nearest.{closest, nearest-ge}
+use lib.Ieee.Nearest.{nearest-ge}
 use lib.Ieee.Order.{drop, kept}
 use lib.Ieee.Scale.{grid, round_same}
 use Rattle.arithmetic.specs.Scale.{scale, shift_exp}
-use Rattle.arithmetic.proofs.ScaleLaws.{cross, up-add, ltb-same, scale-neg, G, W, G-pos, W-pos, left, right}
-use Rattle.arithmetic.proofs.Rounding.{fits-written, pow_le_back, Written, Within, Normal, round-scaled, round_val, round_under}
+use Rattle.arithmetic.proofs.ScaleLaws.{cross, up-add, ltb-same, scale-neg, G, left, right}
+use Rattle.arithmetic.proofs.Rounding.{fits-written, pow_le_back, Normal, round-scaled}
 
 -- x is a zero
 abbrev pub Zero : Float → Type 0

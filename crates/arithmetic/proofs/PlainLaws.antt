@@ -8,8 +8,8 @@ use lib.IntN.{ℤ, pos}
 use lib.Dec.{T, ltb, ltb→lt, lt→ltb, not_T}
 use lib.Ieee.{Float, nan, inf, fin, binary64, up, down, lt, eq, ne, le, neg, fits, is_nan, nan_bits, of_bits, to_bits}
 use lib.Ieee.Fits.{up_pos, of_int-fits}
-use lib.Ieee.Bits.{is_true, is_false, nan_bits_is, nan_bits_above}
-use lib.Ieee.Compare.{differs_from_itself, nan_differs}
+use lib.Ieee.Bits.{is_true, nan_bits_is, nan_bits_above}
+use lib.Ieee.Compare.{differs_from_itself}
 use lib.Ieee.Exact.{HasValue}
 use lib.Ieee.Back.{round_whole}
 use Rattle.arithmetic.specs.Numbers.{plus_zero, one, minus_one, magnitude, is_zero, is_finite, sign, is_larger, of_count}

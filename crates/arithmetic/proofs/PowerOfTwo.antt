@@ -1,17 +1,16 @@
 -- Scaling by 2 ^ u is multiplication by the f64 2 ^ u, wherever the result is a value of the format: where it is normal, and also where a subnormal holds it exactly.
-use mathlib.Core.Path.{◌≡◌, refl, sym, ap, ◌∙◌, subst}
-use Prim.Native.Nat.{ℕ, zero, suc, ◌+◌, ◌-◌, ◌*◌, ◌/◌, ◌%◌, ◌^◌, ◌≤◌, ◌<◌}
+use mathlib.Core.Path.{◌≡◌, refl, sym, ap, ◌∙◌}
+use Prim.Native.Nat.{ℕ, zero, suc, ◌+◌, ◌-◌, ◌*◌, ◌%◌, ◌^◌, ◌≤◌, ◌<◌}
 use native.Mathlib.Nat.{mul-one, one-mul, mul-pos, mul_assoc, mul_comm, mul_left_comm, mul-lt-mul_of_pos_right, lt_of_mul-lt-mul_right, lt_irrefl, zero-lt-suc, zero-mul, eq_of_mul-eq-mul_right, le_trans, le_of_eq, lt_of_lt_of_le, lt_of_le_of_lt, lt_of_not-le, le_of_suc-le-suc, mul-le-mul_right}
 use native.Mathlib.Omega.{arith}
-use mathlib.Core.Bool.{Bool, true, false, not, ◌&&◌}
-use mathlib.Core.Logic.{◌⊎◌, inl, inr}
+use mathlib.Core.Bool.{Bool, true, false, ◌&&◌}
 use lib.IntN.{ℤ, pos, negsuc, nat_abs, ◌+ℤ◌}
 use lib.Dec.{T, ltb, leb, eqb, ltb→lt, leb→le, lt→ltb, le→leb, lit≤}
 use lib.Pow.{pow-add, pow_pos, pow_mono, pow-lt}
 use lib.Ieee.{Float, nan, inf, fin, Format, binary64, prec, emax, low, up, down, round, fits, mul, unlike}
 use lib.Ieee.Fits.{up_pos, down_pos, and_l, and_r, and_i, round-fits}
-use lib.Ieee.Exact.{HasValue, round_exact}
-use Rattle.arithmetic.specs.Scale.{scale, shift_exp, power_of_two}
+use lib.Ieee.Exact.{round_exact}
+use Rattle.arithmetic.specs.Scale.{scale, power_of_two}
 use Rattle.arithmetic.proofs.ScaleLaws.{cross}
 use Rattle.arithmetic.proofs.Rounding.{fits-written, unique, pow_le_back, Within}
 use Rattle.arithmetic.proofs.Operations.{round-zero}

@@ -1,17 +1,17 @@
 -- The mark's test as the code makes it, by comparisons of the number itself with both ends and their negatives, is the test of the definition.
-use mathlib.Core.Path.{◌≡◌, refl, sym, ap, ◌∙◌, subst}
-use Prim.Native.Nat.{ℕ, zero, suc, ◌+◌, ◌*◌, ◌^◌, ◌≤◌, ◌<◌}
+use mathlib.Core.Path.{◌≡◌, refl, sym, ap, ◌∙◌}
+use Prim.Native.Nat.{ℕ, ◌+◌, ◌*◌, ◌^◌, ◌<◌}
 use native.Mathlib.Nat.{lt_of_le_of_lt, lt_of_lt_of_le, le_of_eq, le-add_right, mul-pos}
-use mathlib.Core.Bool.{Bool, true, false, not, ◌&&◌, ◌||◌}
+use mathlib.Core.Bool.{Bool, true, false, ◌&&◌, ◌||◌}
 use mathlib.Core.Logic.{◌⊎◌, inl, inr}
 use native.Mathlib.Omega.{arith}
-use lib.IntN.{ℤ, pos, negsuc}
+use lib.IntN.{ℤ}
 use lib.Dec.{T, ltb, eqb, eqb→eq, lt→ltb, not_T}
 use lib.Pow.{pow_pos}
 use lib.Ieee.{Float, nan, inf, fin, up, down, lt, le, eq, neg}
 use lib.Ieee.Bits.{is_true, is_false}
 use lib.Ieee.Fits.{down_pos, and_i, and_l, and_r, eq→eqb}
-use Rattle.arithmetic.specs.Numbers.{plus_zero, magnitude, is_zero}
+use Rattle.arithmetic.specs.Numbers.{magnitude, is_zero}
 use Rattle.arithmetic.specs.Marks.{least, limit, in_range}
 use Rattle.arithmetic.proofs.RangeTest.{or_cases, or_left, or_right, zero-of-test}
 

@@ -1,17 +1,17 @@
 -- What the mark's test, by comparison of magnitudes, says: a zero, or between 2 ^ -800 and 2 ^ 801; and so a binary exponent from -800 to 800, ends included.
 use mathlib.Core.Path.{◌≡◌, refl, sym, ap, ◌∙◌, subst}
-use Prim.Native.Nat.{ℕ, zero, suc, ◌+◌, ◌-◌, ◌*◌, ◌^◌, ◌≤◌, ◌<◌}
+use Prim.Native.Nat.{ℕ, zero, suc, ◌-◌, ◌*◌, ◌^◌, ◌≤◌, ◌<◌}
 use native.Mathlib.Nat.{le_trans, le_of_eq, le_of_lt, lt_of_lt_of_le, lt_of_le_of_lt, mul_assoc, mul_comm, mul-one, one-mul, mul-pos, mul-le-mul_right, mul-le-mul_left, mul-lt-mul_of_pos_right, lt_of_mul-lt-mul_right, eq_of_mul-eq-mul_right, zero-lt-suc, lt_irrefl, zero-mul, lt_of_not-le, not-le_of_lt, le_of_suc-le-suc}
 use native.Mathlib.Omega.{arith}
-use mathlib.Core.Bool.{Bool, true, false, not, ◌&&◌, ◌||◌, beq}
+use mathlib.Core.Bool.{Bool, true, false, ◌&&◌, ◌||◌, beq}
 use mathlib.Core.Logic.{◌⊎◌, inl, inr}
 use lib.IntN.{ℤ, pos, negsuc, suc_ℤ, nat_abs, ◌+ℤ◌, +ℤ-suc_ℤ}
-use lib.Dec.{T, ltb, leb, eqb, ltb→lt, lt→ltb, nltb→le, eqb→eq, lit≤}
-use lib.Pow.{pow_pos, pow_mono, pow-lt}
+use lib.Dec.{T, ltb, eqb, ltb→lt, lt→ltb, eqb→eq, lit≤}
+use lib.Pow.{pow_pos, pow_mono}
 use lib.Ieee.{Float, nan, inf, fin, binary64, up, down, size, lt, le, eq}
 use lib.Ieee.Digits.{size-lt, size_reaches}
 use lib.Ieee.Fits.{up_pos, down_pos, and_l, and_r, and_i, eq→eqb}
-use Rattle.arithmetic.specs.Numbers.{plus_zero, magnitude, is_zero}
+use Rattle.arithmetic.specs.Numbers.{magnitude, is_zero}
 use Rattle.arithmetic.specs.Scale.{HasExponent}
 use Rattle.arithmetic.specs.Marks.{least, limit, in_range}
 use Rattle.arithmetic.proofs.ScaleLaws.{up-add}

@@ -1,18 +1,15 @@
 -- Ranges of magnitudes, in units of the format's smallest value, and the shifts that they bear: over the format and the range.
-use mathlib.Core.Path.{◌≡◌, refl, sym, ap, ◌∙◌, subst}
-use Prim.Native.Nat.{ℕ, zero, suc, ◌+◌, ◌-◌, ◌*◌, ◌/◌, ◌%◌, ◌^◌, ◌≤◌, ◌<◌}
-use native.Mathlib.Nat.{le_trans, le_of_eq, le_of_lt, lt_of_lt_of_le, lt_of_le_of_lt, mul_assoc, mul_comm, mul-one, one-mul, mul-pos, mul-le-mul_right, mul-le-mul_left, mul-lt-mul_of_pos_right, le_of_mul-le-mul_right, lt_of_mul-lt-mul_right, eq_of_mul-eq-mul_right, zero-lt-suc, lt_irrefl, zero-mul}
+use mathlib.Core.Path.{◌≡◌, sym, ap}
+use Prim.Native.Nat.{ℕ, zero, suc, ◌+◌, ◌*◌, ◌^◌, ◌≤◌, ◌<◌}
+use native.Mathlib.Nat.{le_trans, le_of_eq, lt_of_lt_of_le, lt_of_le_of_lt, mul-one, mul-pos, mul-le-mul_right, mul-lt-mul_of_pos_right, le_of_mul-le-mul_right, lt_of_mul-lt-mul_right}
 use native.Mathlib.Omega.{arith}
-use mathlib.Core.Bool.{Bool, true, false, not, ◌&&◌, ◌||◌, beq, cond}
-use mathlib.Core.Logic.{◌⊎◌, inl, inr}
-use lib.IntN.{ℤ, pos, negsuc, neg_ℤ, nat_abs, ◌+ℤ◌, ◌-ℤ◌}
-use lib.Dec.{T, ltb, leb, eqb, ltb→lt, lt→ltb, nltb→le, eqb→eq, leb→le, lit≤}
-use lib.Pow.{pow-add, pow_pos, pow_mono}
-use lib.Ieee.{Float, nan, inf, fin, Format, binary64, prec, emax, low, up, down, fits, neg, add, sub, mul, div, lt, le, eq}
-use lib.Ieee.Fits.{up_pos, down_pos, and_l, and_r, and_i, eq→eqb, add-fits, sub-fits, mul-fits, div-fits}
+use lib.IntN.{ℤ, pos, negsuc, nat_abs}
+use lib.Pow.{pow-add, pow_mono}
+use lib.Ieee.{Float, nan, inf, fin, Format, prec, emax, low, up, down}
+use lib.Ieee.Fits.{up_pos, down_pos}
 use Rattle.arithmetic.specs.Scale.{scale, shift_exp}
 use Rattle.arithmetic.proofs.ScaleLaws.{cross}
-use Rattle.arithmetic.proofs.Rounding.{Within, Normal}
+use Rattle.arithmetic.proofs.Rounding.{Within}
 use Rattle.arithmetic.proofs.Operations.{Zero, Safe}
 
 -- ---- from 2 ^ L to 2 ^ H units, scaled by 2 ^ u

@@ -1,11 +1,11 @@
 -- A guess of a root that is checked: what its square leaves, from the squares of its halves, and when it is the root.
-use mathlib.Core.Path.{◌≡◌, refl, sym, ap, ◌∙◌, subst}
-use Prim.Native.Nat.{ℕ, zero, suc, ◌+◌, ◌-◌, ◌*◌, ◌/◌, ◌%◌, ◌^◌, ◌≤◌, ◌<◌}
+use mathlib.Core.Path.{◌≡◌, subst}
+use Prim.Native.Nat.{ℕ, ◌+◌, ◌-◌, ◌*◌, ◌/◌, ◌%◌, ◌^◌, ◌≤◌, ◌<◌}
 use native.Mathlib.Nat.{mul-le-mul, div-add-mod'}
 use native.Mathlib.Omega.{arith}
 use lib.Pow.{shl_lt}
 use Rattle.arithmetic.specs.SquareRoot.{whole_root}
-use Rattle.arithmetic.proofs.RootWhole.{Roots, root-roots, roots-unique}
+use Rattle.arithmetic.proofs.RootWhole.{root-roots, roots-unique}
 
 -- the product of two halves has 54 digits
 pub halves : (x y : ℕ) → x < 2 ^ 27 → y < 2 ^ 27 → x * y < 2 ^ 54

@@ -1,20 +1,18 @@
 -- The theorem that the square root is correctly rounded, for every positive finite argument (`CorrectlyRounded` says what that means), and that no tie occurs.
 use mathlib.Core.Path.{◌≡◌, refl, sym, ap, ◌∙◌, subst}
 use Prim.Native.Nat.{ℕ, zero, suc, ◌+◌, ◌-◌, ◌*◌, ◌/◌, ◌%◌, ◌^◌, ◌≤◌, ◌<◌}
-use native.Mathlib.Nat.{lt_irrefl, lt_of_lt_of_le, le_of_lt, mul-one, one-mul, mul-pos, mul_assoc, mul_comm, eq_of_mul-eq-mul_right, zero-lt-suc, mul-mod_left}
+use native.Mathlib.Nat.{lt_irrefl, lt_of_lt_of_le, le_of_lt, mul-pos, mul_assoc, eq_of_mul-eq-mul_right, zero-lt-suc, mul-mod_left}
 use native.Mathlib.Omega.{arith}
-use mathlib.Core.Bool.{Bool, true, false, cond}
-use lib.IntN.{ℤ, pos, negsuc, neg_ℤ, pred_ℤ, ◌+ℤ◌, ◌-ℤ◌, +ℤ_assoc, +ℤ_comm, +ℤ_idr, +ℤ-pred_ℤ, pred_ℤ-+ℤ}
+use mathlib.Core.Bool.{false}
+use lib.IntN.{ℤ, pos, negsuc, pred_ℤ, ◌+ℤ◌, ◌-ℤ◌, +ℤ_assoc, +ℤ_idr, +ℤ-pred_ℤ, pred_ℤ-+ℤ}
 use lib.Dec.{T}
 use lib.Pow.{pow-add, pow_pos, pow_mono}
 use lib.Ieee.{Float, fin, binary64, up, down, round, fits}
-use lib.Ieee.Fits.{up_pos, down_pos}
-use lib.Ieee.Exact.{HasValue}
+use lib.Ieee.Fits.{down_pos}
 use lib.Ieee.Back.{round_whole}
-use Rattle.arithmetic.specs.Scale.{scale}
 use Rattle.arithmetic.proofs.ScaleLaws.{scale-val, up-add}
 use Rattle.arithmetic.proofs.PowerOfTwo.{fits-parts}
-use Rattle.arithmetic.specs.SquareRoot.{half, parity, missing_digits, radicand, rounded, square_root, Near, Full}
+use Rattle.arithmetic.specs.SquareRoot.{half, parity, missing_digits, radicand, rounded, square_root, Full}
 use Rattle.arithmetic.proofs.RootWhole.{swap, half_down, parity-down, rounded-nearest}
 use Rattle.arithmetic.proofs.RootPatterns.{full-of, rounded-full, less-up}
 use Rattle.arithmetic.specs.SquareRoot.{CorrectlyRounded}

@@ -3,26 +3,25 @@ use mathlib.Core.Path.{◌≡◌, refl, sym, ap, ◌∙◌, subst}
 use Prim.Native.Nat.{ℕ, zero, suc, ◌+◌, ◌-◌, ◌*◌, ◌/◌, ◌%◌, ◌^◌, ◌≤◌, ◌<◌}
 use native.Mathlib.Nat.{le_trans, le_of_eq, le_of_lt, lt_of_lt_of_le, lt_of_le_of_lt, lt_of_not-le, not-le_of_lt, lt_irrefl, le_antisymm, le_of_suc-le-suc, mul-one, one-mul, mul-pos, mul_assoc, mul_comm, mul-le-mul, mul-le-mul_right, mul-lt-mul_of_pos_right, eq_of_mul-eq-mul_right, zero-lt-suc, zero-mul, div-lt_iff_lt-mul, pow-suc, eq-or-lt_of_le}
 use native.Mathlib.Omega.{arith}
-use mathlib.Core.Bool.{Bool, true, false, not, ◌&&◌, cond}
-use mathlib.Core.Logic.{◌⊎◌, inl, inr}
-use lib.IntN.{ℤ, pos, negsuc, neg_ℤ, sub_ℕ, ◌+ℤ◌, ◌-ℤ◌, +ℤ_assoc, +ℤ_comm, +ℤ_idr, -ℤ-+ℤ_cancel}
+use mathlib.Core.Bool.{Bool, false, not, cond}
+use lib.IntN.{ℤ, pos, negsuc, neg_ℤ, sub_ℕ, ◌+ℤ◌, ◌-ℤ◌, +ℤ_assoc, -ℤ-+ℤ_cancel}
 use lib.Dec.{T, ltb, leb, eqb, ltb→lt, nltb→le, leb→le, nleb→lt}
-use lib.Pow.{pow-add, pow_pos, pow_mono, pow-lt, shl_lt, shl_exact}
+use lib.Pow.{pow-add, pow_pos, pow_mono, shl_exact}
 use lib.Count.{count_leading_zeros, leading_top}
-use lib.Ieee.{Float, nan, inf, fin, Format, binary64, up, down, size, round, fits, odd, of_bits, of_fields, nan_bits, ones, hid, top}
-use lib.Ieee.Fits.{up_pos, down_pos, round-fits}
+use lib.Ieee.{Float, nan, inf, fin, binary64, up, down, size, round, fits, odd, of_bits, of_fields, nan_bits, ones, hid, top}
+use lib.Ieee.Fits.{down_pos, round-fits}
 use lib.Ieee.Exact.{HasValue, odd_sign}
 use lib.Ieee.Digits.{size-lt, size_reaches, size-le}
 use lib.Ieee.Back.{round_whole}
 use lib.Ieee.Bits.{of_bits-fits, cond_no, is_false, nan_bits_above}
 use Rattle.arithmetic.specs.Scale.{scale}
-use Rattle.arithmetic.proofs.ScaleLaws.{scale-scale, scale-val, sub_val, up-add}
-use Rattle.arithmetic.proofs.Rounding.{Written, unique, fits-written, scale-written}
+use Rattle.arithmetic.proofs.ScaleLaws.{scale-val, sub_val, up-add}
+use Rattle.arithmetic.proofs.Rounding.{unique, fits-written, scale-written}
 use Rattle.arithmetic.proofs.Operations.{size-pos, up_neg, down-neg}
 use Rattle.arithmetic.proofs.PowerOfTwo.{fits-parts}
 use Rattle.arithmetic.specs.SquareRoot.{whole_root, half, parity, missing_digits, radicand, rounded, root_at, square_root}
-use Rattle.arithmetic.proofs.RootWhole.{Roots, root-roots, roots-unique, below, half-add}
-use Rattle.arithmetic.specs.joints.RootPattern.{lead, expo, pattern, root_pattern, root_bits}
+use Rattle.arithmetic.proofs.RootWhole.{root-roots, below, half-add}
+use Rattle.arithmetic.specs.joints.RootPattern.{lead, expo, pattern, root_bits}
 use Rattle.arithmetic.specs.SquareRoot.{Full}
 
 no_shift : (M N a b : ℕ) → Full M → Full N → M * 2 ^ a ≡ N * 2 ^ b → a < b → ⊥

@@ -1,14 +1,12 @@
 -- The whole part of a root, half of an exponent, and the nearest: what the square root rests on; and that it goes with scaling.
 use mathlib.Core.Path.{◌≡◌, refl, sym, ap, ◌∙◌, subst}
 use Prim.Native.Nat.{ℕ, zero, suc, ◌+◌, ◌-◌, ◌*◌, ◌/◌, ◌%◌, ◌^◌, ◌≤◌, ◌<◌}
-use native.Mathlib.Nat.{le_trans, le_of_eq, le_of_lt, lt_of_lt_of_le, lt_of_le_of_lt, lt_of_not-le, not-le_of_lt, lt_irrefl, le_antisymm, le_of_suc-le-suc, mul-one, one-mul, mul-pos, mul_assoc, mul_comm, mul-le-mul, mul-le-mul_right, mul-lt-mul_of_pos_right, zero-lt-suc, zero-mul, div-lt_iff_lt-mul, pow-suc, div-add-mod', mod-lt}
+use native.Mathlib.Nat.{le_trans, le_of_eq, lt_of_lt_of_le, lt_of_le_of_lt, lt_of_not-le, lt_irrefl, le_antisymm, le_of_suc-le-suc, mul-le-mul, zero-lt-suc, div-lt_iff_lt-mul, pow-suc}
 use native.Mathlib.Omega.{arith}
-use mathlib.Core.Bool.{Bool, true, false, not, ◌&&◌, cond}
-use lib.IntN.{ℤ, pos, negsuc, neg_ℤ, suc_ℤ, pred_ℤ, ◌+ℤ◌, ◌-ℤ◌, ℤ_ind, +ℤ_assoc, +ℤ_comm, +ℤ_idr, +ℤ_idl, +ℤ-suc_ℤ, +ℤ-pred_ℤ, suc_ℤ-+ℤ, pred_ℤ-+ℤ, +ℤ_one, -ℤ_one}
-use lib.Dec.{T, ltb, leb, eqb, ltb→lt, leb→le, nleb→lt}
-use lib.Pow.{pow-add, pow_pos, pow_mono}
+use mathlib.Core.Bool.{Bool, true, false, not, cond}
+use lib.IntN.{ℤ, pos, negsuc, neg_ℤ, suc_ℤ, pred_ℤ, ◌+ℤ◌, +ℤ_assoc, +ℤ_comm, +ℤ_idr, +ℤ-suc_ℤ, +ℤ-pred_ℤ}
+use lib.Dec.{T, leb, leb→le, nleb→lt}
 use lib.Ieee.{Float, nan, inf, fin, Format, binary64, up, down, size, round, fits}
-use lib.Ieee.Digits.{size-lt, size_reaches, size-le}
 use Rattle.arithmetic.specs.Scale.{scale}
 use Rattle.arithmetic.proofs.ScaleLaws.{scale-scale}
 use Rattle.arithmetic.specs.SquareRoot.{whole_root, half, parity, missing_digits, radicand, rounded, root_at, square_root, Near}

@@ -3,19 +3,17 @@ use mathlib.Core.Path.{◌≡◌, refl, sym, ap, ◌∙◌, subst}
 use Prim.Native.Nat.{ℕ, zero, suc, ◌+◌, ◌-◌, ◌*◌, ◌/◌, ◌%◌, ◌^◌, ◌≤◌, ◌<◌, compare}
 use native.Mathlib.Nat.{le_trans, le_of_eq, le_of_lt, lt_of_lt_of_le, lt_of_le_of_lt, mul_assoc, mul_comm, mul_left_comm, mul-one, one-mul, mul-pos, mul-le-mul_right, mul-lt-mul_of_pos_right, eq_of_mul-eq-mul_right, le_of_mul-le-mul_right, lt_of_mul-lt-mul_right, zero-lt-suc, pow-succ', pow-suc, lt_irrefl, zero-mul, lt_of_not-le, not-le_of_lt, le_of_suc-le-suc, div-div-eq-div-mul}
 use native.Mathlib.Omega.{arith}
-use mathlib.Core.Bool.{Bool, true, false, not, ◌&&◌, ◌||◌, beq, cond}
-use mathlib.Core.Logic.{◌⊎◌, inl, inr}
-use lib.IntN.{ℤ, pos, negsuc, neg_ℤ, ◌+ℤ◌, +ℤ_invr}
-use lib.Dec.{T, ltb, leb, eqb, ltb→lt, lt→ltb, nltb→le, eqb→eq}
+use mathlib.Core.Bool.{Bool, true, false, ◌&&◌, cond}
+use lib.IntN.{ℤ, pos, negsuc, +ℤ_invr}
+use lib.Dec.{T, ltb, leb, eqb, ltb→lt, eqb→eq}
 use lib.Pow.{pow-add, pow_pos, pow_mono, pow-lt}
 use lib.Ieee.{Float, nan, inf, fin, Format, prec, emax, low, up, down, size, round, units, fits, nearest}
 use lib.Ieee.Exact.{HasValue, units_val}
-use lib.Ieee.Digits.{size-lt, size-le, size_reaches}
+use lib.Ieee.Digits.{size_reaches}
 use lib.Ieee.Fits.{up_pos, down_pos, and_l, round_is, round-fits, nearest-le, kept-lt}
-use lib.Ieee.Nearest.{closest}
 use lib.Ieee.Order.{drop, kept}
 use lib.Ieee.Scale.{grid, grid_scale, overflow, round_same, normal_of_fraction, normal_of_rounded}
-use Rattle.arithmetic.specs.Scale.{scale, shift_exp}
+use Rattle.arithmetic.specs.Scale.{scale}
 use Rattle.arithmetic.proofs.ScaleLaws.{scale-val, scale-scale, scale-zero}
 
 -- ---- the one way to write a value: m is odd, or 0 with the exponent 0

@@ -1,7 +1,7 @@
 -- Plain f64 numbers. `Float` is an f64's value: a NaN, an infinity by its sign, or `fin s m e`, which is m * 2 ^ e with the sign s (true is minus).
 -- A bit pattern is read by `of_bits binary64` and written by `to_bits binary64` of `lib.Ieee`; every NaN is written as 7ff8000000000000.
 -- The operations + - * / are `add`, `sub`, `mul`, `div` of `lib.Ieee` at `binary64`: each rounds once, to nearest even (document 01, "Each + - * / rounds once").
-use Rattle.std.specs.Prelude.{ℕ, Bool, true, false, cond, ℤ, pos, negsuc, Float}
+use Rattle.std.specs.Prelude.{ℕ, Bool, true, false, cond, pos, Float}
 use Rattle.std.specs.Float.{nan, inf, fin, binary64}
 use Rattle.std.specs.Float.Ieee.{lt, eq, of_int}
 

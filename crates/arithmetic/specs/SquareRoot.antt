@@ -1,5 +1,5 @@
 -- The square root, over whole numbers (document 01: "Square root is correctly rounded over whole numbers, subnormal arguments included").
-use Rattle.std.specs.Prelude.{◌≡◌, ℕ, zero, suc, ◌+◌, ◌-◌, ◌*◌, ◌/◌, ◌%◌, ◌^◌, ◌≤◌, ◌<◌, Bool, true, false, cond, ℤ, pos, negsuc, ◌+ℤ◌, ◌-ℤ◌, leb, Float}
+use Rattle.std.specs.Prelude.{ℕ, zero, suc, ◌+◌, ◌-◌, ◌*◌, ◌/◌, ◌%◌, ◌^◌, ◌≤◌, ◌<◌, false, cond, ℤ, pos, negsuc, ◌+ℤ◌, ◌-ℤ◌, leb, Float}
 use Rattle.std.specs.Float.{nan, inf, fin, binary64}
 use Rattle.std.specs.Float.Ieee.{up, down, size, round}
 use Rattle.std.specs.Float.Ieee.Exact.{HasValue}

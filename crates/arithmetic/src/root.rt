@@ -12,8 +12,7 @@ fn digit_root(a: u64) -> u64
     let mut r: u64 = 0;
     let mut rem: u64 = 0;
     let mut rest = a;
-    let mut i: u64 = 0;
-    while i < 54 {
+    for i in 0..54u64 {
         rem = rem * 4 + (rest >> 62);
         rest = rest << 2;
         let t = r * 4 + 1;
@@ -23,7 +22,6 @@ fn digit_root(a: u64) -> u64
         } else {
             r = r * 2;
         }
-        i += 1;
     }
     r
 }
@@ -75,19 +73,13 @@ fn remainder(a: u64, g: u64) -> u64
     e * 268435456 - lower
 }
 
-fn one_if(c: bool) -> u64
-    ensures { result ≤ 1 }
-{
-    if c { 1 } else { 0 }
-}
-
 // How many of the four numbers after g are up to the root, by what their squares take of rem; w is twice g.
 fn further(w: u64, rem: u64) -> u64
     requires { w < 2 ^ 55 }
     ensures { result ≤ 4 }
 {
-    let two = one_if(w + 1 <= rem) + one_if(w * 2 + 4 <= rem);
-    two + one_if(w * 3 + 9 <= rem) + one_if(w * 4 + 16 <= rem)
+    let two = u64::from(w + 1 <= rem) + u64::from(w * 2 + 4 <= rem);
+    two + u64::from(w * 3 + 9 <= rem) + u64::from(w * 4 + 16 <= rem)
 }
 
 // The whole part of the square root of a * 2^44: a guess, kept where it is the one number whose square is at most that and whose successor's is not.
@@ -112,7 +104,7 @@ pub fn missing(t: u64) -> u64
     requires { (0 < t) × (t < 2 ^ 53) }
     ensures { result ≡ missing_digits t }
 {
-    (u64::leading_zeros(t) - 11) as u64
+    u64::from(t.leading_zeros() - 11)
 }
 
 // The pattern of the root of m * 2^(n - 1126). An odd exponent gives its 1 to the radicand.

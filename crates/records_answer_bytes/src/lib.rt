@@ -31,12 +31,6 @@ fn given_of(n: Number) -> u8
     }
 }
 
-fn flag_of(b: bool) -> u8
-    ensures { result ≡ flag b }
-{
-    if b { 1 } else { 0 }
-}
-
 // An entry's 24 bytes, put from a place on.
 pub fn put_entry(a: &mut [u8], at: usize, e: Entry)
     requires { at + entry_length ≤ length a.old }
@@ -54,7 +48,7 @@ pub fn put_entry(a: &mut [u8], at: usize, e: Entry)
         rank,
         given_of(f),
         given_of(df),
-        flag_of(inside),
+        u8::from(inside),
         0,
         0,
         0,
@@ -67,10 +61,7 @@ pub fn put_answer(a: &mut [u8], es: [Entry; 7])
     requires { length a.old ≡ answer_length }
     ensures { a.new ≡ answer_bytes es }
 {
-    let mut i = 0;
-    while i < 7 {
-        let e = es[i];
-        put_entry(a, ENTRY_LENGTH * i, e);
-        i += 1;
+    for i in 0..7 {
+        put_entry(a, ENTRY_LENGTH * i, es[i]);
     }
 }

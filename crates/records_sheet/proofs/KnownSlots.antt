@@ -1,4 +1,4 @@
--- The slot of the cell that a record names, by what a loop over records keeps of the record's kind: what `slot_at` asks for it, and that what it answers is the slot.
+-- The slot of the cell that a record names, by what the table says of the record's kind: what `slot_at` asks for it, and that what it answers is the slot.
 use Prim.Native.Nat.{ℕ, ◌+◌, ◌<◌, ◌≤◌}
 use mathlib.Core.Path.{◌≡◌, ap, ap₂, ◌∙◌}
 use mathlib.Core.Bool.{false}
@@ -7,32 +7,35 @@ use native.Mathlib.Omega.{arith}
 use lib.ListN.{get_or}
 use Rattle.records.specs.declared.Kind.{Kind}
 use Rattle.records.specs.declared.Sizes.{Sizes}
-use Rattle.records.specs.format.Kinds.{index_of, Table, kinds_of, kind_numbers}
+use Rattle.records.specs.format.Kinds.{index_of, Table, kind_at, kinds_of, kind_numbers}
 use Rattle.records.specs.format.Cells.{first_slot, slot_count, offset, slot}
 use Rattle.records.specs.format.File.{kind_of, row_of, column_of, count_of, out_of, beyond}
 use Rattle.records.proofs.format.Slots.{sized_inside, slot-below}
 use Rattle.records.proofs.readers.Limits.{kind-below}
-use Rattle.records_kinds.proofs.KnownKind.{Known}
 use Rattle.records_sheet.specs.joints.Sheet.{Small, first_slots, slot_of}
 use Rattle.records_sheet.proofs.Sheets.{firsts_at}
 use Rattle.records_sheet.proofs.Bounds.{Widths, widths, all-bound}
 use Rattle.records.specs.declared.Shape.{Shape}
 
 -- what a loop has when it asks for the slot of record i: the first slots, a record within the sizes, its kind as read, and what the table says of that kind
-pub record AtRecord (file : Shape) (z : Sizes) (fs s : List ℕ) (i kind l : ℕ) (k : Kind) : Type 0 where
+pub record AtRecord (file : Shape) (z : Sizes) (fs s : List ℕ) (i kind : ℕ) (k : Kind) : Type 0 where
   pub small : Small z
   pub firsts : fs ≡ first_slots (kinds_of file z)
   pub sized : beyond (kinds_of file z) s i ≡ false
   pub read : kind ≡ kind_of s i
-  pub table : Known (kinds_of file z) (kind_of s i) l k
+  pub table : k ≡ kind_at (kinds_of file z) kind
 
-module _ {file : Shape} {z : Sizes} {fs s : List ℕ} {i kind l : ℕ} {k : Kind} (h : AtRecord file z fs s i kind l k) where
+module _ {file : Shape} {z : Sizes} {fs s : List ℕ} {i kind : ℕ} {k : Kind} (h : AtRecord file z fs s i kind k) where
   abbrev t : Table
   t = kinds_of file z
 
   -- the kind is one that a call may read, so that it has a place among the first slots
   numbered : kind_of s i < kind_numbers
   numbered = kind-below file z (kind_of s i) _ _ _ (sized_inside t s i h.sized)
+
+  -- what the table says of it
+  known : k ≡ kind_at t (kind_of s i)
+  known = h.table ∙ ap (kind_at t) h.read
 
   pub kind-placed : kind < 34
   kind-placed = let a = numbered in let e = h.read in omega arith
@@ -47,15 +50,15 @@ module _ {file : Shape} {z : Sizes} {fs s : List ℕ} {i kind l : ℕ} {k : Kind
   -- what the table says of the kind leaves it the record, and small widths
   pub known-holds : out_of k s i ≡ false
   unfolding beyond
-  known-holds = ap (λ (y : Kind). out_of y s i) h.table.known ∙ h.sized
+  known-holds = ap (λ (y : Kind). out_of y s i) known ∙ h.sized
 
   pub known-widths : Widths k
-  known-widths = rw h.table.known (widths z h.small file (kind_of s i))
+  known-widths = rw known (widths z h.small file (kind_of s i))
 
   -- the kind's first slot and the cell's place among the kind's make the record's slot
   pub slot-known : get_or fs kind 0 + offset k (index_of k.count (count_of s i)) (index_of k.row (row_of s i)) (index_of k.column (column_of s i)) ≡ slot_of t s i
   unfolding slot
-  slot-known = ap₂ ◌+◌ first-known (rw h.table.known)
+  slot-known = ap₂ ◌+◌ first-known (rw known)
 
   -- it is one of the slots that the sizes leave, and these are so few that a usize counts the bytes of a number in each
   pub slot-within : slot_of t s i < slot_count t

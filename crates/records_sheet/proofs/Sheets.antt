@@ -12,7 +12,6 @@ use lib.Ieee.{Float}
 use borrow.Author.Tests.{eq-eqb, ne_eqb}
 use Rattle.arithmetic.specs.Numbers.{plus_zero}
 use Rattle.algebra.specs.Fold.{fold}
-use Rattle.algebra.specs.Table.{row}
 use Rattle.algebra.proofs.FoldLaws.{fold_more, fold_start, fold-keeps, fold-steps}
 use Rattle.algebra.proofs.TableLaws.{row_at}
 use Rattle.records.specs.declared.Kind.{Kind}
@@ -129,6 +128,10 @@ module _ (file : Shape) (z : Sizes) (s : List ℕ) (sized : any (count s) (beyon
       flags-at N t s i (slot_of t s i) d (slot-of-fits i l)
       ∙ any_same i (λ m. eqb (slot_of t s m) (slot_of t s i)) (is_cell t s (kind_of s i) (cell_count t s i) (cell_row t s i) (cell_column t s i))
       (λ m h. slot-cell t s (kind_of s i) (cell_count t s i) (cell_row t s i) (cell_column t s i) m (within-sizes m (omega arith)) (sized_inside t s i (within-sizes i l)))
+
+  -- the same by the flags and the slot that a loop has
+  pub flag-read : (i at : ℕ) (flags : List Bool) (b : Bool) → i < count s → flags ≡ flags_after N t s i → at ≡ slot_of t s i → get_or flags at false ≡ b → again t s i ≡ b
+  flag-read i at flags b l e g r = sym (flag-again i false l) ∙ sym (ap₂ (λ (fs : List Bool) (j : ℕ). get_or fs j false) e g) ∙ r
 
   -- a kind misses a cell where one of its flags is not set
   pub missing-read : (k : ℕ) → missing_in t (flags_after N t s (count s)) k ≡ missing t s k

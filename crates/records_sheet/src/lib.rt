@@ -4,10 +4,10 @@
 ghost use Rattle.std.specs.Prelude.{◌≡◌, false, ◌+◌, ◌≤◌, ◌<◌, length, replicate};
 ghost use Rattle.arithmetic.specs.Numbers.{plus_zero};
 ghost use Rattle.records.specs.format.Scan.{any};
-ghost use Rattle.records.specs.format.Kinds.{width, index_of, kinds_of, kind_numbers};
+ghost use Rattle.records.specs.format.Kinds.{width, index_of, kind_at, kinds_of, kind_numbers};
 ghost use Rattle.records.specs.format.Cells.{slots, slot_count, offset};
 ghost use Rattle.records.specs.format.File.{count, row_of, column_of, count_of, out_of, beyond, again};
-ghost use Rattle.records_sheet.specs.joints.Sheet.{Small, first_slots, flags_after, sheet_after, gap, missing_in};
+ghost use Rattle.records_sheet.specs.joints.Sheet.{Small, first_slots, slot_of, flags_after, sheet_after, gap, missing_in};
 
 use records::{Kind, Shape, Sizes};
 use records_file::{column_at, count_at, kind_of, row_at, value_at};
@@ -18,10 +18,7 @@ fn slots_of(k: Kind) -> usize
     requires { (width k.count ≤ 256) × (width k.row ≤ 256) × (width k.column ≤ 256) }
     ensures { (result ≡ slots k) × (result ≤ 16777216) }
 {
-    let count = k.count;
-    let row = k.row;
-    let column = k.column;
-    width(count) * width(row) * width(column)
+    width(k.count) * width(k.row) * width(k.column)
 }
 
 // The first slot of each kind, and the number of all slots after them.
@@ -31,11 +28,9 @@ pub fn first_slots(file: Shape, z: Sizes) -> [usize; 34]
 {
     let mut firsts = [0usize; 34];
     let mut total: usize = 0;
-    let mut k: u8 = 0;
-    while k < 33 {
+    for k in 0..33u8 {
         total = total + slots_of(kind_at(file, z, k));
-        k += 1;
-        firsts[k as usize] = total;
+        firsts[usize::from(k) + 1] = total;
     }
     firsts
 }
@@ -45,9 +40,7 @@ fn offset_in(k: Kind, n: usize, r: usize, c: usize) -> usize
     requires { (width k.count ≤ 256) × (width k.row ≤ 256) × (width k.column ≤ 256) × (n < width k.count) × (r < width k.row) × (c < width k.column) }
     ensures { (result ≡ offset k n r c) × (result ≤ 16777216) }
 {
-    let row = k.row;
-    let column = k.column;
-    (n * width(row) + r) * width(column) + c
+    (n * width(k.row) + r) * width(k.column) + c
 }
 
 // The slot of the cell that record i names, by its kind, which is k and has the record, and by that kind's first slot.
@@ -55,62 +48,90 @@ fn slot_at(k: Kind, first: usize, s: &[u8], i: usize) -> usize
     requires { (i < count s.now) × (out_of k s.now i ≡ false) × (width k.count ≤ 256) × (width k.row ≤ 256) × (width k.column ≤ 256) × (first ≤ 553648128) }
     ensures { result ≡ first + offset k (index_of k.count (count_of s.now i)) (index_of k.row (row_of s.now i)) (index_of k.column (column_of s.now i)) }
 {
-    let count = k.count;
-    let row = k.row;
-    let column = k.column;
-    let n = index_of(count, count_at(s, i));
-    let r = index_of(row, row_at(s, i));
-    let c = index_of(column, column_at(s, i));
+    let n = index_of(k.count, count_at(s, i));
+    let r = index_of(k.row, row_at(s, i));
+    let c = index_of(k.column, column_at(s, i));
     first + offset_in(k, n, r, c)
 }
 
+// The number of the kind that was asked for last, and what the table says of it. Records rise by kind, so the table is asked again only where the kind changes.
+#[derive(Drop)]
+struct LastKind {
+    number: u8,
+    kind: Kind,
+}
+
+impl LastKind {
+    // What the table says of a kind.
+    fn kind_at(&mut self, file: Shape, z: Sizes, number: u8) -> Kind
+        requires { self.old.kind ≡ kind_at (kinds_of file z) self.old.number }
+        ensures value { result ≡ kind_at (kinds_of file z) number }
+        ensures last { self.new.kind ≡ kind_at (kinds_of file z) self.new.number }
+    {
+        if number != self.number {
+            self.number = number;
+            self.kind = kind_at(file, z, number);
+        }
+        self.kind
+    }
+}
+
+// The slot of the cell that record i names.
+fn slot_of(
+    file: Shape,
+    z: Sizes,
+    firsts: &[usize; 34],
+    s: &[u8],
+    i: usize,
+    last: &mut LastKind,
+) -> usize
+    requires small { Small z × (firsts.now ≡ first_slots (kinds_of file z)) }
+    requires named { (i < count s.now) × (beyond (kinds_of file z) s.now i ≡ false) }
+    requires last { last.old.kind ≡ kind_at (kinds_of file z) last.old.number }
+    ensures value { result ≡ slot_of (kinds_of file z) s.now i }
+    ensures within { (result < slot_count (kinds_of file z)) × (result ≤ 553648128) }
+    ensures last { last.new.kind ≡ kind_at (kinds_of file z) last.new.number }
+{
+    let number = kind_of(s, i);
+    let kind = last.kind_at(file, z, number);
+    slot_at(kind, firsts[usize::from(number)], s, i)
+}
+
 // Sets the flag of each cell that a record names, until one names a cell that an earlier one names. The lent flags are all clear at first; a file of more records than cells stops at the first that is
-// there already. Records rise by kind, so what the table says of the last one's kind is kept, and it is asked again where the kind changes.
+// there already.
 pub fn mark_cells(file: Shape, z: Sizes, firsts: &[usize; 34], s: &[u8], flags: &mut [bool]) -> bool
     requires small { Small z × (firsts.now ≡ first_slots (kinds_of file z)) × (any (count s.now) (beyond (kinds_of file z) s.now) ≡ false) }
     requires flags_value { (flags.old ≡ replicate (length flags.old) false) × (slot_count (kinds_of file z) ≤ length flags.old) }
     ensures value { result ≡ any (count s.now) (again (kinds_of file z) s.now) }
     ensures flags_after { result ≡ false → flags.new ≡ flags_after (length flags.old) (kinds_of file z) s.now (count s.now) }
 {
-    let n = s.len() / 16;
-    let mut last: u8 = 0;
-    let mut k = kind_at(file, z, 0);
-    let mut i = 0;
-    while i < n {
-        let kind = kind_of(s, i);
-        if kind != last {
-            last = kind;
-            k = kind_at(file, z, kind);
-        }
-        let at = slot_at(k, firsts[kind as usize], s, i);
+    let mut last = LastKind {
+        number: 0,
+        kind: kind_at(file, z, 0),
+    };
+    for i in 0..s.len() / 16 {
+        let at = slot_of(file, z, firsts, s, i, &mut last);
         if flags[at] {
             return true;
         }
         flags[at] = true;
-        i += 1;
     }
     false
 }
 
-// The number in each cell, +0 where no record names it. The lent sheet is all +0 at first. The table is asked only where the kind changes, as in `mark_cells`.
+// The number in each cell, +0 where no record names it. The lent sheet is all +0 at first.
 pub fn fill_sheet(file: Shape, z: Sizes, firsts: &[usize; 34], s: &[u8], sheet: &mut [f64])
     requires small { Small z × (firsts.now ≡ first_slots (kinds_of file z)) × (any (count s.now) (beyond (kinds_of file z) s.now) ≡ false) }
     requires sheet_value { (sheet.old ≡ replicate (length sheet.old) plus_zero) × (slot_count (kinds_of file z) ≤ length sheet.old) }
     ensures { sheet.new ≡ sheet_after (length sheet.old) (kinds_of file z) s.now (count s.now) }
 {
-    let n = s.len() / 16;
-    let mut last: u8 = 0;
-    let mut k = kind_at(file, z, 0);
-    let mut i = 0;
-    while i < n {
-        let kind = kind_of(s, i);
-        if kind != last {
-            last = kind;
-            k = kind_at(file, z, kind);
-        }
-        let at = slot_at(k, firsts[kind as usize], s, i);
+    let mut last = LastKind {
+        number: 0,
+        kind: kind_at(file, z, 0),
+    };
+    for i in 0..s.len() / 16 {
+        let at = slot_of(file, z, firsts, s, i, &mut last);
         sheet[at] = value_at(s, i);
-        i += 1;
     }
 }
 
@@ -119,14 +140,7 @@ fn gap_in(flags: &[bool], at: usize, m: usize) -> bool
     requires { at + m ≤ length flags.now }
     ensures { result ≡ gap flags.now at m }
 {
-    let mut j = 0;
-    while j < m {
-        if !flags[at + j] {
-            return true;
-        }
-        j += 1;
-    }
-    false
+    flags[at..at + m].contains(&false)
 }
 
 // Kind k misses a cell; where absent cells are zero it misses none.
@@ -138,19 +152,17 @@ fn missing_in(file: Shape, z: Sizes, firsts: &[usize; 34], flags: &[bool], k: u8
     if kind.sparse {
         return false;
     }
-    gap_in(flags, firsts[k as usize], slots_of(kind))
+    gap_in(flags, firsts[usize::from(k)], slots_of(kind))
 }
 
 pub fn any_missing(file: Shape, z: Sizes, firsts: &[usize; 34], flags: &[bool]) -> bool
     requires { Small z × (firsts.now ≡ first_slots (kinds_of file z)) × (slot_count (kinds_of file z) ≤ length flags.now) }
     ensures { result ≡ any kind_numbers (missing_in (kinds_of file z) flags.now) }
 {
-    let mut k: u8 = 0;
-    while k < 33 {
+    for k in 0..33u8 {
         if missing_in(file, z, firsts, flags, k) {
             return true;
         }
-        k += 1;
     }
     false
 }

@@ -10,11 +10,7 @@ pub fn three_at(sheet: &[f64], at: usize, n: usize) -> [f64; 3]
     ensures { result ≡ numbers_at sheet.now 3 at n }
 {
     let mut out = [0.0; 3];
-    let mut i = 0;
-    while i < n {
-        out[i] = sheet[at + i];
-        i += 1;
-    }
+    out[..n].copy_from_slice(&sheet[at..at + n]);
     out
 }
 
@@ -23,11 +19,7 @@ pub fn six_at(sheet: &[f64], at: usize, n: usize) -> [f64; 6]
     ensures { result ≡ numbers_at sheet.now 6 at n }
 {
     let mut out = [0.0; 6];
-    let mut i = 0;
-    while i < n {
-        out[i] = sheet[at + i];
-        i += 1;
-    }
+    out[..n].copy_from_slice(&sheet[at..at + n]);
     out
 }
 

@@ -21,10 +21,8 @@ fn move_row(sheet: &mut [f64], from: usize, to: usize, stride: usize)
     if from == to {
         return;
     }
-    let mut j = 0;
-    while j < stride {
+    for j in 0..stride {
         sheet[to + j] = sheet[from + j];
-        j += 1;
     }
 }
 
@@ -36,13 +34,11 @@ pub fn pack_rows(sheet: &mut [f64], at: usize, stride: usize, weights: usize, n:
     ensures sheet_after { sheet.new ≡ packed_rows at stride (kept_below n (torn_at sheet.old weights)) sheet.old }
 {
     let mut kept: usize = 0;
-    let mut i = 0;
-    while i < n {
+    for i in 0..n {
         if !arithmetic::plain::is_zero(sheet[weights + i]) {
             move_row(sheet, at + i * stride, at + kept * stride, stride);
             kept += 1;
         }
-        i += 1;
     }
     kept
 }

@@ -1,27 +1,32 @@
 -- `records_sheet::gap_in` meets its contract.
-use Prim.Native.Nat.{◌+◌, ◌≤◌, ◌-◌}
-use mathlib.Core.Path.{◌≡◌, refl, sym}
-use mathlib.Core.Bool.{false}
-use lib.ListN.{length}
+use Prim.Native.Nat.{ℕ, zero, suc, ◌+◌, ◌-◌, ◌≤◌}
+use native.Mathlib.Numerals.{add-one}
+use mathlib.Core.Path.{◌≡◌, refl, ap, ap₂, ◌∙◌}
+use mathlib.Core.Bool.{Bool, true, false, not, ◌||◌, beq}
+use mathlib.Core.List.{List}
+use lib.ListN.{length, take, drop}
 use native.Mathlib.Omega.{arith}
+use Rattle.std.specs.List.{list_any}
+use Rattle.std.proofs.Common.{length-drop}
+use Rattle.std.proofs.lemmas.List.{get_or-drop}
+use Rattle.std.proofs.lemmas.List.Folds.{list_any_more}
 use Rattle.records.specs.format.Scan.{any}
 use Rattle.records_sheet.specs.joints.Sheet.{gap}
-use Rattle.records.proofs.format.ScanLaws.{any-miss, any-hit}
-use Rattle.records_sheet.proofs.gap_in.Reads as reads
-use Rattle.records_sheet.proofs.gap_in.Lts as lts
 use Rattle.records_sheet.proofs.gap_in.Goals as goal
 
-pub loop-j-init : goal.loop-j-init
+unset : (y : Bool) → beq y false ≡ not y
+unset true = refl
+unset false = refl
+
+-- one of the m flags from a place on is not set, asked of that part of the flags
+gap-in-part : (flags : List Bool) (at m : ℕ) → at + m ≤ length flags → list_any (λ y. beq y false) (take m (drop at flags)) ≡ gap flags at m
 unfolding gap any
-loop-j-init c = (omega arith, c.requires, refl)
-
-pub returns-then-not-flags-at : goal.returns-then-not-flags-at
-unfolding gap
-returns-then-not-flags-at c = sym (any-hit _ _ c.loop-j.j (omega arith) (cc))
-
-pub loop-j-preserved : goal.loop-j-preserved
-unfolding gap
-loop-j-preserved c = (omega arith, omega arith, any-miss _ _ c.loop-j.invariant.2 (cc))
+gap-in-part flags at zero l = refl
+gap-in-part flags at (suc m) l =
+    let more = list_any_more (λ y. beq y false) (drop at flags) m false (omega (arith, length-drop at flags)) in
+    rw (← add-one) (more ∙ ap₂ ◌||◌ (gap-in-part flags at m (omega arith)) (unset _ ∙ ap not (get_or-drop at flags m false)))
 
 pub returns : goal.returns
-returns c = let e : c.loop-j.j ≡ c.args.m = omega arith in cc
+returns c =
+    let e : c.args.at + c.args.m - c.args.at ≡ c.args.m = omega arith in
+    c.contains.ensures.value ∙ ap (λ (m : ℕ). list_any (λ y. beq y false) (take m (drop c.args.at c.args.flags.now))) e ∙ gap-in-part c.args.flags.now c.args.at c.args.m c.requires

@@ -11,12 +11,6 @@ use Rattle.records.specs.format.Cells.{slots, first_slot}
 use Rattle.records_sheet.specs.joints.Sheet.{gap, missing_in}
 use Rattle.records_sheet.proofs.Sheets.{firsts_at, ends-within}
 use Rattle.records_sheet.proofs.Bounds.{widths}
-use borrow.Author.Rules.{rules}
-use Rattle.records_sheet.proofs.missing_in.Reads as reads
-use Rattle.records_sheet.proofs.missing_in.Lts as lts
-use Rattle.records_kinds.proofs.kind_at.Reads as kind-at-reads
-use Rattle.records_sheet.proofs.gap_in.Reads as gap-in-reads
-use Rattle.records_sheet.proofs.slots_of.Reads as slots-of-reads
 use Rattle.records_sheet.proofs.missing_in.Goals as goal
 
 -- src/lib.rt:130:1
@@ -51,7 +45,7 @@ gap_in-requires c =
     let a = c.args in
     let p = c.requires in
     let t = kinds_of a.file a.z in
-    let e = ap (λ (l : List ℕ). get_or l a.k 0) p.1 ∙ firsts_at t a.k (omega arith) in
+    let e = ap₂ (λ (l : List ℕ) (k : ℕ). get_or l k 0) p.1 c.from.ensures ∙ firsts_at t a.k (omega arith) in
     let q = c.slots_of.ensures.0 ∙ ap slots c.kind_at-kind.ensures in
     let m = ends-within t a.k p.3 in
     omega arith
@@ -61,7 +55,7 @@ returns c =
     let a = c.args in
     let p = c.requires in
     let t = kinds_of a.file a.z in
-    let e = ap (λ (l : List ℕ). get_or l a.k 0) p.1 ∙ firsts_at t a.k (omega arith) in
+    let e = ap₂ (λ (l : List ℕ) (k : ℕ). get_or l k 0) p.1 c.from.ensures ∙ firsts_at t a.k (omega arith) in
     let q = c.slots_of.ensures.0 ∙ ap slots c.kind_at-kind.ensures in
     let f = ap (λ (y : Kind). y.sparse) c.kind_at-kind.ensures in
     missing-is t a.flags.now a.k c.gap_in.result (sym f ∙ c.if-kind.false) (c.gap_in.ensures ∙ ap₂ (λ (x y : ℕ). gap a.flags.now x y) e q)

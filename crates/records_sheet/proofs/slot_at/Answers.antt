@@ -4,7 +4,6 @@ use mathlib.Core.Path.{ap, ◌∙◌}
 use native.Mathlib.Omega.{arith}
 use Rattle.records.specs.format.Kinds.{index_of}
 use Rattle.records.proofs.format.Slots.{holds-index, within}
-use borrow.Author.Rules.{rules}
 use Rattle.records_sheet.proofs.slot_at.Goals as goal
 
 pub offset_in-requires : goal.offset_in-requires

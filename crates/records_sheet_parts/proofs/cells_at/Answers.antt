@@ -1,13 +1,10 @@
 -- `records_sheet_parts::cells_at` meets its contract.
-use Prim.Native.Nat.{◌+◌, ◌*◌, ◌≤◌, ◌<◌, ◌-◌}
-use mathlib.Core.Path.{◌≡◌, refl}
-use lib.ListN.{length, get_or}
-use lib.Ieee.{nan, of_bits}
-use Rattle.arithmetic.specs.Numbers.{plus_zero}
+use mathlib.Core.Path.{refl}
+use lib.Ieee.{of_bits}
 use native.Mathlib.Omega.{arith}
 use Rattle.algebra.specs.Table.{blank, table}
 use Rattle.algebra.proofs.FoldLaws.{fold_start}
-use Rattle.algebra.proofs.TableLaws.{Filling, filling-none, filling-more, filling-row}
+use Rattle.algebra.proofs.TableLaws.{filling-none, filling-more, filling-row}
 use Rattle.algebra_products.proofs.LoopLaws.{table-end}
 use Rattle.records_sheet_parts.specs.joints.Parts.{cells_at}
 use Rattle.records_sheet_parts.proofs.Strides.{row_inside}

@@ -1,8 +1,6 @@
 -- `records_sheet_parts::stack_at` meets its contract.
-use Prim.Native.Nat.{ℕ, ◌+◌, ◌*◌, ◌≤◌, ◌-◌}
-use mathlib.Core.Path.{◌≡◌}
+use Prim.Native.Nat.{ℕ, ◌*◌, ◌≤◌}
 use native.Mathlib.Nat.{mul-le-mul}
-use lib.ListN.{length}
 use lib.Ieee.{of_bits}
 use native.Mathlib.Omega.{arith}
 use Rattle.algebra.specs.Table.{blank}

@@ -1,7 +1,7 @@
 -- `records_torn::move_row` meets its contract.
-use Prim.Native.Nat.{ℕ, ◌≤◌, ◌-◌, ◌+◌}
+use Prim.Native.Nat.{ℕ, ◌+◌}
 use mathlib.Core.Path.{◌≡◌, refl, ap, sym}
-use lib.ListN.{length, get_or, length-set}
+use lib.ListN.{get_or, length-set}
 use lib.Ieee.{nan}
 use native.Mathlib.Omega.{arith}
 use Rattle.algebra.proofs.FoldLaws.{fold_start, fold_end}

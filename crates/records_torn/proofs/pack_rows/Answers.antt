@@ -1,17 +1,12 @@
 -- `records_torn::pack_rows` meets its contract.
-use Prim.Native.Nat.{◌≤◌, ◌-◌}
 use mathlib.Core.Path.{◌≡◌, sym, ◌∙◌}
 use native.Mathlib.Omega.{arith}
-use borrow.Author.Tests.{not-true, not-false}
-use Rattle.records_torn.proofs.PackingTurns.{PackedTo, packing-starts, packing-skips, packing-takes, row-places}
+use Rattle.records_torn.proofs.PackingTurns.{packing-starts, packing-skips, packing-takes, row-places}
 use Rattle.records_torn.proofs.pack_rows.Goals as goal
 use Rattle.records_torn.proofs.pack_rows.Goals.{then-not-is_zero, else-not-is_zero}
 
 pub loop-i-init : goal.loop-i-init
 loop-i-init c = (omega arith, packing-starts _ _ _ _)
-
-pub is_zero-requires : goal.is_zero-requires
-is_zero-requires c = tt
 
 pub overflow_mul-i : goal.overflow_mul-i
 overflow_mul-i c =

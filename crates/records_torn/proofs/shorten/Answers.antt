@@ -2,7 +2,6 @@
 use mathlib.Core.Path.{ap, sym, ◌∙◌}
 use lib.ListN.{length}
 use native.Mathlib.Omega.{arith}
-use borrow.Author.Rules.{rules}
 use borrow.Author.Tests.{not-true, not-false}
 use Rattle.records_torn.proofs.ShortSheet.{kept-in-all, short-unweighted}
 use Rattle.records_torn.proofs.ThreePackings.{packs-fit, sheet-order, three-packings}

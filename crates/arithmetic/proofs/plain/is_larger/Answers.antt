@@ -1,6 +1,5 @@
 -- `arithmetic::plain::is_larger` meets its contract.
 use Rattle.arithmetic.specs.Numbers.{is_larger}
-use borrow.Author.Rules.{rules}
 use Rattle.arithmetic.proofs.plain.is_larger.Goals as goal
 
 pub returns : goal.returns

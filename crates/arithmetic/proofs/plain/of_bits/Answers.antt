@@ -1,5 +1,4 @@
 -- `arithmetic::plain::of_bits` meets its contract.
-use native.Mathlib.Omega.{arith}
 use mathlib.Core.Path.{refl}
 use lib.Ieee.{of_bits, div}
 use Rattle.arithmetic.proofs.PlainLaws.{bits-nan, bits-number}

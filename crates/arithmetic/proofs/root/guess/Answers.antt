@@ -3,7 +3,6 @@ use Prim.Native.Nat.{◌^◌, ◌/◌, ◌-◌, ◌%◌, ◌≤◌}
 use native.Mathlib.Omega.{arith}
 use lib.Dec.{le→leb}
 use lib.Ieee.{in_float}
-use borrow.Author.Rules.{rules}
 use Rattle.arithmetic.proofs.PlainLaws.{bits-number}
 use Rattle.arithmetic.proofs.root.guess.Goals as goal
 

@@ -1,8 +1,6 @@
 -- `arithmetic::root::remainder` meets its contract.
-use mathlib.Core.Path.{◌≡◌}
-use Prim.Native.Nat.{ℕ, ◌+◌, ◌-◌, ◌*◌, ◌/◌, ◌%◌, ◌^◌, ◌<◌}
+use Prim.Native.Nat.{◌/◌, ◌%◌}
 use native.Mathlib.Omega.{arith}
-use borrow.Author.Rules.{rules}
 use Rattle.arithmetic.proofs.RootGuess.{halves, left_is}
 use Rattle.arithmetic.proofs.root.remainder.Goals as goal
 

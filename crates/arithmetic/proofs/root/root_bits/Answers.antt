@@ -1,9 +1,8 @@
 -- `arithmetic::root::root_bits` meets its contract.
 use native.Mathlib.Omega.{arith}
-use mathlib.Core.Path.{◌≡◌, ap, subst, sym, ◌∙◌}
-use Prim.Native.Nat.{ℕ, ◌+◌, ◌/◌, ◌<◌, ◌^◌, ◌%◌}
+use mathlib.Core.Path.{◌∙◌}
+use Prim.Native.Nat.{◌^◌, ◌%◌}
 use Rattle.arithmetic.proofs.RootPatterns.{low_bits, low-full, high_bits}
-use borrow.Author.Rules.{rules}
 use Rattle.arithmetic.proofs.root.root_bits.Goals as goal
 
 pub overflow_sub-s : goal.overflow_sub-s

@@ -1,12 +1,11 @@
 -- `arithmetic::root::rooted` meets its contract.
 use native.Mathlib.Omega.{arith}
 use native.Mathlib.Nat.{mod-lt, zero-lt-suc}
-use mathlib.Core.Path.{◌≡◌, ap, subst, sym, ◌∙◌}
-use Prim.Native.Nat.{ℕ, ◌+◌, ◌/◌, ◌<◌, ◌^◌, ◌%◌}
+use mathlib.Core.Path.{◌≡◌, ap, ◌∙◌}
+use Prim.Native.Nat.{ℕ, ◌+◌, ◌/◌, ◌%◌}
 use Rattle.arithmetic.specs.SquareRoot.{whole_root, radicand}
 use Rattle.arithmetic.specs.joints.RootPattern.{pattern}
 use Rattle.arithmetic.proofs.RootPatterns.{whole_is, root-small}
-use borrow.Author.Rules.{rules}
 use Rattle.arithmetic.proofs.root.rooted.Goals as goal
 
 pub overflow_add-q : goal.overflow_add-q

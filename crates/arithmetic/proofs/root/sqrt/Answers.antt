@@ -1,10 +1,9 @@
 -- `arithmetic::root::sqrt` meets its contract.
-use native.Mathlib.Omega.{arith}
-use mathlib.Core.Path.{◌≡◌, ap, subst, sym, ◌∙◌}
-use mathlib.Core.Bool.{Bool, not}
+use mathlib.Core.Path.{ap, subst, sym, ◌∙◌}
+use mathlib.Core.Bool.{not}
 use Prim.Native.Nat.{ℕ}
 use lib.Dec.{T}
-use lib.Ieee.{of_bits, div, binary64, nan_bits, to_bits}
+use lib.Ieee.{of_bits, div, binary64, nan_bits}
 use Rattle.arithmetic.proofs.RootPatterns.{no_nan, bits-lt}
 use Rattle.arithmetic.proofs.PlainLaws.{is_number}
 use Rattle.arithmetic.proofs.RootCases.{root-nan, root-zero, root-negative, bits_pos, root-pattern, root-infinite}

@@ -1,7 +1,6 @@
 -- `arithmetic::root::whole_root` meets its contract: the guess where it is kept, and the digits otherwise.
 use native.Mathlib.Omega.{arith}
 use Prim.Native.Nat.{◌+◌, ◌*◌, ◌<◌, ◌≤◌, ◌^◌}
-use borrow.Author.Rules.{rules}
 use Rattle.arithmetic.proofs.RootGuess.{kept, places}
 use Rattle.arithmetic.proofs.root.whole_root.Goals as goal
 
