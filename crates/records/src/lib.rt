@@ -2,6 +2,8 @@
 
 #![tactic(auto)]
 
+pub mod refusal;
+
 // The numbers of the kinds of record, as specs/format/KindNumbers.antt has them.
 pub const KIND_X: usize = 1;
 
