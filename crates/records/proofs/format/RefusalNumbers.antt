@@ -2,7 +2,7 @@
 use Prim.Native.Nat.{ℕ}
 use mathlib.Core.Path.{◌≡◌, refl, sym, ap, ◌∙◌}
 use native.Mathlib.Omega.{arith}
-use Rattle.std.specs.Prelude.{◌-◌, List, [], ◌∷◌, get_or, Result, Ok, Err, IsOk}
+use Rattle.std.specs.Prelude.{◌-◌, List, [], ◌∷◌, get_or, Result, Ok, Err, IsOk, IsErr, IsErrAnd, OnOk}
 use Rattle.records.specs.declared.refusal.Refusal.{Refusal}
 use Rattle.records.specs.declared.refusal.Refusal.TheVariants.{LentLength, Form, Size, NotFinite, Variance, Weight, Misfit, ZeroContrast, NotDefinite, ZeroPivot, Eigenvalue, Order, BlockCount, CutoffTable}
 use Rattle.records.specs.format.RefusalNumbers.{refusal_number, told}
@@ -34,7 +34,7 @@ pub one-number : (d e : Refusal) → refusal_number d ≡ refusal_number e → d
 one-number d e h = sym (refusal-back d) ∙ ap refusal_of h ∙ refusal-back e
 
 -- no refusal has 0
-no-zero : (e : Refusal) → refusal_number e ≡ 0 → ⊥
+pub no-zero : (e : Refusal) → refusal_number e ≡ 0 → ⊥
 no-zero e h =
     let first : refusal_number e ≡ 1 = ap refusal_number (sym (refusal-back e) ∙ ap refusal_of h) in
     absurd (omega arith)
@@ -47,3 +47,13 @@ told-none (Err e) h = absurd (no-zero e h)
 pub told-one : {A : Type 0} (r : Result A Refusal) (e : Refusal) → told r ≡ refusal_number e → r ≡ Err e
 told-one (Ok x) e h = absurd (no-zero e (sym h))
 told-one (Err d) e h = ap Err (one-number d e h)
+
+-- what `?` passes on is told as what was refused
+pub told-passed : {A : Type 0} (r : Result A Refusal) (e : Refusal) → IsErrAnd r (λ d. d ≡ e) → told r ≡ refusal_number e
+told-passed (Ok x) e h = absurd h
+told-passed (Err d) e h = ap refusal_number h
+
+-- what is so whatever the answer is so where it is Ok
+pub on-ok : {A E P : Type 0} (r : Result A E) → P → OnOk r P
+on-ok (Ok x) p = p
+on-ok (Err e) p = tt
