@@ -9,3 +9,4 @@ pub mod ReadBack
 pub mod InOrder
 pub mod Canonical
 pub mod TailLaws
+pub mod RefusalNumbers

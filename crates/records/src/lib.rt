@@ -2,6 +2,8 @@
 
 #![tactic(auto)]
 
+pub mod refusal;
+
 // The kinds of record, each with its number in a file, as specs/format/KindNumbers.antt has them.
 #[derive(Clone, Copy, PartialEq, Eq)]
 pub enum RecordKind {

@@ -157,8 +157,8 @@ pub record Sound (w : ℕ) (s : List ℕ) (z : Sizes) : Type 0 where
   pub sized : z ≡ sizes s
   pub formed : FormedSizes Series w s z
 
-pub sound-of : (w : ℕ) (s : List ℕ) (z : Sizes) (r : ℕ) → 1 ≤ w → w ≤ 256 → r ≡ records_refusal w s → r ≡ 0 → z ≡ sizes s → Sound w s z
-sound-of w s z r some most er e ez = let q = recorded w s (sym er ∙ e) in record { recorded = q; sized = ez; formed = formed-sizes Series w some most s z q.formed ez }
+pub sound-of : (w : ℕ) (s : List ℕ) (z : Sizes) → 1 ≤ w → w ≤ 256 → records_refusal w s ≡ 0 → z ≡ sizes s → Sound w s z
+sound-of w s z some most e ez = let q = recorded w s e in record { recorded = q; sized = ez; formed = formed-sizes Series w some most s z q.formed ez }
 
 -- ---- the number by who gives it
 -- by the records alone: the file's, then the blocks'
@@ -166,14 +166,14 @@ pub file-refuses : (w : ℕ) (s : List ℕ) (r : ℕ) → r ≡ formed_number (r
 unfolding records_refusal
 file-refuses w s r e h = form-refuses (records_reader w) s r e h
 
-module _ (w : ℕ) (s : List ℕ) (r : ℕ) (e : r ≡ formed_number (reader w) s) (z : r ≡ 0) where
+module _ (w : ℕ) (s : List ℕ) (formed : formed_number (reader w) s ≡ 0) where
   pub blocks-refuse : any (count s) (miscounted s) ≡ true → 13 ≡ records_refusal w s
   unfolding records_refusal block_reasons first
-  blocks-refuse b = sym (own-decides (records_reader w) s (sym e ∙ z) ∙ rw b)
+  blocks-refuse b = sym (own-decides (records_reader w) s formed ∙ rw b)
 
   pub none-refuses : any (count s) (miscounted s) ≡ false → 0 ≡ records_refusal w s
   unfolding records_refusal block_reasons first
-  none-refuses b = sym (own-decides (records_reader w) s (sym e ∙ z) ∙ rw b)
+  none-refuses b = sym (own-decides (records_reader w) s formed ∙ rw b)
 
 pub records-refuse : (w : ℕ) (s : List ℕ) (r : ℕ) → r ≡ records_refusal w s → (r ≡ 0 → ⊥) → r ≡ refusal w s
 records-refuse w s r e h = e ∙ records-cases w s ∙ go (eqb (formed_number (reader w) s) 0) (any (count s) (miscounted s)) (formed_number (reader w) s) (λ q. h (e ∙ records-cases w s ∙ q)) ∙ sym (refusal-cases w s)

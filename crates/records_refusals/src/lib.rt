@@ -1,17 +1,19 @@
-// The number with which a series is refused before anything is computed, and its numbers in the lent sheet (kenward_roger).
+// What refuses a series before anything is computed, and its numbers in the lent sheet (kenward_roger).
 #![tactic(auto)]
 
-ghost use Rattle.std.specs.Prelude.{◌≡◌, false, cond, ℕ, ◌+◌, ◌*◌, ◌≤◌, length, replicate};
+ghost use Rattle.std.specs.Prelude.{◌≡◌, false, cond, ℕ, ◌+◌, ◌*◌, ◌≤◌, length, replicate, OnOk};
 ghost use Rattle.adjustment.specs.Blocks.{block_at};
 ghost use Rattle.records.specs.format.Kinds.{kinds_of, limits};
 ghost use Rattle.records.specs.format.Cells.{slot_count};
 ghost use Rattle.records.specs.format.File.{count};
+ghost use Rattle.records.specs.format.RefusalNumbers.{told};
 ghost use Rattle.records.specs.readers.Series.{kinds, refusal};
 ghost use Rattle.records_sheet.specs.joints.Sheet.{Small, first_slots, sheet_after};
 ghost use Rattle.records_refusals.specs.joints.Checks.{records_refusal, negatives, bad_weight_in, all_torn_in, sheet_refusal};
 ghost use Rattle.records_refusals.specs.joints.Room.{Room};
 ghost use Rattle.records.specs.declared.Shape.TheVariants.{Series};
 
+use records::refusal::Refusal;
 use records::{RecordKind, Shape, Sizes};
 use records_block_limits::{bad_size, misfit};
 use records_series::{any_miscounted, blocks_of};
@@ -53,73 +55,67 @@ fn all_torn(z: Sizes, sheet: &[f64], at: usize) -> bool
     false
 }
 
-// Numbers 5 to 8.
+// Refuses what the sheet says: 5 to 8, lowest number first.
 fn sheet_refusal(
     z: Sizes,
     blocks: [adjustment::Block; 3],
     firsts: &[usize; 34],
     sheet: &[f64],
-) -> u32
+) -> Result<(), Refusal>
     requires small { Small z × (z.blocks ≤ 3) × (firsts.now ≡ first_slots (kinds_of Series z)) × (slot_count (kinds_of Series z) ≤ length sheet.now) }
     requires by_index { (b : ℕ) → ((block_at blocks b).effects ≤ 255) × ((block_at blocks b).groups ≤ 4294967295) }
-    ensures { result ≡ sheet_refusal z blocks sheet.now }
+    ensures { told result ≡ sheet_refusal z blocks sheet.now }
 {
     let variance = firsts[RecordKind::Sigma2 as usize];
     let weights = firsts[RecordKind::Weight as usize];
     let contrast = firsts[RecordKind::Contrast as usize];
     if sheet[variance] <= 0.0 {
-        return 5;
+        return Err(Refusal::Variance);
     }
     if bad_weight(z, sheet, weights) {
-        return 6;
+        return Err(Refusal::Weight);
     }
     if misfit(z, blocks) {
-        return 7;
+        return Err(Refusal::Misfit);
     }
     if records_contrast::zero_contrast(z, sheet, contrast) {
-        return 8;
+        return Err(Refusal::ZeroContrast);
     }
-    0
+    Ok(())
 }
 
-// Numbers 2, 12 and 13: by the file's length, its order and form, and its blocks' parameter counts. The lent flags are all clear at first.
-fn records_refusal(w: usize, s: &[u8], flags: &mut [bool]) -> u32
+// Refuses a file by its length, its order and form, and its blocks' parameter counts: 2, 12 and 13. The lent flags are all clear at first.
+fn records_refusal(w: usize, s: &[u8], flags: &mut [bool]) -> Result<(), Refusal>
     requires { (1 ≤ w) × (w ≤ 256) × (flags.old ≡ replicate (length flags.old) false) × (slot_count (kinds_of Series (limits w)) ≤ length flags.old) }
-    ensures { result ≡ records_refusal w s.now }
+    ensures { told result ≡ records_refusal w s.now }
 {
-    let formed = records_form::file_refusal(Shape::Series, w, s, flags);
-    if formed != 0 {
-        return formed;
-    }
+    records_form::file_refusal(Shape::Series, w, s, flags)?;
     if any_miscounted(s) {
-        return 13;
+        return Err(Refusal::BlockCount);
     }
-    0
+    Ok(())
 }
 
-// The number with which a file is refused before anything is computed, with the limit of specimens w; 0 where it is not, and then the sheet holds the file's numbers.
-pub fn refusal(w: usize, s: &[u8], flags: &mut [bool], sheet: &mut [f64]) -> u32
+// Refuses a file before anything is computed, with the limit of specimens w; where it is taken the sheet holds the file's numbers.
+pub fn refusal(w: usize, s: &[u8], flags: &mut [bool], sheet: &mut [f64]) -> Result<(), Refusal>
     requires { Room w flags.old sheet.old }
-    ensures value { result ≡ refusal w s.now }
-    ensures sheet_after { result ≡ 0 → sheet.new ≡ sheet_after (length sheet.old) (kinds s.now) s.now (count s.now) }
+    ensures value { told result ≡ refusal w s.now }
+    ensures sheet_after { OnOk result (sheet.new ≡ sheet_after (length sheet.old) (kinds s.now) s.now (count s.now)) }
 {
-    let recorded = records_refusal(w, s, flags);
-    if recorded != 0 {
-        return recorded;
-    }
+    records_refusal(w, s, flags)?;
     let z = records_sizes::series_sizes(s);
     let blocks = blocks_of(s, z.blocks);
     if bad_size(blocks, z.blocks) {
-        return 3;
+        return Err(Refusal::Size);
     }
     let firsts = records_sheet::first_slots(Shape::Series, z);
     records_sheet::fill_sheet(Shape::Series, z, &firsts, s, sheet);
     let weights = firsts[RecordKind::Weight as usize];
     if all_torn(z, &sheet[..], weights) {
-        return 3;
+        return Err(Refusal::Size);
     }
     if records_file::any_not_finite(s) {
-        return 4;
+        return Err(Refusal::NotFinite);
     }
     sheet_refusal(z, blocks, &firsts, &sheet[..])
 }

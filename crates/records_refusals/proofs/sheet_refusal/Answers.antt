@@ -14,16 +14,16 @@ use Rattle.records.specs.declared.Shape.TheVariants.{Series}
 use Rattle.records_refusals.proofs.sheet_refusal.Goals as goal
 
 -- ---- the number, by the first of the tests that holds
-abbrev told : Bool → Bool → Bool → Bool → ℕ
-told p q r t = cond p 5 (cond q 6 (cond r 7 (cond t 8 0)))
+abbrev number_by : Bool → Bool → Bool → Bool → ℕ
+number_by p q r t = cond p 5 (cond q 6 (cond r 7 (cond t 8 0)))
 
-seven : {p q r : Bool} (t : Bool) → p ≡ false → q ≡ false → r ≡ true → told p q r t ≡ 7
+seven : {p q r : Bool} (t : Bool) → p ≡ false → q ≡ false → r ≡ true → number_by p q r t ≡ 7
 seven t e f g = rw (e, f, g)
 
-eight : {p q r t : Bool} → p ≡ false → q ≡ false → r ≡ false → t ≡ true → told p q r t ≡ 8
+eight : {p q r t : Bool} → p ≡ false → q ≡ false → r ≡ false → t ≡ true → number_by p q r t ≡ 8
 eight e f g h = rw (e, f, g, h)
 
-none : {p q r t : Bool} → p ≡ false → q ≡ false → r ≡ false → t ≡ false → told p q r t ≡ 0
+none : {p q r t : Bool} → p ≡ false → q ≡ false → r ≡ false → t ≡ false → number_by p q r t ≡ 0
 none e f g h = rw (e, f, g, h)
 
 pub offset_bounds-sheet-variance : goal.offset_bounds-sheet-variance
