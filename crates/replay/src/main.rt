@@ -3,37 +3,53 @@
 // Of each line that differs it prints the number, from 1, the call and the library's own answer, or what is wrong with the line; at the end, for each call, how many of its lines were answered as stored, and how many lines differ.
 #![tactic(auto)]
 
+mod buffer;
 mod calls;
-mod calls_with_table;
 mod files;
 mod names;
-mod own_text;
+mod with_table;
+mod without_table;
 
-ghost use Rattle.std.specs.Prelude.{◌≤◌, length};
+use buffer::{Buffer, NEWLINE};
+use calls::{Answer, put_answer};
+use files::{COMMA, FILE, first_and_rest};
+use names::{Call, TASKS};
+use table_bits_text::{spell, split_once};
+use with_table::WithTable;
+use without_table::WithoutTable;
 
-use files::behind;
-use names::NO_CALL;
-use own_text::NEWLINE;
-
-// The longest line that is held: 32,768 digits of files, an archive of 7,184 bytes in digits and a text fit with room to spare.
-const LINE: usize = 65536;
+// A line that fills it is too long. 32,768 digits of files, an archive of 7,184 bytes in digits and a text fit with room to spare.
+type Line = Buffer<65537>;
 
 // How much of the input is read at a time: what `io::large_buffer` has.
 const PART: usize = 65536;
 
-// More bytes than an answer has: an archive in digits, a text and what stands between them.
-const ANSWER: usize = 16384;
+const BLANK: u8 = b' ';
 
-// The counts: of each call the lines that were answered as stored; at the place of no call the lines that differ; last all lines.
-const COUNTS: usize = 10;
+// A line that can be answered: its call, its files in digits, and the stored answer.
+#[derive(Clone, Copy)]
+struct Asked<'a> {
+    call: Call,
+    digits: &'a [u8],
+    stored: &'a [u8],
+}
 
-const LINES: usize = 9;
+// What is wrong with a line that can't.
+#[derive(Clone, Copy)]
+enum Fault {
+    NoCall,
+    NoAnswer,
+    OtherFiles,
+}
 
-const BLANK: u8 = 32;
-
-// One more, and no more than a count holds.
-fn one_more(n: u64) -> u64 {
-    if n < u64::MAX { n + 1 } else { n }
+impl Fault {
+    fn text(self) -> &'static [u8] {
+        match self {
+            Fault::NoCall => b"is no call",
+            Fault::NoAnswer => b"has no answer in its line",
+            Fault::OtherFiles => b"has other files",
+        }
+    }
 }
 
 // A line that differs: its number, the word that stands for its call, and what is to be said.
@@ -46,154 +62,138 @@ fn print_difference(number: u64, word: &[u8], text: &[u8]) {
     io::write_all(1, b"\n");
 }
 
-// Where the first blank of a text stands; the text's length where there is none.
-fn blank_in(text: &[u8]) -> usize
-    ensures { result ≤ length text.now }
-{
-    let mut i = 0;
-    while i < text.len() {
-        if text[i] == BLANK {
-            return i;
+// The line whose call a word names, and whose other parts stand behind it.
+fn parts_of<'a>(word: &[u8], rest: &'a [u8]) -> Result<Asked<'a>, Fault> {
+    let call = Call::named(word).ok_or(Fault::NoCall)?;
+    let (digits, stored) = split_once(rest, BLANK).ok_or(Fault::NoAnswer)?;
+    if files::unfit(digits, call.commas()) {
+        return Err(Fault::OtherFiles);
+    }
+    Ok(Asked {
+        call,
+        digits,
+        stored,
+    })
+}
+
+// The library's own answer to the files of a call.
+fn put_own(call: Call, digits: &[u8], own: &mut Answer) {
+    if !call.with_table {
+        return put_answer(&WithoutTable, call.task, digits, own);
+    }
+    let (first, rest) = first_and_rest(digits, COMMA);
+    let mut table = [0u8; FILE];
+    let n = spell(first, &mut table);
+    let by = WithTable { table: &table[..n] };
+    put_answer(&by, call.task, rest, own);
+}
+
+// The call of a line that is answered as stored.
+fn judged(number: u64, line: &[u8]) -> Option<Call> {
+    let (word, rest) = first_and_rest(line, BLANK);
+    match parts_of(word, rest) {
+        Ok(asked) => compared(number, word, asked),
+        Err(fault) => {
+            print_difference(number, word, fault.text());
+            None
         }
-        i += 1;
     }
-    i
 }
 
-// The own answer beside the stored one: the call where they are the same, and else no call.
-fn compared(number: u64, call: usize, word: &[u8], digits: &[u8], stored: &[u8]) -> usize
-    requires { call ≤ 8 }
-    ensures { result ≤ 8 }
-{
-    let mut own = [0u8; ANSWER];
-    let n = put_answer(call, digits, &mut own);
-    let end = files::at_most(n, &own);
-    if own_text::same(&own[..end], stored) {
-        return call;
+// The own answer beside the stored one: the call where they are the same.
+fn compared(number: u64, word: &[u8], asked: Asked) -> Option<Call> {
+    let mut own = Buffer::new();
+    put_own(asked.call, asked.digits, &mut own);
+    if own.text() == asked.stored {
+        return Some(asked.call);
     }
-    print_difference(number, word, &own[..end]);
-    NO_CALL
+    print_difference(number, word, own.text());
+    None
 }
 
-// The library's own answer to the files of a known call.
-fn put_answer(call: usize, digits: &[u8], own: &mut [u8]) -> usize {
-    if call < names::WITH_TABLE {
-        return calls::put_answer(call, digits, own);
-    }
-    calls_with_table::put_answer(call, digits, own)
+// The list as far as it is read: the line that is held, of each call how many lines were answered as stored, how many differ, and how many there were.
+#[derive(Drop)]
+struct Reading {
+    line: Line,
+    answered: [u64; 8],
+    differ: u64,
+    lines: u64,
 }
 
-// What stands in a line behind the name of its call: the call where it is answered as stored, and else no call.
-fn judged_call(number: u64, call: usize, word: &[u8], rest: &[u8]) -> usize
-    requires { call ≤ 8 }
-    ensures { result ≤ 8 }
-{
-    let end = blank_in(rest);
-    if end == rest.len() {
-        print_difference(number, word, b"has no answer in its line");
-        return NO_CALL;
-    }
-    let digits = &rest[0..end];
-    if files::unfit(digits, names::commas_of(call)) {
-        print_difference(number, word, b"has other files");
-        return NO_CALL;
-    }
-    let start = behind(end, rest);
-    compared(number, call, word, digits, &rest[start..])
-}
-
-// The call of a line that is answered as stored; no call where the line differs.
-fn judged(number: u64, line: &[u8]) -> usize
-    ensures { result ≤ 8 }
-{
-    let end = blank_in(line);
-    let word = &line[0..end];
-    let call = names::call_of(word);
-    if call == NO_CALL {
-        print_difference(number, word, b"is no call");
-        return NO_CALL;
-    }
-    let start = behind(end, line);
-    judged_call(number, call, word, &line[start..])
-}
-
-// Judges the line that is held, and counts it. One that is too long is not held whole, and differs whatever it says.
-fn close(line: &[u8], held: usize, counts: &mut [u64; COUNTS]) {
-    let number = one_more(counts[LINES]);
-    counts[LINES] = number;
-    if line.len() < held {
-        print_difference(number, b"a line", b"is too long");
-        counts[NO_CALL] = one_more(counts[NO_CALL]);
-        return;
-    }
-    let call = judged(number, &line[0..held]);
-    counts[call] = one_more(counts[call]);
-}
-
-// Takes one byte of the input. `held` is how many bytes of the line are held; one more than there is room for says that the line is too long.
-fn take(b: u8, line: &mut [u8; LINE], held: usize, counts: &mut [u64; COUNTS]) -> usize {
-    if b == NEWLINE {
-        close(line, held, counts);
-        return 0;
-    }
-    if held < LINE {
-        line[held] = b;
-        return held + 1;
-    }
-    LINE + 1
-}
-
-fn take_all(part: &[u8], line: &mut [u8; LINE], start: usize, counts: &mut [u64; COUNTS]) -> usize {
-    let mut held = start;
-    for i in 0..part.len() {
-        held = take(part[i], line, held, counts);
-    }
-    held
-}
-
-// The next 65,536 bytes of standard input, or what is left of it, and then it was the last.
-fn next_part(
-    line: &mut [u8; LINE],
-    held: usize,
-    counts: &mut [u64; COUNTS],
-    last: &mut bool,
-) -> usize {
-    let mut part = io::large_buffer();
-    let n = io::read_full(0, &mut part);
-    *last = n < PART;
-    take_all(&part[..n], line, held, counts)
-}
-
-// All of standard input; how many bytes of a line are left that no newline ends. A proved loop has to end: as in `pulltest`, it counts its parts down from a number that no run uses up.
-fn read_all(line: &mut [u8; LINE], counts: &mut [u64; COUNTS]) -> usize {
-    let mut held: usize = 0;
-    let mut last = false;
-    let mut parts = u64::MAX;
-    while parts > 0 {
-        held = next_part(line, held, counts, &mut last);
-        if last {
-            return held;
+impl Reading {
+    fn new() -> Self {
+        Reading {
+            line: Buffer::new(),
+            answered: [0; 8],
+            differ: 0,
+            lines: 0,
         }
-        parts -= 1;
     }
-    held
-}
 
-// The last line, where no newline ends it.
-fn close_last(line: &[u8; LINE], held: usize, counts: &mut [u64; COUNTS]) {
-    if 0 < held {
-        close(line, held, counts);
+    // The call of the line that is held, where it is answered as stored. One that is too long is not held whole, and differs whatever it says.
+    fn judged(&self) -> Option<Call> {
+        if self.line.is_full() {
+            print_difference(self.lines, b"a line", b"is too long");
+            return None;
+        }
+        judged(self.lines, self.line.text())
     }
-}
 
-// The counts, each behind its name.
-fn print_counts(counts: &[u64; COUNTS]) {
-    for call in 0..NO_CALL {
-        names::print_name(call);
-        print_count(counts[call]);
+    // Judges the line that is held, and counts it.
+    fn close(&mut self) {
+        self.lines = self.lines.saturating_add(1);
+        match self.judged() {
+            Some(call) => {
+                let place = call.place();
+                self.answered[place] = self.answered[place].saturating_add(1);
+            }
+            None => self.differ = self.differ.saturating_add(1),
+        }
+        self.line.clear();
     }
-    io::write_all(1, b"differ");
-    print_count(counts[NO_CALL]);
+
+    fn take(&mut self, b: u8) {
+        if b == NEWLINE {
+            self.close();
+        } else {
+            self.line.put_byte(b);
+        }
+    }
+
+    // The next 65,536 bytes of standard input, or what is left of it; whether it was the last.
+    fn take_part(&mut self) -> bool {
+        let mut part = io::large_buffer();
+        let n = io::read_full(0, &mut part);
+        for b in &part[..n] {
+            self.take(*b);
+        }
+        n < PART
+    }
+
+    // All of standard input, with the last line, where no newline ends it. A proved loop has to end: as in `pulltest`, it counts its parts up to a number that no run reaches.
+    fn take_all(&mut self) {
+        for _ in 0..u64::MAX {
+            if self.take_part() {
+                break;
+            }
+        }
+        if !self.line.is_empty() {
+            self.close();
+        }
+    }
+
+    // The counts, each behind its name.
+    fn print_counts(&self) {
+        for with_table in [false, true] {
+            for task in TASKS {
+                let call = Call { task, with_table };
+                call.print_name();
+                print_count(self.answered[call.place()]);
+            }
+        }
+        io::write_all(1, b"differ");
+        print_count(self.differ);
+    }
 }
 
 fn print_count(n: u64) {
@@ -203,9 +203,7 @@ fn print_count(n: u64) {
 }
 
 fn main() {
-    let mut line = [0u8; LINE];
-    let mut counts = [0u64; COUNTS];
-    let held = read_all(&mut line, &mut counts);
-    close_last(&line, held, &mut counts);
-    print_counts(&counts);
+    let mut list = Reading::new();
+    list.take_all();
+    list.print_counts();
 }

@@ -13,13 +13,6 @@ use records::Shape;
 use records_answer_text::TEXT_ROOM;
 use records_kenward_roger::{PANEL_CELLS, PANEL_NARROW, PANEL_WORK};
 
-// No series has more than m.
-fn at_most(n: usize, m: usize) -> usize
-    ensures { result ≤ m }
-{
-    if n < m { n } else { m }
-}
-
 // The adjustment of a file that the reader takes, from its sheet. An accepted series has one place for each theta, and one G more.
 fn print_adjustment(file: &[u8], sheet: &mut [f64])
     requires { SeriesRead 24 file.now (sizes file.now) (first_slots (kinds file.now)) sheet.old }
@@ -27,8 +20,9 @@ fn print_adjustment(file: &[u8], sheet: &mut [f64])
     let z = records_sizes::series_sizes(file);
     let firsts = records_sheet::first_slots(Shape::Series, z);
     let kept = records_torn::shorten(z, &firsts, sheet);
-    let p = at_most(z.coefficients, 6);
-    let n = at_most(z.thetas, 3) + 1;
+    // No series has more.
+    let p = z.coefficients.min(6);
+    let n = z.thetas.min(3) + 1;
     let blank = algebra_products::zeros();
     let mut work = [0.0; PANEL_WORK];
     let mut narrow = [0.0; PANEL_NARROW];
@@ -51,9 +45,9 @@ fn print_adjustment(file: &[u8], sheet: &mut [f64])
         &mut w,
         &mut turns,
     );
-    print::matrix(b"PhiA", phi_a, p, p);
-    print::numbered(ps, n, p);
-    print::matrix(b"W", w, n, n);
+    print::matrix(b"PhiA", &phi_a[..p], p);
+    print::numbered(&ps[..n], p);
+    print::matrix(b"W", &w[..n], n);
     print::rotations(turns);
 }
 
@@ -76,42 +70,24 @@ fn print_case(file: &[u8]) {
     }
 }
 
-// The case of a line of n digits.
-fn run_line(digits: &[u8; 16384], n: usize)
-    requires { n ≤ 16384 }
-{
+// The case of a line. Digits past the room of a file are left out.
+fn run_line(digits: &[u8]) {
     let mut file = [0u8; 8192];
-    let bytes = n / 2;
-    table_bits_text::spell(digits, bytes, &mut file);
-    print_case(&file[..bytes]);
+    let n = table_bits_text::spell(digits, &mut file);
+    print_case(&file[..n]);
 }
 
-// Takes one byte of the input; `held` digits of the line are held.
-fn take(b: u8, digits: &mut [u8; 16384], held: usize) -> usize
-    requires { held ≤ 16384 }
-    ensures { result ≤ 16384 }
-{
-    if b == 10 {
-        run_line(digits, held);
-        return 0;
-    }
-    if held < 16384 {
-        digits[held] = b;
-        return held + 1;
-    }
-    held
-}
-
-fn take_all(table: &[u8], digits: &mut [u8; 16384]) {
-    let mut held: usize = 0;
-    for i in 0..table.len() {
-        held = take(table[i], digits, held);
+// The lines of a table, each ended by a newline.
+fn run_table(table: &[u8]) {
+    let mut rest = table;
+    while let Some(end) = rest.iter().position(|b| *b == b'\n') {
+        run_line(&rest[..end]);
+        rest = &rest[end + 1..];
     }
 }
 
 fn main() {
     let mut table = io::large_buffer();
-    let mut digits = [0u8; 16384];
     let n = io::read_full(0, &mut table);
-    take_all(&table[..n], &mut digits);
+    run_table(&table[..n]);
 }

@@ -1,49 +1,33 @@
 // What the program prints of an adjustment: matrices row by row, in the bits of their cells.
-ghost use Rattle.std.specs.Prelude.{◌≤◌, ◌<◌};
+ghost use Rattle.std.specs.Prelude.{◌≤◌, length};
 
-// The digit of a number below 10.
-fn glyph(n: usize) -> u8
-    requires { n < 10 }
-{
-    (48 + n) as u8
-}
-
-fn digit(n: usize)
-    requires { n < 10 }
-{
-    let text = [glyph(n); 1];
-    io::write_all(1, &text);
-}
-
-fn cells(row: [f64; 6], columns: usize)
-    requires { columns ≤ 6 }
-{
-    for j in 0..columns {
+fn cells(row: &[f64]) {
+    for x in row {
         io::write_all(1, b" ");
-        table_bits_text::print_word(arithmetic::plain::to_bits(row[j]));
+        table_bits_text::print_word(arithmetic::plain::to_bits(*x));
     }
     io::write_all(1, b"\n");
 }
 
-// A line for each row: the matrix's name, the row's number and its cells.
-pub fn matrix(name: &[u8], m: [[f64; 6]; 6], rows: usize, columns: usize)
-    requires { (rows ≤ 6) × (columns ≤ 6) }
+// A line for each row: the matrix's name, the row's number and its cells in the first columns.
+pub fn matrix(name: &[u8], rows: &[[f64; 6]], columns: usize)
+    requires { columns ≤ 6 }
 {
-    for i in 0..rows {
+    for (i, row) in rows.iter().enumerate() {
         io::write_all(1, name);
         io::write_all(1, b" row ");
-        digit(i);
-        cells(m[i], columns);
+        io::print_decimal(1, i as u64);
+        cells(&row[..columns]);
     }
 }
 
-// The first n of the Ps, each with its number.
-pub fn numbered(ps: [[[f64; 6]; 6]; 4], n: usize, p: usize)
-    requires { (n ≤ 4) × (p ≤ 6) }
+// The Ps, each with its number and its first p rows and columns.
+pub fn numbered(ps: &[[[f64; 6]; 6]], p: usize)
+    requires { (length ps.now ≤ 4) × (p ≤ 6) }
 {
-    for r in 0..n {
-        let name = [80, 32, glyph(r)];
-        matrix(&name, ps[r], p, p);
+    for (r, m) in ps.iter().enumerate() {
+        let name = [b'P', b' ', b'0' + r as u8];
+        matrix(&name, &m[..p], p);
     }
 }
 

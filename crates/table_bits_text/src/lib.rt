@@ -1,33 +1,28 @@
 // Bytes as two hexadecimal digits and words of 64 bits as sixteen, for the programs that read and print tables.
+// These programs write by `io`, which reaches no C function but `read` and `write`; std's printing would trust those that tell of an error too.
 #![tactic(auto)]
 
-ghost use Rattle.std.specs.Prelude.{◌+◌, ◌*◌, ◌<◌, ◌≤◌, length};
+ghost use Rattle.std.specs.Prelude.{◌≡◌, ◌+◌, ◌<◌, ◌≤◌, length, IfSome};
+ghost use Rattle.io.specs.Counts.{IsPrefixLen};
 
 // The value of a hexadecimal digit; 0 for any other byte.
 pub fn digit(b: u8) -> u64
     ensures { result < 16 }
 {
-    if 48 <= b {
-        if b <= 57 {
-            return (b - 48) as u64;
-        }
+    match b {
+        b'0'..=b'9' => u64::from(b - b'0'),
+        b'a'..=b'f' => u64::from(b - b'a') + 10,
+        _ => 0,
     }
-    if 97 <= b {
-        if b <= 102 {
-            return (b - 87) as u64;
-        }
-    }
-    0
 }
 
 // The word of sixteen digits from a place on.
 pub fn word_at(text: &[u8], at: usize) -> u64
     requires { at + 16 ≤ length text.now }
 {
-    let mut word: u64 = 0;
-    for i in 0..16usize {
-        let d = digit(text[at + i]);
-        word = (word % 1152921504606846976) * 16 + d;
+    let mut word = 0;
+    for b in &text[at..at + 16] {
+        word = (word << 4) | digit(*b);
     }
     word
 }
@@ -37,48 +32,26 @@ fn byte_of(high: u8, low: u8) -> u8 {
     (digit(high) * 16 + digit(low)) as u8
 }
 
-// The first n bytes of a file, from the digits that spell it.
-pub fn spell(digits: &[u8], n: usize, file: &mut [u8])
-    requires { (2 * n ≤ length digits.now) × (n ≤ length file.old) }
+// Fills a file from its start with the bytes that digits spell, as far as there is room; how many bytes these are.
+pub fn spell(digits: &[u8], file: &mut [u8]) -> usize
+    ensures { IsPrefixLen result file.new }
 {
-    for i in 0..n {
-        file[i] = byte_of(digits[2 * i], digits[2 * i + 1]);
+    let (pairs, _) = digits.as_chunks::<2>();
+    for (b, [high, low]) in file.iter_mut().zip(pairs) {
+        *b = byte_of(*high, *low);
     }
-}
-
-// The hexadecimal digit of a number below 16.
-fn letter(d: u64) -> u8
-    requires { d < 16 }
-{
-    if d < 10 {
-        (48 + d) as u8
-    } else {
-        (87 + d) as u8
-    }
+    pairs.len().min(file.len())
 }
 
 // Sixteen digits, the leading one first.
 pub fn print_word(word: u64) {
-    let mut text = [48u8; 16];
-    let mut rest = word;
-    for i in 0..16usize {
-        text[15 - i] = letter(rest % 16);
-        rest = rest / 16;
-    }
-    io::write_all(1, &text);
+    io::print_hex(1, word, 16);
 }
 
-// Where the first of the n digits that is a comma stands; n where none is.
-pub fn comma_in(digits: &[u8], n: usize) -> usize
-    requires { n ≤ length digits.now }
-    ensures { result ≤ n }
+// The part of a text before the first byte of a kind, and the part behind it, if there is one.
+pub fn split_once(text: &[u8], byte: u8) -> Option<(&[u8], &[u8])>
+    ensures { IfSome result (λ parts. length parts.0.now + 1 + length parts.1.now ≡ length text.now) }
 {
-    let mut i = 0;
-    while i < n {
-        if digits[i] == 44 {
-            return i;
-        }
-        i += 1;
-    }
-    n
+    let at = text.iter().position(|b| *b == byte)?;
+    Some((&text[..at], &text[at + 1..]))
 }

@@ -8,12 +8,6 @@ use Rattle.records_refusals.specs.joints.Room.{Room}
 use Rattle.records.specs.declared.Shape.TheVariants.{Series}
 use Rattle.records.proofs.readers.Limits.{slot-count}
 use Rattle.records_refusals.proofs.RoomLaws.{series-read}
-use borrow.Author.Rules.{rules}
-use Rattle.table_adjustment.proofs.print_case.Reads as reads
-use Rattle.table_adjustment.proofs.print_case.Lts as lts
-use Rattle.records_refusals.proofs.refusal.Reads as refusal-reads
-use Rattle.table_adjustment.proofs.print_adjustment.Reads as print-adjustment-reads
-use Rattle.table_adjustment.proofs.print_tests.Reads as print-tests-reads
 use Rattle.table_adjustment.proofs.print_case.Goals as goal
 
 pub refusal-requires : goal.refusal-requires

@@ -3,7 +3,6 @@ use mathlib.Core.Path.{◌≡◌, sym}
 use lib.Seq.{length-sets, length-take-le}
 use lib.ListN.{length}
 use native.Mathlib.Omega.{arith}
-use borrow.Author.Rules.{rules}
 use Rattle.table_adjustment.proofs.print_tests.Goals as goal
 
 pub slice_bounds-out-end : goal.slice_bounds-out-end
