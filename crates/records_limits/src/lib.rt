@@ -47,11 +47,9 @@ fn bad_record(k: Kind, s: &[u8], i: usize) -> bool
 pub fn any_bad(file: Shape, limit: Sizes, s: &[u8]) -> bool
     ensures { result ≡ any (count s.now) (bad_record (kinds_of file limit) s.now) }
 {
-    let n = s.len() / 16;
     let mut last: u8 = 0;
     let mut k = kind_at(file, limit, 0);
-    let mut i = 0;
-    while i < n {
+    for i in 0..s.len() / 16 {
         let kind = kind_of(s, i);
         if kind != last {
             last = kind;
@@ -60,7 +58,6 @@ pub fn any_bad(file: Shape, limit: Sizes, s: &[u8]) -> bool
         if bad_record(k, s, i) {
             return true;
         }
-        i += 1;
     }
     false
 }
@@ -69,11 +66,9 @@ pub fn any_bad(file: Shape, limit: Sizes, s: &[u8]) -> bool
 pub fn any_beyond(file: Shape, z: Sizes, s: &[u8]) -> bool
     ensures { result ≡ any (count s.now) (beyond (kinds_of file z) s.now) }
 {
-    let n = s.len() / 16;
     let mut last: u8 = 0;
     let mut k = kind_at(file, z, 0);
-    let mut i = 0;
-    while i < n {
+    for i in 0..s.len() / 16 {
         let kind = kind_of(s, i);
         if kind != last {
             last = kind;
@@ -82,7 +77,6 @@ pub fn any_beyond(file: Shape, z: Sizes, s: &[u8]) -> bool
         if out_of(k, s, i) {
             return true;
         }
-        i += 1;
     }
     false
 }

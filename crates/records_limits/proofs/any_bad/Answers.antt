@@ -16,7 +16,7 @@ kind_at-k-requires c = tt
 
 pub loop-i-init : goal.loop-i-init
 unfolding any
-loop-i-init c = (refl, omega arith, c.kind_at-k.ensures, refl)
+loop-i-init c = (c.kind_at-k.ensures, refl)
 
 pub kind_at-k-requires-then-kind-last : goal.kind_at-k-requires-then-kind-last
 kind_at-k-requires-then-kind-last c = tt
@@ -26,7 +26,7 @@ unfolding bad_record
 returns-then-bad_record c =
     let known-kind : let a = c.args in Known (kinds_of a.file a.limit) (kind_of a.s.now c.loop-i.i) c.if-kind-last.last c.if-kind-last.k = elim c.if-kind-last.branch [
       | then-kind-last w ↦ asked _ _ _ _ _ _ c.kind_of-kind.ensures w.kind_at-k-then-kind-last.ensures w.last-is w.k-is
-      | else-kind-last w ↦ same_kind _ _ _ _ _ _ _ c.kind_of-kind.ensures w.if-kind-last.false c.loop-i.invariant.2 w.last-is w.k-is
+      | else-kind-last w ↦ same_kind _ _ _ _ _ _ _ c.kind_of-kind.ensures w.if-kind-last.false c.loop-i.invariant.0 w.last-is w.k-is
     ] in
     sym (any-hit _ _ c.loop-i.i (omega arith) (rw (← known-kind.known) (sym c.bad_record.ensures ∙ c.if-bad_record.true)))
 
@@ -35,12 +35,10 @@ unfolding bad_record
 loop-i-preserved c =
     let known-kind : let a = c.args in Known (kinds_of a.file a.limit) (kind_of a.s.now c.loop-i.i) c.if-kind-last.last c.if-kind-last.k = elim c.if-kind-last.branch [
       | then-kind-last w ↦ asked _ _ _ _ _ _ c.kind_of-kind.ensures w.kind_at-k-then-kind-last.ensures w.last-is w.k-is
-      | else-kind-last w ↦ same_kind _ _ _ _ _ _ _ c.kind_of-kind.ensures w.if-kind-last.false c.loop-i.invariant.2 w.last-is w.k-is
+      | else-kind-last w ↦ same_kind _ _ _ _ _ _ _ c.kind_of-kind.ensures w.if-kind-last.false c.loop-i.invariant.0 w.last-is w.k-is
     ] in (
-      refl,
-      omega arith,
       kept-kind _ _ _ _ known-kind,
-      any-miss _ _ c.loop-i.invariant.3 (rw (← known-kind.known) (sym c.bad_record.ensures ∙ c.if-bad_record.false)),
+      any-miss _ _ c.loop-i.invariant.1 (rw (← known-kind.known) (sym c.bad_record.ensures ∙ c.if-bad_record.false)),
     )
 
 pub returns : goal.returns

@@ -11,7 +11,4 @@ use Rattle.records_kinds.proofs.KnownKind.{Known, asked, same_kind, kept-kind}
 use Rattle.records_limits.proofs.any_beyond.Given as goal
 
 abbrev pub invariant-loop-i : goal.invariant-loop-i
-invariant-loop-i l = (l.n ≡ count l.s) × (l.i ≤ l.n) × (l.k ≡ kind_at (kinds_of l.file l.z) l.last) × (any l.i (beyond (kinds_of l.file l.z) l.s) ≡ false)
-
-abbrev pub decreases-loop-i : goal.decreases-loop-i
-decreases-loop-i l = l.n - l.i
+invariant-loop-i l = (l.k ≡ kind_at (kinds_of l.file l.z) l.last) × (any l.i (beyond (kinds_of l.file l.z) l.s) ≡ false)
