@@ -14,32 +14,30 @@ ghost use Rattle.records_sizes.specs.joints.Gathered.{sizes_of};
 use records::{Shape, Sizes};
 use records_file::{column_at, index, kind_of, row_at};
 
+// The library's `max`, with its answer as the definitions say it.
 fn larger(a: usize, b: usize) -> usize
     ensures { result ≡ max a b }
 {
-    if a < b { b } else { a }
+    a.max(b)
 }
 
 // A series has a specimen and a coefficient; a test has a coefficient, a contrast row and a parameter; an archive a coefficient and a parameter.
 fn at_least_one(n: usize) -> usize
     ensures { result ≡ max 1 n }
 {
-    if n < 1 { 1 } else { n }
+    n.max(1)
 }
 
 // One more than the largest row of each kind's records, and the largest column.
 fn rows_of(s: &[u8]) -> [usize; 33]
     ensures { result ≡ row 0 kind_numbers kind_numbers (rows s.now) }
 {
-    let n = s.len() / 16;
     let mut tops = [0usize; 33];
-    let mut i = 0;
-    while i < n {
+    for i in 0..s.len() / 16 {
         let k = index(kind_of(s, i));
         if k < 33 {
             tops[k] = larger(tops[k], row_at(s, i) + 1);
         }
-        i += 1;
     }
     tops
 }
@@ -47,15 +45,12 @@ fn rows_of(s: &[u8]) -> [usize; 33]
 fn columns_of(s: &[u8]) -> [usize; 33]
     ensures { result ≡ row 0 kind_numbers kind_numbers (columns s.now) }
 {
-    let n = s.len() / 16;
     let mut tops = [0usize; 33];
-    let mut i = 0;
-    while i < n {
+    for i in 0..s.len() / 16 {
         let k = index(kind_of(s, i));
         if k < 33 {
             tops[k] = larger(tops[k], column_at(s, i) + 1);
         }
-        i += 1;
     }
     tops
 }

@@ -7,7 +7,4 @@ use Rattle.records_sizes.proofs.SizeLaws.{tops, tops-none, tops-hit, tops-miss}
 use Rattle.records_sizes.proofs.columns_of.Given as goal
 
 abbrev pub invariant-loop-i : goal.invariant-loop-i
-invariant-loop-i l = (l.n ≡ count l.s) × (l.i ≤ l.n) × (l.tops ≡ tops (kind_of l.s) (column_of l.s) l.i)
-
-abbrev pub decreases-loop-i : goal.decreases-loop-i
-decreases-loop-i l = l.n - l.i
+invariant-loop-i l = (l.tops ≡ tops (kind_of l.s) (column_of l.s) l.i)
