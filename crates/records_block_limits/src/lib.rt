@@ -18,14 +18,7 @@ fn any_wrong(blocks: [adjustment::Block; 3], n: usize) -> bool
     requires { n ≤ 3 }
     ensures { result ≡ any n (λ b. wrong_block (block_at blocks b)) }
 {
-    let mut b = 0;
-    while b < n {
-        if wrong_block(blocks[b]) {
-            return true;
-        }
-        b += 1;
-    }
-    false
+    blocks[..n].iter().any(|block| wrong_block(*block))
 }
 
 // The parameters of the first n blocks, and their columns of Z.
@@ -33,27 +26,22 @@ fn parameters_of(blocks: [adjustment::Block; 3], n: usize) -> usize
     requires { (n ≤ 3) × ((b : ℕ) → ((block_at blocks b).effects ≤ 255) × ((block_at blocks b).groups ≤ 4294967295)) }
     ensures { result ≡ parameters_in blocks n }
 {
-    let mut t: usize = 0;
-    let mut b = 0;
-    while b < n {
-        let k = blocks[b].effects;
-        t = t + k * (k + 1) / 2;
-        b += 1;
+    let mut parameters = 0;
+    for block in &blocks[..n] {
+        parameters += block.effects * (block.effects + 1) / 2;
     }
-    t
+    parameters
 }
 
 fn columns_of(blocks: [adjustment::Block; 3], n: usize) -> usize
     requires { (n ≤ 3) × ((b : ℕ) → ((block_at blocks b).effects ≤ 255) × ((block_at blocks b).groups ≤ 4294967295)) }
     ensures { result ≡ columns_in blocks n }
 {
-    let mut t: usize = 0;
-    let mut b = 0;
-    while b < n {
-        t = t + blocks[b].groups * blocks[b].effects;
-        b += 1;
+    let mut columns = 0;
+    for block in &blocks[..n] {
+        columns += block.groups * block.effects;
     }
-    t
+    columns
 }
 
 // A block outside its limits, or more than three block parameters: number 3.

@@ -12,14 +12,9 @@ pub fn any_nonzero(sheet: &[f64], at: usize, m: usize) -> bool
     requires { at + m ≤ length sheet.now }
     ensures { result ≡ nonzeros sheet.now at m }
 {
-    let mut j = 0;
-    while j < m {
-        if !arithmetic::plain::is_zero(sheet[at + j]) {
-            return true;
-        }
-        j += 1;
-    }
-    false
+    sheet[at..at + m]
+        .iter()
+        .any(|x| !arithmetic::plain::is_zero(*x))
 }
 
 // A contrast whose every cell is zero: number 8. The contrast starts at `at`.

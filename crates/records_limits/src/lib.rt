@@ -1,10 +1,10 @@
 // Which records a call refuses: a kind that it does not read, a nonzero unused field, an index past a limit, or a cell beyond the file's sizes.
 #![tactic(auto)]
 
-ghost use Rattle.std.specs.Prelude.{◌≡◌, not, ◌||◌, eqb, ◌<◌};
+ghost use Rattle.std.specs.Prelude.{◌≡◌, ℕ, Bool, not, ◌||◌, eqb, ◌<◌};
 ghost use Rattle.records.specs.format.Scan.{any};
-ghost use Rattle.records.specs.format.Kinds.{kinds_of, value_holds};
-ghost use Rattle.records.specs.format.File.{count, padding_of, bits_of, out_of, bad_record, beyond};
+ghost use Rattle.records.specs.format.Kinds.{kind_at, kinds_of, value_holds};
+ghost use Rattle.records.specs.format.File.{count, kind_of, padding_of, bits_of, out_of, bad_record, beyond};
 
 use records::{Kind, Shape, Sizes};
 use records_file::{bits_at, column_at, count_at, kind_of, padding_at, row_at};
@@ -42,47 +42,36 @@ fn bad_record(k: Kind, s: &[u8], i: usize) -> bool
     !records_kinds::value_holds(value, bits_at(s, i))
 }
 
-// Some record is bad: of a kind that the call does not read, with a nonzero unused field, or past a limit; the limits are sizes. Records rise by kind, so what the table says of the last one's kind is kept, and it is asked
-// again where the kind changes.
-pub fn any_bad(file: Shape, limit: Sizes, s: &[u8]) -> bool
-    ensures { result ≡ any (count s.now) (bad_record (kinds_of file limit) s.now) }
+// Some record fails a test of itself and of what its kind has. Records rise by kind, so what the table says of the last one's kind is kept, and it is asked again where the kind changes.
+fn any_fails<F: Fn(Kind, usize) -> bool>(file: Shape, z: Sizes, s: &[u8], fails: F) -> bool
+    requires { (k : Kind) (i : ℕ) → i < count s.now → F.pre fails k i }
+    ensures { (test : Kind → ℕ → Bool) → ((k : Kind) (i : ℕ) (b : Bool) → F.post fails k i b → b ≡ test k i) → result ≡ any (count s.now) (λ i. test (kind_at (kinds_of file z) (kind_of s.now i)) i) }
 {
-    let n = s.len() / 16;
     let mut last: u8 = 0;
-    let mut k = kind_at(file, limit, 0);
-    let mut i = 0;
-    while i < n {
+    let mut k = kind_at(file, z, last);
+    for i in 0..s.len() / 16 {
         let kind = kind_of(s, i);
         if kind != last {
             last = kind;
-            k = kind_at(file, limit, kind);
+            k = kind_at(file, z, kind);
         }
-        if bad_record(k, s, i) {
+        if fails(k, i) {
             return true;
         }
-        i += 1;
     }
     false
+}
+
+// Some record is bad: of a kind that the call does not read, with a nonzero unused field, or past a limit; the limits are sizes.
+pub fn any_bad(file: Shape, limit: Sizes, s: &[u8]) -> bool
+    ensures { result ≡ any (count s.now) (bad_record (kinds_of file limit) s.now) }
+{
+    any_fails(file, limit, s, |k, i| bad_record(k, s, i))
 }
 
 // Some record names a cell that the sizes do not leave its kind.
 pub fn any_beyond(file: Shape, z: Sizes, s: &[u8]) -> bool
     ensures { result ≡ any (count s.now) (beyond (kinds_of file z) s.now) }
 {
-    let n = s.len() / 16;
-    let mut last: u8 = 0;
-    let mut k = kind_at(file, z, 0);
-    let mut i = 0;
-    while i < n {
-        let kind = kind_of(s, i);
-        if kind != last {
-            last = kind;
-            k = kind_at(file, z, kind);
-        }
-        if out_of(k, s, i) {
-            return true;
-        }
-        i += 1;
-    }
-    false
+    any_fails(file, z, s, |k, i| out_of(k, s, i))
 }

@@ -23,14 +23,7 @@ fn any_negative(sheet: &[f64], at: usize, m: usize) -> bool
     requires { at + m ≤ length sheet.now }
     ensures { result ≡ negatives sheet.now at m }
 {
-    let mut j = 0;
-    while j < m {
-        if sheet[at + j] < 0.0 {
-            return true;
-        }
-        j += 1;
-    }
-    false
+    sheet[at..at + m].iter().any(|x| *x < 0.0)
 }
 
 // A weight below zero: number 6. The weights start at `at`.

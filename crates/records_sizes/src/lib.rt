@@ -1,10 +1,11 @@
 // The sizes of a file, from the largest indices of its records, by which of the four it is (`Shape`).
 #![tactic(auto)]
 
-ghost use Rattle.std.specs.Prelude.{◌≡◌, max};
+ghost use Rattle.std.specs.Prelude.{◌≡◌, ℕ, ◌+◌, ◌<◌, max, cond, eqb};
 ghost use Rattle.algebra.specs.Table.{row};
+ghost use Rattle.records.specs.format.Scan.{most};
 ghost use Rattle.records.specs.format.Kinds.{kind_numbers};
-ghost use Rattle.records.specs.format.File.{rows, columns};
+ghost use Rattle.records.specs.format.File.{count, kind_of, rows, columns};
 ghost use Rattle.records.specs.readers.Series.{sizes as seriesSizes};
 ghost use Rattle.records.specs.readers.Parameters.{sizes as parameterSizes};
 ghost use Rattle.records.specs.readers.Archive.{sizes as archiveSizes};
@@ -14,50 +15,47 @@ ghost use Rattle.records_sizes.specs.joints.Gathered.{sizes_of};
 use records::{Shape, Sizes};
 use records_file::{column_at, index, kind_of, row_at};
 
+// The library's `max`, with its answer as the definitions say it.
 fn larger(a: usize, b: usize) -> usize
     ensures { result ≡ max a b }
 {
-    if a < b { b } else { a }
+    a.max(b)
 }
 
 // A series has a specimen and a coefficient; a test has a coefficient, a contrast row and a parameter; an archive a coefficient and a parameter.
 fn at_least_one(n: usize) -> usize
     ensures { result ≡ max 1 n }
 {
-    if n < 1 { 1 } else { n }
+    n.max(1)
+}
+
+// One more than the largest number that a field has, of each kind's records.
+fn tops_of<F: Fn(usize) -> usize>(s: &[u8], field: F) -> [usize; 33]
+    requires callable { (i : ℕ) → i < count s.now → F.pre field i }
+    requires small { (i x : ℕ) → F.post field i x → x < 256 }
+    ensures { (f : ℕ → ℕ) → ((i x : ℕ) → F.post field i x → x ≡ f i) → result ≡ row 0 kind_numbers kind_numbers (λ k. most (count s.now) (λ i. cond (eqb (kind_of s.now i) k) (f i + 1) 0)) }
+{
+    let mut tops = [0usize; 33];
+    for i in 0..s.len() / 16 {
+        let k = index(kind_of(s, i));
+        if k < 33 {
+            tops[k] = larger(tops[k], field(i) + 1);
+        }
+    }
+    tops
 }
 
 // One more than the largest row of each kind's records, and the largest column.
 fn rows_of(s: &[u8]) -> [usize; 33]
     ensures { result ≡ row 0 kind_numbers kind_numbers (rows s.now) }
 {
-    let n = s.len() / 16;
-    let mut tops = [0usize; 33];
-    let mut i = 0;
-    while i < n {
-        let k = index(kind_of(s, i));
-        if k < 33 {
-            tops[k] = larger(tops[k], row_at(s, i) + 1);
-        }
-        i += 1;
-    }
-    tops
+    tops_of(s, |i| row_at(s, i))
 }
 
 fn columns_of(s: &[u8]) -> [usize; 33]
     ensures { result ≡ row 0 kind_numbers kind_numbers (columns s.now) }
 {
-    let n = s.len() / 16;
-    let mut tops = [0usize; 33];
-    let mut i = 0;
-    while i < n {
-        let k = index(kind_of(s, i));
-        if k < 33 {
-            tops[k] = larger(tops[k], column_at(s, i) + 1);
-        }
-        i += 1;
-    }
-    tops
+    tops_of(s, |i| column_at(s, i))
 }
 
 // The sizes of a series.

@@ -1,31 +1,18 @@
 -- `records_contrast::any_nonzero` meets its contract.
-use Prim.Native.Nat.{◌+◌, ◌≤◌, ◌-◌}
-use mathlib.Core.Path.{◌≡◌, refl, sym}
-use mathlib.Core.Bool.{false}
-use lib.ListN.{length}
-use native.Mathlib.Omega.{arith}
-use Rattle.records.specs.format.Scan.{any}
-use Rattle.records.proofs.format.ScanLaws.{any-miss, any-hit}
+use Rattle.std.proofs.Common.{rules, tests, refl, arith, ap, ◌∙◌, not, get_or, take, drop, ◌+◌, ◌-◌}
+use Rattle.std.specs.Float.{nan}
+use lib.Seq.{get_or-take, get_or-drop}
+use Rattle.std.proofs.lemmas.List.{places}
+use Rattle.arithmetic.specs.Numbers.{is_zero}
+use Rattle.records.proofs.format.RangeScans.{any_in_items}
 use Rattle.records_contrast.specs.joints.Contrast.{nonzeros}
-use Rattle.records_contrast.proofs.any_nonzero.Reads as reads
-use Rattle.records_contrast.proofs.any_nonzero.Lts as lts
-use Rattle.arithmetic.proofs.plain.is_zero.Reads as is-zero-reads
 use Rattle.records_contrast.proofs.any_nonzero.Goals as goal
 
-pub loop-j-init : goal.loop-j-init
-unfolding nonzeros any
-loop-j-init c = (omega arith, c.requires, refl)
-
-pub is_zero-requires : goal.is_zero-requires
-is_zero-requires c = tt
-
-pub returns-then-not-is_zero : goal.returns-then-not-is_zero
-unfolding nonzeros
-returns-then-not-is_zero c = sym (any-hit _ _ c.loop-j.j (omega arith) (cc))
-
-pub loop-j-preserved : goal.loop-j-preserved
-unfolding nonzeros
-loop-j-preserved c = (omega arith, omega arith, any-miss _ _ c.loop-j.invariant.2 (cc))
-
 pub returns : goal.returns
-returns c = let e : c.loop-j.j ≡ c.args.m = omega arith in cc
+unfolding nonzeros
+returns c =
+    let sheet = c.args.sheet.now in
+    let at = c.args.at in
+    let m = c.args.m in
+    any_in_items m (λ j. not (is_zero (get_or sheet (at + j) nan))) (take (at + m - at) (drop at sheet)) nan (λ x. not (is_zero x)) c.any.ensures.ran (search rules) (search (rules, places))
+    (λ i l. ap (λ x. not (is_zero x)) (get_or-take (at + m - at) (drop at sheet) i nan (omega arith) ∙ get_or-drop at sheet i nan)) (λ x b h k. search (rules, tests))

@@ -1,6 +1,5 @@
 -- `records_limits::bad_record` meets its contract.
 use borrow.Author.Tests.{eq-eqb, ne_eqb}
-use borrow.Author.Rules.{rules}
 use Rattle.records_limits.proofs.bad_record.Goals as goal
 
 pub returns-then-out_of : goal.returns-then-out_of

@@ -1,6 +1,5 @@
 -- `records_limits::out_of` meets its contract.
 use Rattle.records.specs.format.File.{out_of}
-use borrow.Author.Rules.{rules}
 use Rattle.records_limits.proofs.out_of.Goals as goal
 
 pub returns-then-not-holds : goal.returns-then-not-holds

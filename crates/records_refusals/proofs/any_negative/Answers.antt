@@ -1,28 +1,19 @@
 -- `records_refusals::any_negative` meets its contract.
-use Prim.Native.Nat.{◌+◌, ◌≤◌, ◌-◌}
-use mathlib.Core.Path.{◌≡◌, refl, sym}
-use mathlib.Core.Bool.{false}
-use lib.ListN.{length}
-use lib.Ieee.{of_bits}
-use native.Mathlib.Omega.{arith}
-use Rattle.records.specs.format.Scan.{any}
-use Rattle.records.proofs.format.ScanLaws.{any-miss, any-hit}
+use Rattle.std.proofs.Common.{rules, tests, refl, arith, ap, ◌∙◌, get_or, take, drop, ◌+◌, ◌-◌}
+use Rattle.std.specs.Float.{nan}
+use Rattle.std.specs.Float.Ieee.{lt, of_bits}
+use lib.Seq.{get_or-take, get_or-drop}
+use Rattle.std.proofs.lemmas.List.{places}
+use Rattle.arithmetic.specs.Numbers.{plus_zero}
+use Rattle.records.proofs.format.RangeScans.{any_in_items}
 use Rattle.records_refusals.specs.joints.Checks.{negatives}
-use Rattle.records_refusals.proofs.any_negative.Reads as reads
-use Rattle.records_refusals.proofs.any_negative.Lts as lts
 use Rattle.records_refusals.proofs.any_negative.Goals as goal
 
-pub loop-j-init : goal.loop-j-init
-unfolding negatives any
-loop-j-init c = (omega arith, c.requires, refl)
-
-pub returns-then-sheet-at : goal.returns-then-sheet-at
-unfolding negatives of_bits
-returns-then-sheet-at c = sym (any-hit _ _ c.loop-j.j (omega arith) c.if-sheet-at.true)
-
-pub loop-j-preserved : goal.loop-j-preserved
-unfolding negatives of_bits
-loop-j-preserved c = (omega arith, omega arith, any-miss _ _ c.loop-j.invariant.2 c.if-sheet-at.false)
-
 pub returns : goal.returns
-returns c = let e : c.loop-j.j ≡ c.args.m = omega arith in cc
+unfolding negatives of_bits
+returns c =
+    let sheet = c.args.sheet.now in
+    let at = c.args.at in
+    let m = c.args.m in
+    any_in_items m (λ j. lt (get_or sheet (at + j) nan) plus_zero) (take (at + m - at) (drop at sheet)) nan (λ x. lt x plus_zero) c.any.ensures.ran (search rules) (search (rules, places))
+    (λ i l. ap (λ x. lt x plus_zero) (get_or-take (at + m - at) (drop at sheet) i nan (omega arith) ∙ get_or-drop at sheet i nan)) (λ x b h k. search (rules, tests))
