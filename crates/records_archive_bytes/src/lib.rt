@@ -231,8 +231,7 @@ pub fn put_archive(
 {
     let z = sizes_at(p, n);
     let mut at: usize = 0;
-    let mut k: u8 = 0;
-    while k < 33 {
+    for k in 0..33u8 {
         at = put_kind(
             out,
             at,
@@ -244,7 +243,6 @@ pub fn put_archive(
             w,
             sigma2,
         );
-        k += 1;
     }
     at
 }

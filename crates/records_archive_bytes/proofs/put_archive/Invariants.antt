@@ -12,6 +12,3 @@ use Rattle.records_archive_bytes.proofs.put_archive.Given as goal
 
 abbrev pub invariant-loop-k : goal.invariant-loop-k
 invariant-loop-k l = (l.k ≤ 33) × (l.z ≡ sizes_at l.p l.n) × (length l.out ≡ length l.initial.out) × Front l.p l.n l.phi l.phi_a l.ps l.w l.sigma2 l.initial.out l.out l.k l.at
-
-abbrev pub decreases-loop-k : goal.decreases-loop-k
-decreases-loop-k l = 33 - l.k

@@ -11,6 +11,3 @@ use Rattle.records_archive_reader.proofs.any_not_scaled.Given as goal
 
 abbrev pub invariant-loop-j : goal.invariant-loop-j
 invariant-loop-j l = (l.j ≤ l.m) × (l.scaled + l.m ≤ length l.sheet) × (l.residual + l.m ≤ length l.sheet) × (not_scaled l.over l.sheet l.scaled l.residual l.j l.sigma2 ≡ false)
-
-abbrev pub decreases-loop-j : goal.decreases-loop-j
-decreases-loop-j l = l.m - l.j
