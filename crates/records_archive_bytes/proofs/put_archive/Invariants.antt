@@ -1,13 +1,8 @@
-use Prim.Native.Nat.{◌-◌, ◌≤◌}
-use native.Mathlib.Omega.{arith}
-use mathlib.Core.Path.{◌≡◌, refl, ap, ◌∙◌}
+use Prim.Native.Nat.{◌≤◌}
+use mathlib.Core.Path.{◌≡◌}
 use lib.ListN.{length}
-use Rattle.records.specs.declared.Sizes.{Sizes}
-use Rattle.records.specs.format.Kinds.{kind_at, kinds_of, archive_kinds}
-use Rattle.records.specs.format.Cells.{slots}
 use Rattle.records.specs.readers.Archive.{sizes_at}
-use Rattle.records_archive_bytes.proofs.FrontLaws.{narrow, kind-room, Front, front-none, front-more, front-all}
-use Rattle.records.specs.declared.Shape.TheVariants.{Archived}
+use Rattle.records_archive_bytes.proofs.FrontLaws.{Front}
 use Rattle.records_archive_bytes.proofs.put_archive.Given as goal
 
 abbrev pub invariant-loop-k : goal.invariant-loop-k

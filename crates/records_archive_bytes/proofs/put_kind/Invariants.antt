@@ -1,12 +1,10 @@
-use Prim.Native.Nat.{ℕ, ◌+◌, ◌-◌, ◌*◌, ◌≤◌}
-use native.Mathlib.Omega.{arith}
-use mathlib.Core.Path.{◌≡◌, refl, ap}
+use Prim.Native.Nat.{◌*◌, ◌≤◌}
+use mathlib.Core.Path.{◌≡◌}
 use lib.ListN.{length}
 use lib.Seq.{sets}
 use Rattle.records.specs.format.Kinds.{width}
 use Rattle.records.specs.format.Written.{sequence}
-use Rattle.records_archive_bytes.specs.joints.Parts.{archive_from, sheet_bytes, matrices_bytes}
-use Rattle.records_archive_bytes.proofs.StoredLaws.{pieces_none, pieces_more, length-sheet, kind-place, kind-ends, few-cells}
+use Rattle.records_archive_bytes.specs.joints.Parts.{archive_from, sheet_bytes}
 use Rattle.records_archive_bytes.proofs.put_kind.Given as goal
 
 abbrev pub invariant-loop-n : goal.invariant-loop-n

@@ -1,12 +1,10 @@
-use Prim.Native.Nat.{◌-◌, ◌≤◌}
-use native.Mathlib.Omega.{arith}
-use mathlib.Core.Path.{◌≡◌, refl}
+use Prim.Native.Nat.{◌≤◌}
+use mathlib.Core.Path.{◌≡◌}
 use lib.ListN.{length}
 use lib.Seq.{sets}
 use Rattle.records.specs.format.Kinds.{width}
 use Rattle.records.specs.format.Written.{sequence}
-use Rattle.records_archive_bytes.specs.joints.Parts.{archive_from, cell_bytes, line_bytes}
-use Rattle.records_archive_bytes.proofs.StoredLaws.{pieces_none, pieces_more, length-cell}
+use Rattle.records_archive_bytes.specs.joints.Parts.{archive_from, cell_bytes}
 use Rattle.records_archive_bytes.proofs.put_line.Given as goal
 
 abbrev pub invariant-loop-c : goal.invariant-loop-c

@@ -1,12 +1,10 @@
-use Prim.Native.Nat.{ℕ, ◌+◌, ◌-◌, ◌*◌, ◌≤◌}
-use native.Mathlib.Omega.{arith}
-use mathlib.Core.Path.{◌≡◌, refl, ap}
+use Prim.Native.Nat.{◌*◌, ◌≤◌}
+use mathlib.Core.Path.{◌≡◌}
 use lib.ListN.{length}
 use lib.Seq.{sets}
 use Rattle.records.specs.format.Kinds.{width}
 use Rattle.records.specs.format.Written.{sequence}
-use Rattle.records_archive_bytes.specs.joints.Parts.{archive_from, line_bytes, sheet_bytes}
-use Rattle.records_archive_bytes.proofs.StoredLaws.{pieces_none, pieces_more, piece-ends-as, length-line}
+use Rattle.records_archive_bytes.specs.joints.Parts.{archive_from, line_bytes}
 use Rattle.records_archive_bytes.proofs.put_sheet.Given as goal
 
 abbrev pub invariant-loop-r : goal.invariant-loop-r
