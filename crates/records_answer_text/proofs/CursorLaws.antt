@@ -1,12 +1,14 @@
 -- A text put after another is one text put.
-use Prim.Native.Nat.{ℕ, ◌+◌, ◌<◌, ◌≤◌}
+use Prim.Native.Nat.{ℕ, ◌+◌, ◌≤◌}
 use native.Mathlib.Omega.{arith}
 use native.Mathlib.Nat.{add-zero}
-use native.Mathlib.Numerals.{add-one}
 use mathlib.Core.Path.{◌≡◌, refl, sym, ap, ◌∙◌}
-use mathlib.Core.List.{List, [], ◌∷◌, ◌++◌}
-use lib.ListN.{length, get_or, take, set, length-append}
-use lib.Seq.{sets, take-suc, length-take-le}
+use mathlib.Core.List.{List, [], ◌∷◌, ◌++◌, append_assoc}
+use borrow.Rule.Slice.PartMut.{put_mid}
+use Rattle.std.proofs.lemmas.Slice.{put_mid-paste}
+use Rattle.std.proofs.lemmas.List.Edits.{paste_all}
+use lib.ListN.{length, take, drop, set, length-append}
+use lib.Seq.{sets, sets-eq}
 use Rattle.records_little_endian.proofs.StoreLaws.{sets-append}
 use Rattle.records_answer_text.specs.joints.Cursor.{Put}
 
@@ -36,9 +38,6 @@ named {m} {n} {a} {b} {at} {r} {xs} {ys} p e h =
     let x = p.short in
     record { stored = p.stored ∙ ap (sets a at) e; moved = omega arith; short = omega arith }
 
--- one byte more of a text
-pub take_more : (a : List ℕ) (at : ℕ) (xs : List ℕ) (i : ℕ) → i < length xs → set (sets a at (take i xs)) (at + i) (get_or xs i 0) ≡ sets a at (take (i + 1) xs)
-take_more a at xs i h =
-    let k : at + i ≡ at + length (take i xs) = let x = length-take-le i xs (omega arith) in omega arith in
-    let more : take (i + 1) xs ≡ take i xs ++ (get_or xs i 0 ∷ []) = ap (λ (n : ℕ). take n xs) (add-one i) ∙ take-suc xs i 0 h in
-    rw (k, more) (sets-append a at (take i xs) (get_or xs i 0 ∷ []))
+-- a text copied whole over the bytes from a place on
+pub pasted : (a : List ℕ) (at k : ℕ) (text ys : List ℕ) → at + length text ≤ length a → k ≡ length text → ys ≡ text → put_mid at k a ys ≡ sets a at text
+pasted a at k text ys l e g = put_mid-paste at k a ys text (length text) g (sym e) refl ∙ paste_all a at text (length text) refl ∙ sym (append_assoc (take at a) text (drop (at + length text) a)) ∙ sym (sets-eq text a at l)

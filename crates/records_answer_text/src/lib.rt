@@ -12,17 +12,14 @@ use tests::{Entry, Number};
 // What `pulltest` lends for the text of a series.
 pub const TEXT_ROOM: usize = 512;
 
-// A given text, byte by byte.
+// A given text.
 pub fn put_text(out: &mut [u8], at: usize, text: &[u8]) -> usize
     requires { at + length text.now ≤ length out.old }
     ensures { Put (length text.now) out.old at text.now out.new result }
 {
-    let mut i = 0;
-    while i < text.len() {
-        out[at + i] = text[i];
-        i += 1;
-    }
-    at + i
+    let end = at + text.len();
+    out[at..end].copy_from_slice(text);
+    end
 }
 
 // A digit of a number in base 10 or 16: 48 is the character 0, and 97 is a.
@@ -105,7 +102,7 @@ pub fn put_fields(out: &mut [u8], at: usize, e: Entry) -> usize
     let rank = e.rank;
     let inside = e.inside;
     let at = put_text(out, at, b"rank ");
-    let at = put_decimal(out, at, 3, rank as u64);
+    let at = put_decimal(out, at, 3, u64::from(rank));
     let at = put_text(out, at, b" F ");
     let at = put_number(out, at, f);
     let at = put_text(out, at, b" df ");
@@ -147,7 +144,7 @@ pub fn put_refusal(out: &mut [u8], at: usize, number: u32) -> usize
     ensures { Put 19 out.old at (refusal_text number) out.new result }
 {
     let at = put_text(out, at, b"refused ");
-    let at = put_decimal(out, at, 10, number as u64);
+    let at = put_decimal(out, at, 10, u64::from(number));
     put_text(out, at, b"\n")
 }
 
@@ -157,11 +154,8 @@ fn put_coefficients(out: &mut [u8], at: usize, es: [Entry; 7]) -> usize
     ensures { Put 378 out.old at (coefficient_lines 6 es) out.new result }
 {
     let mut next = at;
-    let mut i = 0;
-    while i < 6 {
-        let e = es[i];
-        next = put_coefficient(out, next, i, e);
-        i += 1;
+    for i in 0..6 {
+        next = put_coefficient(out, next, i, es[i]);
     }
     next
 }

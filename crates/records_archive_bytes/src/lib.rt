@@ -30,14 +30,6 @@ pub fn sizes_at(p: usize, n: usize) -> Sizes
     }
 }
 
-// A number below 256 as a byte.
-fn byte_of(x: usize) -> u8
-    requires { x < 256 }
-    ensures { result ≡ x }
-{
-    x as u8
-}
-
 // One record, put from a place on; the fields are below 256.
 pub fn put_record(
     out: &mut [u8],
@@ -55,10 +47,10 @@ pub fn put_record(
         out,
         at,
         kind,
-        byte_of(row),
-        byte_of(column),
+        row as u8,
+        column as u8,
         0,
-        byte_of(count),
+        count as u8,
         0,
         0,
         0,
@@ -231,8 +223,7 @@ pub fn put_archive(
 {
     let z = sizes_at(p, n);
     let mut at: usize = 0;
-    let mut k: u8 = 0;
-    while k < 33 {
+    for k in 0..33u8 {
         at = put_kind(
             out,
             at,
@@ -244,7 +235,6 @@ pub fn put_archive(
             w,
             sigma2,
         );
-        k += 1;
     }
     at
 }

@@ -5,7 +5,7 @@ use native.Mathlib.Omega.{arith}
 use mathlib.Core.Path.{◌≡◌, refl, sym, ap, ap₂, ◌∙◌, subst}
 use mathlib.Core.Bool.{Bool, true, false, ◌||◌, cond}
 use mathlib.Core.List.{List, [], ◌++◌}
-use lib.Dec.{eqb, lit<, lit≤}
+use lib.Dec.{lit<}
 use lib.ListN.{length, get_or, replicate, length-replicate}
 use lib.Ieee.{Float, nan, binary64, mul, div, le}
 use Rattle.arithmetic.specs.Numbers.{plus_zero}

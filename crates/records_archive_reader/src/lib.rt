@@ -41,13 +41,11 @@ fn any_not_scaled(
     requires { (scaled + m ≤ length sheet.now) × (residual + m ≤ length sheet.now) }
     ensures { result ≡ not_scaled over sheet.now scaled residual m sigma2 }
 {
-    let mut j = 0;
-    while j < m {
+    for j in 0..m {
         let x = in_units(over, sheet[residual + j], sigma2);
         if differs(sheet[scaled + j], x) {
             return true;
         }
-        j += 1;
     }
     false
 }

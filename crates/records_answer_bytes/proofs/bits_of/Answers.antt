@@ -1,5 +1,4 @@
 -- `records_answer_bytes::bits_of` meets its contract.
-use borrow.Author.Rules.{rules}
 use mathlib.Core.Path.{sym, ap, ◌∙◌}
 use Rattle.records.specs.format.Layout.{bits_of}
 use Rattle.records_answer_bytes.proofs.bits_of.Goals as goal

@@ -1,17 +1,8 @@
-use Prim.Native.Nat.{ℕ, ◌≤◌, ◌<◌, ◌-◌, ◌*◌}
-use mathlib.Core.Path.{◌≡◌, refl, ap, ◌∙◌}
-use mathlib.Core.Bool.{false}
-use mathlib.Core.List.{List}
-use native.Mathlib.Omega.{arith}
-use borrow.Author.Rules.{rules}
-use lib.Ieee.{nan}
-use lib.ListN.{length, get_or, take}
-use lib.Seq.{sets, take_all}
-use Rattle.tests.specs.declared.Number.TheVariants.{Is}
-use Rattle.tests.specs.declared.Entry.{Entry}
-use Rattle.records.specs.format.Layout.{answer_bytes, entry_bytes}
-use Rattle.records_little_endian.proofs.StoreLaws.{sets-all}
-use Rattle.records_answer_bytes.proofs.LayoutLaws.{length-answer, store}
+use Prim.Native.Nat.{◌≤◌}
+use mathlib.Core.Path.{◌≡◌}
+use lib.ListN.{length, take}
+use lib.Seq.{sets}
+use Rattle.records.specs.format.Layout.{answer_bytes}
 use Rattle.records_answer_bytes.proofs.put_answer.Given as goal
 
 abbrev pub invariant-loop-i : goal.invariant-loop-i

@@ -2,7 +2,6 @@
 use mathlib.Core.Path.{sym}
 use borrow.Author.Tests.{lt-ltb, le-ltb}
 use Rattle.records.specs.text.Text.{digit}
-use borrow.Author.Rules.{rules}
 use Rattle.records_answer_text.proofs.letter.Goals as goal
 
 pub returns-then-d-lt10 : goal.returns-then-d-lt10

@@ -2,7 +2,6 @@
 use Rattle.records.specs.text.Text.{codes}
 use Rattle.records_answer_text.proofs.CursorLaws.{then}
 use Rattle.records_answer_text.proofs.TextLaws.{coefficient-unused, coefficient-used}
-use borrow.Author.Rules.{rules}
 use Rattle.records_answer_text.proofs.put_coefficient.Goals as goal
 
 pub returns-then-rank-eq0 : goal.returns-then-rank-eq0

@@ -1,11 +1,10 @@
 -- `records_answer_text::put_coefficients` meets its contract: after i turns the first i lines stand.
-use Prim.Native.Nat.{ℕ, ◌≤◌, ◌<◌, ◌+◌, ◌-◌, ◌*◌}
+use Prim.Native.Nat.{ℕ, ◌<◌}
 use native.Mathlib.Omega.{arith}
 use borrow.Author.Rules.{rules}
 use mathlib.Core.Path.{◌≡◌, refl, ap, ◌∙◌}
 use lib.ListN.{length}
 use Rattle.records.specs.text.Text.{coefficient_lines}
-use Rattle.records_answer_text.specs.joints.Cursor.{Put}
 use Rattle.records_answer_text.proofs.CursorLaws.{stay, named}
 use Rattle.records_answer_text.proofs.TextLaws.{coefficients-more}
 use Rattle.records_answer_text.proofs.put_coefficients.Goals as goal

@@ -1,6 +1,5 @@
 -- `records_answer_text::put_digit` meets its contract: one byte is stored.
 use Rattle.records_answer_text.proofs.CursorLaws.{single}
-use borrow.Author.Rules.{rules}
 use Rattle.records_answer_text.proofs.put_digit.Goals as goal
 
 pub returns : goal.returns

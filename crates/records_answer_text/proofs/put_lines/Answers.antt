@@ -8,7 +8,6 @@ use Rattle.tests.specs.Answer.{no_entry}
 use Rattle.records.specs.text.Text.{coefficient_lines, test_line, lines_text}
 use Rattle.records_answer_text.proofs.CursorLaws.{then, named}
 use Rattle.records_answer_text.proofs.TextLaws.{past, get_d_any}
-use borrow.Author.Rules.{rules}
 use Rattle.records_answer_text.proofs.put_lines.Goals as goal
 
 pub returns : goal.returns

@@ -3,7 +3,6 @@ use native.Mathlib.Omega.{arith}
 use mathlib.Core.Path.{◌≡◌, sym}
 use Rattle.records.specs.text.Text.{codes, mark_text}
 use Rattle.records_answer_text.proofs.CursorLaws.{named}
-use borrow.Author.Rules.{rules}
 use Rattle.records_answer_text.proofs.put_mark.Goals as goal
 
 pub returns-then-inside : goal.returns-then-inside

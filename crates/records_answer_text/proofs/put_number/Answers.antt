@@ -3,7 +3,6 @@ use native.Mathlib.Omega.{arith}
 use mathlib.Core.Path.{◌≡◌, sym, ap, ◌∙◌}
 use Rattle.records.specs.text.Text.{codes, hexadecimal, number_text}
 use Rattle.records_answer_text.proofs.CursorLaws.{named}
-use borrow.Author.Rules.{rules}
 use Rattle.records_answer_text.proofs.put_number.Goals as goal
 
 pub returns-in-Is : goal.returns-in-Is

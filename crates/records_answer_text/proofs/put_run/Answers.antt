@@ -2,7 +2,6 @@
 use Rattle.records_answer_text.proofs.CursorLaws.{named}
 use Rattle.records_answer_text.proofs.TextLaws.{text-refused, text-accepted}
 use native.Mathlib.Omega.{arith}
-use borrow.Author.Rules.{rules}
 use Rattle.records_answer_text.proofs.put_run.Goals as goal
 
 pub returns-then-number-ne0 : goal.returns-then-number-ne0

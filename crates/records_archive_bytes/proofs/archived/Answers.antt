@@ -2,7 +2,6 @@
 use native.Mathlib.Omega.{arith}
 use borrow.Author.Tests.{ne_eqb}
 use Rattle.records.specs.readers.Archive.{archived}
-use borrow.Author.Rules.{rules}
 use Rattle.records_archive_bytes.proofs.archived.Goals as goal
 
 pub returns-in-11 : goal.returns-in-11

@@ -1,5 +1,4 @@
 -- `records_archive_bytes::put_archive` meets its contract: after k turns the kinds below k stand.
-use Prim.Native.Nat.{◌-◌, ◌≤◌}
 use native.Mathlib.Omega.{arith}
 use mathlib.Core.Path.{◌≡◌, refl, ap, ◌∙◌}
 use lib.ListN.{length}
@@ -7,7 +6,7 @@ use Rattle.records.specs.declared.Sizes.{Sizes}
 use Rattle.records.specs.format.Kinds.{kind_at, kinds_of, archive_kinds}
 use Rattle.records.specs.format.Cells.{slots}
 use Rattle.records.specs.readers.Archive.{sizes_at}
-use Rattle.records_archive_bytes.proofs.FrontLaws.{narrow, kind-room, Front, front-none, front-more, front-all}
+use Rattle.records_archive_bytes.proofs.FrontLaws.{narrow, kind-room, front-none, front-more, front-all}
 use Rattle.records.specs.declared.Shape.TheVariants.{Archived}
 use Rattle.records_archive_bytes.proofs.put_archive.Goals as goal
 

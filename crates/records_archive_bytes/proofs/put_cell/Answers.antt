@@ -3,7 +3,6 @@ use Prim.Native.Nat.{◌<◌}
 use native.Mathlib.Omega.{arith}
 use Rattle.records_archive_bytes.specs.joints.Parts.{archive_from}
 use Rattle.records_archive_bytes.proofs.StoredLaws.{index-small, cell-stored}
-use borrow.Author.Rules.{rules}
 use Rattle.records_archive_bytes.proofs.put_cell.Goals as goal
 
 pub put_record-requires : goal.put_record-requires

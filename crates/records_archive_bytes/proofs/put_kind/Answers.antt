@@ -1,11 +1,9 @@
 -- `records_archive_bytes::put_kind` meets its contract: after n turns the first n matrices stand.
-use Prim.Native.Nat.{ℕ, ◌+◌, ◌-◌, ◌*◌, ◌≤◌}
+use Prim.Native.Nat.{ℕ, ◌+◌, ◌*◌}
 use native.Mathlib.Omega.{arith}
 use mathlib.Core.Path.{◌≡◌, refl, ap}
 use lib.ListN.{length}
-use lib.Seq.{sets}
 use Rattle.records.specs.format.Kinds.{width}
-use Rattle.records.specs.format.Written.{sequence}
 use Rattle.records_archive_bytes.specs.joints.Parts.{archive_from, sheet_bytes, matrices_bytes}
 use Rattle.records_archive_bytes.proofs.StoredLaws.{pieces_none, pieces_more, length-sheet, kind-place, kind-ends, few-cells}
 use Rattle.records_archive_bytes.proofs.put_kind.Goals as goal

@@ -1,11 +1,8 @@
 -- `records_archive_bytes::put_line` meets its contract: after c turns the first c records stand.
-use Prim.Native.Nat.{◌-◌, ◌≤◌}
 use native.Mathlib.Omega.{arith}
 use mathlib.Core.Path.{◌≡◌, refl}
 use lib.ListN.{length}
-use lib.Seq.{sets}
 use Rattle.records.specs.format.Kinds.{width}
-use Rattle.records.specs.format.Written.{sequence}
 use Rattle.records_archive_bytes.specs.joints.Parts.{archive_from, cell_bytes, line_bytes}
 use Rattle.records_archive_bytes.proofs.StoredLaws.{pieces_none, pieces_more, length-cell}
 use Rattle.records_archive_bytes.proofs.put_line.Goals as goal

@@ -1,11 +1,9 @@
 -- `records_archive_bytes::put_sheet` meets its contract: after r turns the first r rows stand.
-use Prim.Native.Nat.{ℕ, ◌+◌, ◌-◌, ◌*◌, ◌≤◌}
+use Prim.Native.Nat.{ℕ, ◌+◌, ◌*◌}
 use native.Mathlib.Omega.{arith}
 use mathlib.Core.Path.{◌≡◌, refl, ap}
 use lib.ListN.{length}
-use lib.Seq.{sets}
 use Rattle.records.specs.format.Kinds.{width}
-use Rattle.records.specs.format.Written.{sequence}
 use Rattle.records_archive_bytes.specs.joints.Parts.{archive_from, line_bytes, sheet_bytes}
 use Rattle.records_archive_bytes.proofs.StoredLaws.{pieces_none, pieces_more, piece-ends-as, length-line}
 use Rattle.records_archive_bytes.proofs.put_sheet.Goals as goal

@@ -1,16 +1,11 @@
-use Prim.Native.Nat.{ℕ, ◌+◌, ◌-◌, ◌*◌, ◌≤◌}
-use native.Mathlib.Omega.{arith}
-use mathlib.Core.Path.{◌≡◌, refl, ap}
+use Prim.Native.Nat.{◌*◌, ◌≤◌}
+use mathlib.Core.Path.{◌≡◌}
 use lib.ListN.{length}
 use lib.Seq.{sets}
 use Rattle.records.specs.format.Kinds.{width}
 use Rattle.records.specs.format.Written.{sequence}
-use Rattle.records_archive_bytes.specs.joints.Parts.{archive_from, line_bytes, sheet_bytes}
-use Rattle.records_archive_bytes.proofs.StoredLaws.{pieces_none, pieces_more, piece-ends-as, length-line}
+use Rattle.records_archive_bytes.specs.joints.Parts.{archive_from, line_bytes}
 use Rattle.records_archive_bytes.proofs.put_sheet.Given as goal
 
 abbrev pub invariant-loop-r : goal.invariant-loop-r
 invariant-loop-r l = (l.r ≤ l.rows) × (l.rows ≡ width l.z.row) × (l.line ≡ 16 * width l.z.column) × (length l.out ≡ length l.initial.out) × (l.out ≡ sets l.initial.out l.at (sequence l.r (line_bytes (archive_from 0 0 l.phi l.phi_a l.ps l.w l.sigma2) l.z l.kind l.n)))
-
-abbrev pub decreases-loop-r : goal.decreases-loop-r
-decreases-loop-r l = l.rows - l.r

@@ -1,8 +1,7 @@
 -- `records_archive_reader::any_not_scaled` meets its contract. The invariant: each of the first j numbers is its residual one, scaled.
-use Prim.Native.Nat.{◌+◌, ◌≤◌, ◌-◌}
+use Prim.Native.Nat.{◌+◌}
 use mathlib.Core.Path.{◌≡◌, refl, sym, ap, ◌∙◌}
-use mathlib.Core.Bool.{false}
-use lib.ListN.{length, get_or}
+use lib.ListN.{get_or}
 use lib.Ieee.{Float, nan}
 use native.Mathlib.Omega.{arith}
 use Rattle.records.specs.format.Scan.{any}

@@ -1,6 +1,5 @@
 -- `records_archive_reader::differs` meets its contract.
 use Rattle.records_archive_reader.specs.joints.Checks.{differs}
-use borrow.Author.Rules.{rules}
 use Rattle.records_archive_reader.proofs.differs.Goals as goal
 
 pub returns : goal.returns

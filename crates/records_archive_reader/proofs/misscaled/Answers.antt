@@ -2,7 +2,6 @@
 use lib.ListN.{length}
 use native.Mathlib.Omega.{arith}
 use Rattle.records_archive_reader.proofs.ReaderLaws.{variance-fits, phi-fits, phi-a-fits, ps-fit, misscaled-cases, square-below, squares-below}
-use borrow.Author.Rules.{rules}
 use Rattle.records_archive_reader.proofs.misscaled.Goals as goal
 
 pub overflow_mul-square : goal.overflow_mul-square

@@ -4,7 +4,6 @@ use lib.ListN.{length}
 use lib.Ieee.{of_bits}
 use native.Mathlib.Omega.{arith}
 use Rattle.records_archive_reader.proofs.ReaderLaws.{variance-fits, number-cases}
-use borrow.Author.Rules.{rules}
 use Rattle.records_archive_reader.proofs.numbers_refusal.Goals as goal
 
 pub offset_bounds-sheet-firsts : goal.offset_bounds-sheet-firsts

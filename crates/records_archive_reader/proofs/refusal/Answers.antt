@@ -7,7 +7,6 @@ use Rattle.records.specs.readers.Archive.{reader, reasons, refusal}
 use Rattle.records.proofs.readers.ReaderLaws.{form-refuses}
 use Rattle.records_form.proofs.FormLaws.{FormedSizes, formed-sizes, sheet-from}
 use Rattle.records_archive_reader.proofs.ReaderLaws.{value-refused, sheet-room, numbers-refused}
-use borrow.Author.Rules.{rules}
 use Rattle.records_archive_reader.proofs.refusal.Goals as goal
 
 pub file_refusal-formed-requires : goal.file_refusal-formed-requires
