@@ -57,20 +57,20 @@ fn cellwise(a: [[f64; 6]; 6], b: [[f64; 6]; 6], r: usize, n: usize, c: usize)
 fn marked_products(a: [[Marked; 6]; 6], b: [[Marked; 6]; 6], r: usize, n: usize, c: usize)
     requires { (r ≤ 6) × (n ≤ 6) × (c ≤ 6) }
 {
-    print::marked_matrix(algebra_products_marked::product(a, b, r, n, c));
-    print::marked_matrix(algebra_products_marked::sandwich(a, b, r, n));
-    print::marked_number(algebra_products_marked::like_cells(a, b, r, n));
-    print::marked_number(algebra_products_marked::trace(a, r));
-    print::marked_number(algebra_products_marked::cells::all_marks(a, r, n, a[0][0]));
+    print::marked_matrix(algebra_products::product(a, b, r, n, c));
+    print::marked_matrix(algebra_products::sandwich(a, b, r, n));
+    print::marked_number(algebra_products::like_cells(a, b, r, n));
+    print::marked_number(algebra_products::trace(a, r));
+    print::marked_number(algebra_products::cells::all_marks(a, r, n, a[0][0]));
 }
 
 fn marked_cellwise(a: [[Marked; 6]; 6], b: [[Marked; 6]; 6], r: usize, n: usize)
     requires { (r ≤ 6) × (n ≤ 6) }
 {
-    print::marked_matrix(algebra_products_marked::plus_cells(a, b, r, n));
-    print::marked_matrix(algebra_products_marked::minus_cells(a, b, r, n));
-    print::marked_matrix(algebra_products_marked::times_number(a, b[0][0], r, n));
-    print::marked_matrix(algebra_products_marked::over_number(a, b[0][0], r, n));
+    print::marked_matrix(algebra_products::plus_cells(a, b, r, n));
+    print::marked_matrix(algebra_products::minus_cells(a, b, r, n));
+    print::marked_matrix(algebra_products::times_number(a, b[0][0], r, n));
+    print::marked_matrix(algebra_products::over_number(a, b[0][0], r, n));
 }
 
 fn solutions(a: [[f64; 6]; 6], b: [[f64; 6]; 6], n: usize, c: usize)
@@ -135,8 +135,8 @@ pub fn run(text: &[u8; 1241]) {
 fn choose(which: u64, a: [[f64; 6]; 6], b: [[f64; 6]; 6], r: usize, n: usize, c: usize)
     requires { (r ≤ 6) × (n ≤ 6) × (c ≤ 6) }
 {
-    let ma = algebra_products_marked::cells::given_cells(a, 6, 6);
-    let mb = algebra_products_marked::cells::given_cells(b, 6, 6);
+    let ma = algebra_products::cells::given_cells(a, 6, 6);
+    let mb = algebra_products::cells::given_cells(b, 6, 6);
     if which == 1 {
         products(a, b, r, n, c);
         cellwise(a, b, r, n, c);

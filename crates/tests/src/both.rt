@@ -3,7 +3,7 @@ ghost use Rattle.std.specs.Prelude.{◌≡◌, ◌≤◌};
 ghost use Rattle.tests.specs.Both.{is_positive, square_one, stack_seen};
 ghost use Rattle.algebra.specs.Kind.{marks};
 
-use algebra_products_marked::cells::all_marks;
+use algebra_products::cells::all_marks;
 use arithmetic::Marked;
 use arithmetic::plain::is_finite;
 use arithmetic_steps::{div, mul, square_root};

@@ -60,7 +60,7 @@ pub fn divided(rows: usize, p: usize, l: [[f64; 6]; 6]) -> [[Marked; 6]; 6]
     requires { (rows ≤ 6) × (p ≤ 6) }
     ensures { result ≡ divided marks rows p l }
 {
-    let mut out = algebra_products_marked::cells::zeros();
+    let mut out = algebra_products::zeros();
     for i in 0..rows {
         for j in 0..p {
             out[i][j] = divided_cell(p, l, i, j);
@@ -295,9 +295,9 @@ pub fn contrast_basis(
     ensures { (record { rows = result; rank = rank.new; seen = marked plus_zero seen.new } ≡ contrast_basis marks rows p l) × (rank.new ≤ 6) }
 {
     let d = divided(rows, p, l);
-    let all = algebra_products_marked::cells::all_marks(d, rows, p, given(0.0));
+    let all = algebra_products::cells::all_marks(d, rows, p, given(0.0));
     *seen = is_inside(all);
-    let m = algebra_products_marked::cells::values(d, rows, p);
+    let m = algebra_products::cells::values(d, rows, p);
     if rows == 1 {
         *rank = 1;
         return m;

@@ -13,8 +13,7 @@ ghost use Rattle.tests.specs.Satterthwaite.{eigenvalues, not_positive, variances
 
 use crate::pooled::{get_fstat_ddf, tolerance};
 use crate::variance::{gradient_seen, no_marks, variance_df};
-use algebra_products_marked::cells::zeros;
-use algebra_products_marked::{cell, product, transpose};
+use algebra_products::{cell, product, transpose, zeros};
 use arithmetic::Marked;
 use arithmetic::plain::{is_nan, of_count};
 use arithmetic_cutoffs::Cutoffs;

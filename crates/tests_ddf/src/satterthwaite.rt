@@ -12,7 +12,7 @@ use crate::components::{
 use crate::starts::{contrast_of, start_seen, transform_contrast, transformed};
 use crate::variance::{gradient_seen, no_marks, variance_df};
 use algebra_jacobi_marked::jacobi;
-use algebra_products_marked::cells::{all_marks, given_cells};
+use algebra_products::cells::{all_marks, given_cells};
 use arithmetic::Marked;
 use arithmetic_cutoffs::Cutoffs;
 use arithmetic_steps::{also, is_inside, seen_of};

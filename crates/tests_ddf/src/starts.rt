@@ -5,8 +5,8 @@ ghost use Rattle.algebra.specs.Product.{product};
 ghost use Rattle.tests.specs.Satterthwaite.{column, contrast_of, transformed, transformed_all};
 ghost use Rattle.tests_ddf.specs.joints.Parts.{start_seen_of};
 
-use algebra_products_marked::cells::{all_marks, given_cells, zeros};
-use algebra_products_marked::{minus_cells, product, sandwich};
+use algebra_products::cells::{all_marks, given_cells};
+use algebra_products::{minus_cells, product, sandwich, zeros};
 use arithmetic::Marked;
 use arithmetic_steps::given;
 use tests::both::stack_seen;

@@ -10,8 +10,8 @@ ghost use Rattle.tests.specs.Both.{stack_seen};
 
 use adjustment_response_units::scaled_down;
 use algebra_elimination_marked::solve;
-use algebra_products_marked::cells::{all_marks, given_cells, values, zeros};
-use algebra_products_marked::{product, sandwich, transpose};
+use algebra_products::cells::{all_marks, given_cells, values};
+use algebra_products::{product, sandwich, transpose, zeros};
 use arithmetic::Marked;
 use arithmetic_cutoffs::Cutoffs;
 use arithmetic_steps::{add, also, given, is_inside, mul, sub, zero_of};
