@@ -1,8 +1,9 @@
 -- `algebra_rotation::turn_row` meets its contract.
-use Rattle.algebra.specs.Kind.{floats}
-use Rattle.algebra_rotation.proofs.Turns.{turn-row-is}
-use borrow.Author.Rules.{rules}
+use Rattle.algebra.specs.Jacobi.{turn_row}
+use Rattle.std.proofs.Common.{rules}
+use Rattle.std.proofs.lemmas.Grind.{common_steps}
 use Rattle.algebra_rotation.proofs.turn_row.Goals as goal
 
 pub returns : goal.returns
-returns c = turn-row-is floats _ _ _ _ _ _ _ c.turned_first.ensures c.turned_second.ensures
+unfolding turn_row
+returns g c = search (rules, common_steps)
