@@ -1,6 +1,4 @@
 // What the program prints: words of bits, marks, and whole matrices of six rows.
-ghost use Rattle.std.specs.Prelude.{◌+◌, ◌*◌, ◌≤◌, length};
-
 use arithmetic::Marked;
 
 pub fn number(x: f64) {
@@ -9,11 +7,14 @@ pub fn number(x: f64) {
 
 pub fn marked_number(x: Marked) {
     number(x.value);
-    if arithmetic_steps::is_inside(x) {
-        io::write_all(1, b"+");
-    } else {
-        io::write_all(1, b"-");
-    }
+    io::write_all(
+        1,
+        if arithmetic_steps::is_inside(x) {
+            b"+"
+        } else {
+            b"-"
+        },
+    );
 }
 
 pub fn flag(b: bool) {
@@ -29,41 +30,31 @@ pub fn count(n: usize) {
     io::write_all(1, b"\n");
 }
 
-fn row(r: [f64; 6]) {
-    for j in 0..6usize {
-        number(r[j]);
+// The cells of a row.
+pub fn cells(row: &[f64]) {
+    for x in row {
+        number(*x);
         io::write_all(1, b" ");
     }
     io::write_all(1, b"\n");
 }
 
 pub fn matrix(m: [[f64; 6]; 6]) {
-    for i in 0..6usize {
-        row(m[i]);
+    for row in &m {
+        cells(row);
     }
 }
 
-fn marked_row(r: [Marked; 6]) {
-    for j in 0..6usize {
-        marked_number(r[j]);
+fn marked_cells(row: &[Marked]) {
+    for x in row {
+        marked_number(*x);
         io::write_all(1, b" ");
     }
     io::write_all(1, b"\n");
 }
 
 pub fn marked_matrix(m: [[Marked; 6]; 6]) {
-    for i in 0..6usize {
-        marked_row(m[i]);
+    for row in &m {
+        marked_cells(row);
     }
-}
-
-// The n cells of a slice from a place on.
-pub fn cells(work: &[f64], at: usize, n: usize)
-    requires { at + n ≤ length work.now }
-{
-    for j in 0..n {
-        number(work[at + j]);
-        io::write_all(1, b" ");
-    }
-    io::write_all(1, b"\n");
 }
