@@ -1,7 +1,7 @@
 // One case: its matrices are read, and the algorithm that its first word names is run on plain and on marked numbers.
 ghost use Rattle.std.specs.Prelude.{◌≤◌};
 
-use crate::print;
+use crate::print::{self, Printed};
 use arithmetic::Marked;
 
 // 2^-100, the factor of the rotation test.
@@ -61,8 +61,8 @@ fn products(a: [[f64; 6]; 6], b: [[f64; 6]; 6], e: Extents) {
     print::matrix(algebra_products::product(a, b, e.rows, e.inner, e.columns));
     print::matrix(algebra_products::transpose(a, e.rows, e.inner));
     print::matrix(algebra_products::sandwich(a, b, e.rows, e.inner));
-    print::number(algebra_products::like_cells(a, b, e.rows, e.inner));
-    print::number(algebra_products::trace(a, e.rows));
+    algebra_products::like_cells(a, b, e.rows, e.inner).print();
+    algebra_products::trace(a, e.rows).print();
 }
 
 fn cellwise(a: [[f64; 6]; 6], b: [[f64; 6]; 6], e: Extents) {
@@ -74,18 +74,18 @@ fn cellwise(a: [[f64; 6]; 6], b: [[f64; 6]; 6], e: Extents) {
 }
 
 fn marked_products(a: [[Marked; 6]; 6], b: [[Marked; 6]; 6], e: Extents) {
-    print::marked_matrix(algebra_products_marked::product(a, b, e.rows, e.inner, e.columns));
-    print::marked_matrix(algebra_products_marked::sandwich(a, b, e.rows, e.inner));
-    print::marked_number(algebra_products_marked::like_cells(a, b, e.rows, e.inner));
-    print::marked_number(algebra_products_marked::trace(a, e.rows));
-    print::marked_number(algebra_products_marked::cells::all_marks(a, e.rows, e.inner, a[0][0]));
+    print::matrix(algebra_products_marked::product(a, b, e.rows, e.inner, e.columns));
+    print::matrix(algebra_products_marked::sandwich(a, b, e.rows, e.inner));
+    algebra_products_marked::like_cells(a, b, e.rows, e.inner).print();
+    algebra_products_marked::trace(a, e.rows).print();
+    algebra_products_marked::cells::all_marks(a, e.rows, e.inner, a[0][0]).print();
 }
 
 fn marked_cellwise(a: [[Marked; 6]; 6], b: [[Marked; 6]; 6], e: Extents) {
-    print::marked_matrix(algebra_products_marked::plus_cells(a, b, e.rows, e.inner));
-    print::marked_matrix(algebra_products_marked::minus_cells(a, b, e.rows, e.inner));
-    print::marked_matrix(algebra_products_marked::times_number(a, b[0][0], e.rows, e.inner));
-    print::marked_matrix(algebra_products_marked::over_number(a, b[0][0], e.rows, e.inner));
+    print::matrix(algebra_products_marked::plus_cells(a, b, e.rows, e.inner));
+    print::matrix(algebra_products_marked::minus_cells(a, b, e.rows, e.inner));
+    print::matrix(algebra_products_marked::times_number(a, b[0][0], e.rows, e.inner));
+    print::matrix(algebra_products_marked::over_number(a, b[0][0], e.rows, e.inner));
 }
 
 fn solutions(a: [[f64; 6]; 6], b: [[f64; 6]; 6], e: Extents) {
@@ -102,10 +102,10 @@ fn marked_solutions(a: [[Marked; 6]; 6], b: [[Marked; 6]; 6], e: Extents) {
     let mut zero = false;
     let x = algebra_elimination_marked::solve(a, b, e.inner, e.columns, &mut zero);
     print::flag(zero);
-    print::marked_matrix(x);
+    print::matrix(x);
     let y = algebra_elimination_marked::inverse(a, e.inner, &mut zero);
     print::flag(zero);
-    print::marked_matrix(y);
+    print::matrix(y);
 }
 
 fn rotations(m: [[f64; 6]; 6], e: Extents) {
@@ -122,8 +122,8 @@ fn marked_rotations(m: [[Marked; 6]; 6], e: Extents) {
     let both = algebra_jacobi_marked::jacobi(m, e.inner, LIMIT, &mut k, &mut inside);
     print::count(k);
     print::flag(!inside);
-    print::marked_matrix(both[0]);
-    print::marked_matrix(both[1]);
+    print::matrix(both[0]);
+    print::matrix(both[1]);
 }
 
 // The algorithm's number stands above three sizes, a byte each, in the low half of the first word.

@@ -2,7 +2,7 @@
 // factor's inverse, and products of these.
 ghost use Rattle.std.specs.Prelude.{◌+◌, ◌*◌, ◌≤◌, ◌<◌};
 
-use crate::print;
+use crate::print::{self, Printed};
 use algebra_large_factor::{cholesky, zero_above};
 use algebra_large_inverse::back::invert;
 use algebra_large_products::{narrow, whole};
@@ -151,7 +151,7 @@ impl Squares {
         self.print_square(2880);
         self.multiply();
         self.print_square(1728);
-        print::number(narrow::cross_sum(&self.cells, 576, 24, 2880, 24, self.n));
+        narrow::cross_sum(&self.cells, 576, 24, 2880, 24, self.n).print();
         self.print_narrowed();
     }
 }

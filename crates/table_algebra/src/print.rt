@@ -1,20 +1,29 @@
 // What the program prints: words of bits, marks, and whole matrices of six rows.
 use arithmetic::Marked;
 
-pub fn number(x: f64) {
-    table_bits_text::print_word(arithmetic::plain::to_bits(x));
+// A plain number is printed in its bits, a marked one with its mark behind them.
+pub trait Printed: Copy {
+    fn print(self);
 }
 
-pub fn marked_number(x: Marked) {
-    number(x.value);
-    io::write_all(
-        1,
-        if arithmetic_steps::is_inside(x) {
-            b"+"
-        } else {
-            b"-"
-        },
-    );
+impl Printed for f64 {
+    fn print(self) {
+        table_bits_text::print_word(arithmetic::plain::to_bits(self));
+    }
+}
+
+impl Printed for Marked {
+    fn print(self) {
+        self.value.print();
+        io::write_all(
+            1,
+            if arithmetic_steps::is_inside(self) {
+                b"+"
+            } else {
+                b"-"
+            },
+        );
+    }
 }
 
 pub fn flag(b: bool) {
@@ -31,30 +40,16 @@ pub fn count(n: usize) {
 }
 
 // The cells of a row.
-pub fn cells(row: &[f64]) {
+pub fn cells<T: Printed>(row: &[T]) {
     for x in row {
-        number(*x);
+        x.print();
         io::write_all(1, b" ");
     }
     io::write_all(1, b"\n");
 }
 
-pub fn matrix(m: [[f64; 6]; 6]) {
+pub fn matrix<T: Printed>(m: [[T; 6]; 6]) {
     for row in &m {
         cells(row);
-    }
-}
-
-fn marked_cells(row: &[Marked]) {
-    for x in row {
-        marked_number(*x);
-        io::write_all(1, b" ");
-    }
-    io::write_all(1, b"\n");
-}
-
-pub fn marked_matrix(m: [[Marked; 6]; 6]) {
-    for row in &m {
-        marked_cells(row);
     }
 }
