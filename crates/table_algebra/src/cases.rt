@@ -1,154 +1,167 @@
 // One case: its matrices are read, and the algorithm that its first word names is run on plain and on marked numbers.
 ghost use Rattle.std.specs.Prelude.{◌≤◌};
 
-use crate::print;
+use crate::print::{self, Printed};
 use arithmetic::Marked;
 
 // 2^-100, the factor of the rotation test.
 const LIMIT: f64 = 7.888609052210118e-31;
 
-fn row_at(text: &[u8; 1241], at: usize) -> [f64; 6]
-    requires { at ≤ 1139 }
-{
-    let mut out = [0.0; 6];
-    for j in 0..6usize {
-        out[j] = arithmetic::plain::of_bits(table_bits_text::word_at(text, at + j * 17));
-    }
-    out
+// The numbers of rows and of columns of a product's parts: A has `rows` by `inner` cells, B `inner` by `columns`.
+#[derive(Clone, Copy)]
+struct Extents {
+    rows: usize,
+    inner: usize,
+    columns: usize,
+    ghost few_rows: { rows ≤ 6 },
+    ghost few_inner: { inner ≤ 6 },
+    ghost few_columns: { columns ≤ 6 },
 }
 
-fn matrix_at(text: &[u8; 1241], at: usize) -> [[f64; 6]; 6]
-    requires { at ≤ 629 }
-{
+#[derive(Clone, Copy)]
+enum Algorithm {
+    Products,
+    Solutions,
+    Rotations,
+}
+
+impl TryFrom<u8> for Algorithm {
+    type Error = ();
+
+    fn try_from(number: u8) -> Result<Self, ()> {
+        match number {
+            1 => Ok(Algorithm::Products),
+            2 => Ok(Algorithm::Solutions),
+            3 => Ok(Algorithm::Rotations),
+            _ => Err(()),
+        }
+    }
+}
+
+// A matrix out of the text of its cells, row by row.
+fn matrix_of(text: &[u8]) -> [[f64; 6]; 6] {
     let mut out = [[0.0; 6]; 6];
-    for i in 0..6usize {
-        out[i] = row_at(text, at + i * 102);
+    let (words, _) = text.as_chunks::<17>();
+    for (row, six) in out.iter_mut().zip(words.chunks_exact(6)) {
+        for (x, word) in row.iter_mut().zip(six) {
+            *x = arithmetic::plain::of_bits(table_bits_text::word_at(word, 0));
+        }
     }
     out
 }
 
 // A size from 0 to 6 out of a byte of the first word.
-fn size_of(word: u64) -> usize
+fn size_of(byte: u8) -> usize
     ensures { result ≤ 6 }
 {
-    (word % 7) as usize
+    usize::from(byte % 7)
 }
 
-fn products(a: [[f64; 6]; 6], b: [[f64; 6]; 6], r: usize, n: usize, c: usize)
-    requires { (r ≤ 6) × (n ≤ 6) × (c ≤ 6) }
-{
-    print::matrix(algebra_products::product(a, b, r, n, c));
-    print::matrix(algebra_products::transpose(a, r, n));
-    print::matrix(algebra_products::sandwich(a, b, r, n));
-    print::number(algebra_products::like_cells(a, b, r, n));
-    print::number(algebra_products::trace(a, r));
+fn products(a: [[f64; 6]; 6], b: [[f64; 6]; 6], e: Extents) {
+    print::matrix(algebra_products::product(a, b, e.rows, e.inner, e.columns));
+    print::matrix(algebra_products::transpose(a, e.rows, e.inner));
+    print::matrix(algebra_products::sandwich(a, b, e.rows, e.inner));
+    algebra_products::like_cells(a, b, e.rows, e.inner).print();
+    algebra_products::trace(a, e.rows).print();
 }
 
-fn cellwise(a: [[f64; 6]; 6], b: [[f64; 6]; 6], r: usize, n: usize, c: usize)
-    requires { (r ≤ 6) × (n ≤ 6) × (c ≤ 6) }
-{
-    print::matrix(algebra_products::plus_cells(a, b, r, n));
-    print::matrix(algebra_products::minus_cells(a, b, r, n));
-    print::matrix(algebra_products::times_number(a, b[0][0], r, n));
-    print::matrix(algebra_products::over_number(a, b[0][0], r, n));
-    print::matrix(algebra_products::identity(c));
+fn cellwise(a: [[f64; 6]; 6], b: [[f64; 6]; 6], e: Extents) {
+    print::matrix(algebra_products::plus_cells(a, b, e.rows, e.inner));
+    print::matrix(algebra_products::minus_cells(a, b, e.rows, e.inner));
+    print::matrix(algebra_products::times_number(a, b[0][0], e.rows, e.inner));
+    print::matrix(algebra_products::over_number(a, b[0][0], e.rows, e.inner));
+    print::matrix(algebra_products::identity(e.columns));
 }
 
-fn marked_products(a: [[Marked; 6]; 6], b: [[Marked; 6]; 6], r: usize, n: usize, c: usize)
-    requires { (r ≤ 6) × (n ≤ 6) × (c ≤ 6) }
-{
-    print::marked_matrix(algebra_products::product(a, b, r, n, c));
-    print::marked_matrix(algebra_products::sandwich(a, b, r, n));
-    print::marked_number(algebra_products::like_cells(a, b, r, n));
-    print::marked_number(algebra_products::trace(a, r));
-    print::marked_number(algebra_products::cells::all_marks(a, r, n, a[0][0]));
+fn marked_products(a: [[Marked; 6]; 6], b: [[Marked; 6]; 6], e: Extents) {
+    print::matrix(algebra_products::product(a, b, e.rows, e.inner, e.columns));
+    print::matrix(algebra_products::sandwich(a, b, e.rows, e.inner));
+    algebra_products::like_cells(a, b, e.rows, e.inner).print();
+    algebra_products::trace(a, e.rows).print();
+    algebra_products::cells::all_marks(a, e.rows, e.inner, a[0][0]).print();
 }
 
-fn marked_cellwise(a: [[Marked; 6]; 6], b: [[Marked; 6]; 6], r: usize, n: usize)
-    requires { (r ≤ 6) × (n ≤ 6) }
-{
-    print::marked_matrix(algebra_products::plus_cells(a, b, r, n));
-    print::marked_matrix(algebra_products::minus_cells(a, b, r, n));
-    print::marked_matrix(algebra_products::times_number(a, b[0][0], r, n));
-    print::marked_matrix(algebra_products::over_number(a, b[0][0], r, n));
+fn marked_cellwise(a: [[Marked; 6]; 6], b: [[Marked; 6]; 6], e: Extents) {
+    print::matrix(algebra_products::plus_cells(a, b, e.rows, e.inner));
+    print::matrix(algebra_products::minus_cells(a, b, e.rows, e.inner));
+    print::matrix(algebra_products::times_number(a, b[0][0], e.rows, e.inner));
+    print::matrix(algebra_products::over_number(a, b[0][0], e.rows, e.inner));
 }
 
-fn solutions(a: [[f64; 6]; 6], b: [[f64; 6]; 6], n: usize, c: usize)
-    requires { (n ≤ 6) × (c ≤ 6) }
-{
+fn solutions(a: [[f64; 6]; 6], b: [[f64; 6]; 6], e: Extents) {
     let mut zero = false;
-    let x = algebra_elimination::solve(a, b, n, c, &mut zero);
+    let x = algebra_elimination::solve(a, b, e.inner, e.columns, &mut zero);
     print::flag(zero);
     print::matrix(x);
-    let y = algebra_elimination::inverse(a, n, &mut zero);
+    let y = algebra_elimination::inverse(a, e.inner, &mut zero);
     print::flag(zero);
     print::matrix(y);
 }
 
-fn marked_solutions(a: [[Marked; 6]; 6], b: [[Marked; 6]; 6], n: usize, c: usize)
-    requires { (n ≤ 6) × (c ≤ 6) }
-{
+fn marked_solutions(a: [[Marked; 6]; 6], b: [[Marked; 6]; 6], e: Extents) {
     let mut zero = false;
-    let x = algebra_elimination_marked::solve(a, b, n, c, &mut zero);
+    let x = algebra_elimination_marked::solve(a, b, e.inner, e.columns, &mut zero);
     print::flag(zero);
-    print::marked_matrix(x);
-    let y = algebra_elimination_marked::inverse(a, n, &mut zero);
+    print::matrix(x);
+    let y = algebra_elimination_marked::inverse(a, e.inner, &mut zero);
     print::flag(zero);
-    print::marked_matrix(y);
+    print::matrix(y);
 }
 
-fn rotations(m: [[f64; 6]; 6], n: usize)
-    requires { n ≤ 6 }
-{
+fn rotations(m: [[f64; 6]; 6], e: Extents) {
     let mut k: usize = 0;
-    let both = algebra_jacobi::jacobi(m, n, LIMIT, &mut k);
+    let both = algebra_jacobi::jacobi(m, e.inner, LIMIT, &mut k);
     print::count(k);
     print::matrix(both[0]);
     print::matrix(both[1]);
 }
 
-fn marked_rotations(m: [[Marked; 6]; 6], n: usize)
-    requires { n ≤ 6 }
-{
+fn marked_rotations(m: [[Marked; 6]; 6], e: Extents) {
     let mut k: usize = 0;
     let mut inside = false;
-    let both = algebra_jacobi_marked::jacobi(m, n, LIMIT, &mut k, &mut inside);
+    let both = algebra_jacobi_marked::jacobi(m, e.inner, LIMIT, &mut k, &mut inside);
     print::count(k);
     print::flag(!inside);
-    print::marked_matrix(both[0]);
-    print::marked_matrix(both[1]);
+    print::matrix(both[0]);
+    print::matrix(both[1]);
 }
 
-// The algorithm's number stands above three sizes, a byte each.
+// The algorithm's number stands above three sizes, a byte each, in the low half of the first word.
 pub fn run(text: &[u8; 1241]) {
     let head = table_bits_text::word_at(text, 0);
-    let a = matrix_at(text, 17);
-    let b = matrix_at(text, 629);
-    let r = size_of(head / 65536 % 256);
-    let n = size_of(head / 256 % 256);
-    let c = size_of(head % 256);
+    let a = matrix_of(&text[17..629]);
+    let b = matrix_of(&text[629..]);
+    let [.., number, rows, inner, columns] = head.to_be_bytes();
+    let e = Extents {
+        rows: size_of(rows),
+        inner: size_of(inner),
+        columns: size_of(columns),
+    };
     table_bits_text::print_word(head);
     io::write_all(1, b"\n");
-    choose(head / 16777216 % 256, a, b, r, n, c);
+    // Another number runs nothing.
+    if let Ok(algorithm) = Algorithm::try_from(number) {
+        apply(algorithm, a, b, e);
+    }
 }
 
-fn choose(which: u64, a: [[f64; 6]; 6], b: [[f64; 6]; 6], r: usize, n: usize, c: usize)
-    requires { (r ≤ 6) × (n ≤ 6) × (c ≤ 6) }
-{
+fn apply(algorithm: Algorithm, a: [[f64; 6]; 6], b: [[f64; 6]; 6], e: Extents) {
     let ma = algebra_products::cells::given_cells(a, 6, 6);
     let mb = algebra_products::cells::given_cells(b, 6, 6);
-    if which == 1 {
-        products(a, b, r, n, c);
-        cellwise(a, b, r, n, c);
-        marked_products(ma, mb, r, n, c);
-        marked_cellwise(ma, mb, r, n);
-    }
-    if which == 2 {
-        solutions(a, b, n, c);
-        marked_solutions(ma, mb, n, c);
-    }
-    if which == 3 {
-        rotations(a, n);
-        marked_rotations(ma, n);
+    match algorithm {
+        Algorithm::Products => {
+            products(a, b, e);
+            cellwise(a, b, e);
+            marked_products(ma, mb, e);
+            marked_cellwise(ma, mb, e);
+        }
+        Algorithm::Solutions => {
+            solutions(a, b, e);
+            marked_solutions(ma, mb, e);
+        }
+        Algorithm::Rotations => {
+            rotations(a, e);
+            marked_rotations(ma, e);
+        }
     }
 }

@@ -1,195 +1,166 @@
-// Large matrices of n rows in one slice of six squares of 24 by 24: a drawn matrix, its Gram matrix with a heavier diagonal, the Cholesky factor of that, the
+// Large matrices of n rows in six squares of 24 by 24: a drawn matrix, its Gram matrix with a heavier diagonal, the Cholesky factor of that, the
 // factor's inverse, and products of these.
-ghost use Rattle.std.specs.Prelude.{◌+◌, ◌*◌, ◌≤◌, ◌<◌, ◌≡◌, length};
+ghost use Rattle.std.specs.Prelude.{◌+◌, ◌*◌, ◌≤◌, ◌<◌};
 
-use crate::print;
+use crate::print::{self, Printed};
+use algebra_large_factor::{cholesky, zero_above};
+use algebra_large_inverse::back::invert;
+use algebra_large_products::{narrow, whole};
 
 // The next number of the sequence s -> 1664525 s + 1013904223 modulo 2^32.
-fn drawn(s: u64) -> u64
-    requires { s < 4294967296 }
-    ensures { result < 4294967296 }
-{
-    (1664525 * s + 1013904223) % 4294967296
+fn next_number(s: u32) -> u32 {
+    s.wrapping_mul(1664525).wrapping_add(1013904223)
 }
 
 // A whole number from -1000 to 1000, over 64.
-fn cell_of(s: u64) -> f64 {
+fn cell_of(s: u32) -> f64 {
     (arithmetic::plain::of_count((s / 65536 % 2001) as usize) - 1000.0) / 64.0
 }
 
-// The n cells from a place on; the sequence's last number is handed back.
-fn draw_row(work: &mut [f64], at: usize, n: usize, start: u64) -> u64
-    requires { (at + n ≤ length work.old) × (start < 4294967296) }
-    ensures { (length work.new ≡ length work.old) × (result < 4294967296) }
-{
-    let mut s = start;
-    for j in 0..n {
-        s = drawn(s);
-        work[at + j] = cell_of(s);
+// The squares stand one after another, with a stride of 24 in each.
+#[derive(Drop)]
+struct Squares {
+    cells: [f64; 3456],
+    n: usize,
+    ghost fits: { n ≤ 24 },
+}
+
+impl Squares {
+    // The first square is drawn, row after row of n cells.
+    fn drawn(n: usize, start: u32) -> Self
+        requires { n ≤ 24 }
+    {
+        let mut cells = [0.0; 3456];
+        let mut s = start;
+        let (rows, _) = cells[..24 * n].as_chunks_mut::<24>();
+        for row in rows {
+            for x in &mut row[..n] {
+                s = next_number(s);
+                *x = cell_of(s);
+            }
+        }
+        Squares { cells, n }
     }
-    s
-}
 
-// Row after row of n cells, with a stride of 24.
-fn draw(work: &mut [f64], n: usize, start: u64)
-    requires { (length work.old ≡ 3456) × (n ≤ 24) × (start < 4294967296) }
-    ensures { length work.new ≡ 3456 }
-{
-    let mut s = start;
-    for i in 0..n {
-        s = draw_row(work, i * 24, n, s);
+    // The diagonal of the square at 576 gains 1000, so that it is positive definite.
+    fn make_heavier(&mut self) {
+        for i in 0..self.n {
+            self.cells[576 + i * 25] += 1000.0;
+        }
     }
-}
 
-// The diagonal of the square at 576 gains 1000, so that it is positive definite.
-fn heavier(work: &mut [f64], n: usize)
-    requires { (length work.old ≡ 3456) × (n ≤ 24) }
-    ensures { length work.new ≡ 3456 }
-{
-    for i in 0..n {
-        work[576 + i * 25] = work[576 + i * 25] + 1000.0;
+    // XᵀX of the matrix at p, at d.
+    fn gram(&mut self, d: usize, p: usize)
+        requires { (p + 576 ≤ d) × (d ≤ 2880) }
+    {
+        whole::gram(&mut self.cells, d, 24, p, 24, self.n, self.n);
     }
-}
 
-// XᵀX of the matrix at p, at d.
-fn gram(work: &mut [f64], d: usize, p: usize, n: usize)
-    requires { (length work.old ≡ 3456) × (n ≤ 24) × (p + 576 ≤ d) × (d ≤ 2880) }
-    ensures { length work.new ≡ 3456 }
-{
-    algebra_large_products::whole::gram(work, d, 24, p, 24, n, n);
-}
-
-// The matrix at 1152 becomes that at 576; the matrix at 1728 becomes three quarters of it.
-fn copied(work: &mut [f64], n: usize)
-    requires { (length work.old ≡ 3456) × (n ≤ 24) }
-    ensures { length work.new ≡ 3456 }
-{
-    algebra_large_products::whole::copy(work, 1152, 24, 576, 24, n, n);
-}
-
-fn cleared(work: &mut [f64], n: usize)
-    requires { (length work.old ≡ 3456) × (n ≤ 24) }
-    ensures { length work.new ≡ 3456 }
-{
-    algebra_large_products::whole::clear(work, 1728, 24, n, n);
-}
-
-fn gained(work: &mut [f64], n: usize)
-    requires { (length work.old ≡ 3456) × (n ≤ 24) }
-    ensures { length work.new ≡ 3456 }
-{
-    algebra_large_products::whole::add_times(work, 1728, 24, 576, 24, n, n, 0.75);
-}
-
-// The Cholesky factor in the place of the matrix at 1152; whether it is refused.
-fn factored(work: &mut [f64], n: usize) -> bool
-    requires { (length work.old ≡ 3456) × (n ≤ 24) }
-    ensures { length work.new ≡ 3456 }
-{
-    algebra_large_factor::cholesky(work, 1152, 24, n)
-}
-
-fn lower(work: &mut [f64], n: usize)
-    requires { (length work.old ≡ 3456) × (n ≤ 24) }
-    ensures { length work.new ≡ 3456 }
-{
-    algebra_large_factor::zero_above(work, 1152, 24, n);
-}
-
-// The inverse of the matrix at 1152, at 0, by elimination in the two squares from 1728 on.
-fn inverted(work: &mut [f64], n: usize) -> bool
-    requires { (length work.old ≡ 3456) × (n ≤ 24) }
-    ensures { length work.new ≡ 3456 }
-{
-    algebra_large_inverse::back::invert(work, 0, 24, 1728, 48, 1152, 24, n)
-}
-
-// The matrix at 576 times that at 2880, at 1728.
-fn multiplied(work: &mut [f64], n: usize)
-    requires { (length work.old ≡ 3456) × (n ≤ 24) }
-    ensures { length work.new ≡ 3456 }
-{
-    algebra_large_products::whole::product(work, 1728, 24, 576, 24, 2880, 24, n, n, n);
-}
-
-// The matrix at 2880 times the first three columns of the square at 0, taken as a narrow matrix.
-fn narrowed(work: &[f64], n: usize)
-    requires { (length work.now ≡ 3456) × (n ≤ 24) }
-{
-    let mut out = [0.0; 144];
-    algebra_large_products::narrow::times_narrow(
-        &mut out,
-        0,
-        6,
-        work,
-        2880,
-        24,
-        work,
-        0,
-        24,
-        n,
-        n,
-        least(n, 3),
-    );
-    print::cells(&out, 0, 144);
-}
-
-fn least(a: usize, b: usize) -> usize
-    ensures { (result ≤ a) × (result ≤ b) }
-{
-    if a < b { a } else { b }
-}
-
-// The n rows of the square at a place.
-fn square(work: &[f64], at: usize, n: usize)
-    requires { (length work.now ≡ 3456) × (n ≤ 24) × (at ≤ 2880) }
-{
-    for i in 0..n {
-        print::cells(work, at + i * 24, n);
+    // The matrix at 1152 becomes that at 576; the matrix at 1728 becomes three quarters of it.
+    fn copy(&mut self) {
+        whole::copy(&mut self.cells, 1152, 24, 576, 24, self.n, self.n);
     }
-}
 
-fn sums(work: &mut [f64], n: usize)
-    requires { (length work.old ≡ 3456) × (n ≤ 24) }
-    ensures { length work.new ≡ 3456 }
-{
-    gram(work, 576, 0, n);
-    heavier(work, n);
-    copied(work, n);
-    cleared(work, n);
-    gained(work, n);
-    square(work, 1728, n);
-}
+    fn clear(&mut self) {
+        whole::clear(&mut self.cells, 1728, 24, self.n, self.n);
+    }
 
-fn solved(work: &mut [f64], n: usize)
-    requires { (length work.old ≡ 3456) × (n ≤ 24) }
-    ensures { length work.new ≡ 3456 }
-{
-    print::flag(factored(work, n));
-    lower(work, n);
-    square(work, 1152, n);
-    print::flag(inverted(work, n));
-    square(work, 0, n);
-}
+    fn gain(&mut self) {
+        whole::add_times(&mut self.cells, 1728, 24, 576, 24, self.n, self.n, 0.75);
+    }
 
-fn products(work: &mut [f64], n: usize)
-    requires { (length work.old ≡ 3456) × (n ≤ 24) }
-{
-    gram(work, 2880, 0, n);
-    square(work, 2880, n);
-    multiplied(work, n);
-    square(work, 1728, n);
-    print::number(algebra_large_products::narrow::cross_sum(work, 576, 24, 2880, 24, n));
-    narrowed(work, n);
+    // The Cholesky factor in the place of the matrix at 1152; whether it is refused.
+    fn factor(&mut self) -> bool {
+        cholesky(&mut self.cells, 1152, 24, self.n)
+    }
+
+    fn lower(&mut self) {
+        zero_above(&mut self.cells, 1152, 24, self.n);
+    }
+
+    // The inverse of the matrix at 1152, at 0, by elimination in the two squares from 1728 on.
+    fn invert(&mut self) -> bool {
+        invert(&mut self.cells, 0, 24, 1728, 48, 1152, 24, self.n)
+    }
+
+    // The matrix at 576 times that at 2880, at 1728.
+    fn multiply(&mut self) {
+        whole::product(
+            &mut self.cells,
+            1728,
+            24,
+            576,
+            24,
+            2880,
+            24,
+            self.n,
+            self.n,
+            self.n,
+        );
+    }
+
+    // The matrix at 2880 times the first three columns of the square at 0, taken as a narrow matrix.
+    fn print_narrowed(&self) {
+        let mut out = [0.0; 144];
+        narrow::times_narrow(
+            &mut out,
+            0,
+            6,
+            &self.cells,
+            2880,
+            24,
+            &self.cells,
+            0,
+            24,
+            self.n,
+            self.n,
+            self.n.min(3),
+        );
+        print::cells(&out);
+    }
+
+    // The n rows of the square at a place.
+    fn print_square(&self, at: usize)
+        requires { at ≤ 2880 }
+    {
+        let (rows, _) = self.cells[at..at + 24 * self.n].as_chunks::<24>();
+        for row in rows {
+            print::cells(&row[..self.n]);
+        }
+    }
+
+    fn print_sums(&mut self) {
+        self.gram(576, 0);
+        self.make_heavier();
+        self.copy();
+        self.clear();
+        self.gain();
+        self.print_square(1728);
+    }
+
+    fn print_solutions(&mut self) {
+        print::flag(self.factor());
+        self.lower();
+        self.print_square(1152);
+        print::flag(self.invert());
+        self.print_square(0);
+    }
+
+    fn print_products(&mut self) {
+        self.gram(2880, 0);
+        self.print_square(2880);
+        self.multiply();
+        self.print_square(1728);
+        narrow::cross_sum(&self.cells, 576, 24, 2880, 24, self.n).print();
+        self.print_narrowed();
+    }
 }
 
 pub fn run(n: usize)
     requires { n ≤ 24 }
 {
-    let mut space = [0.0; 3456];
-    let work: &mut [f64] = &mut space;
-    draw(work, n, 2026);
-    sums(work, n);
-    solved(work, n);
-    products(work, n);
+    let mut work = Squares::drawn(n, 2026);
+    work.print_sums();
+    work.print_solutions();
+    work.print_products();
 }

@@ -17,7 +17,7 @@ fn next_case() {
 
 // At most 256 cases; the large matrices are drawn by the program itself.
 fn main() {
-    for k in 0..256usize {
+    for _ in 0..256 {
         next_case();
     }
     large_cases::run(1);

@@ -7,65 +7,53 @@ use adjustment::packing::index_symmat2vec;
 use adjustment_response_units::scaled_up;
 use arithmetic_cutoffs::document_cutoffs;
 use arithmetic_steps::given;
-use tests::{Entry, Number};
+use tests::Number;
 use tests_ddf::pooled::get_fstat_ddf;
 use tests_ddf::satterthwaite::satterthwaite_contrast_f_test;
 use tests_ddf::variance::variance_df;
 
-fn print_bits(x: f64) {
-    io::write_all(1, b" ");
-    table_bits_text::print_word(arithmetic::plain::to_bits(x));
-}
-
 fn print_number(n: Number) {
+    io::write_all(1, b" ");
     match n {
-        Number::Is(x) => print_bits(x),
+        Number::Is(x) => table_bits_text::print_word(arithmetic::plain::to_bits(x)),
         Number::None => {
-            io::write_all(1, b" none");
+            io::write_all(1, b"none");
         }
     }
 }
 
-// F and df.
-fn print_entry(e: Entry) {
-    let f = e.f;
-    let df = e.df;
-    print_number(f);
-    print_number(df);
+// A letter, and the numbers behind it.
+fn print_line(letter: &[u8], numbers: &[Number]) {
+    io::write_all(1, letter);
+    for n in numbers {
+        print_number(*n);
+    }
     io::write_all(1, b"\n");
 }
 
 // (a) and (b): where Q_rs is packed for three matrices.
-fn print_places() {
-    io::write_all(1, b"a ");
-    io::print_decimal(1, index_symmat2vec(1, 2, 3) as u64);
-    io::write_all(1, b" ");
-    io::print_decimal(1, index_symmat2vec(2, 1, 3) as u64);
-    io::write_all(1, b"\nb ");
-    io::print_decimal(1, index_symmat2vec(2, 2, 3) as u64);
+fn print_places(letter: &[u8], places: &[usize]) {
+    io::write_all(1, letter);
+    for at in places {
+        io::write_all(1, b" ");
+        io::print_decimal(1, *at as u64);
+    }
     io::write_all(1, b"\n");
 }
 
 // (c), (d) and (e): the components' degrees of freedom made one.
-fn print_pooled() {
-    io::write_all(1, b"c");
-    print_bits(get_fstat_ddf([6.0, 6.0, 4.0, 0.0, 0.0, 0.0], 3, 1e-8));
-    io::write_all(1, b"\nd");
-    print_bits(get_fstat_ddf([1.0, 1.0, 0.0, 0.0, 0.0, 0.0], 2, 1e-8));
-    io::write_all(1, b"\ne");
-    print_bits(get_fstat_ddf([2.0, 5.0, 0.0, 0.0, 0.0, 0.0], 2, 1e-8));
-    io::write_all(1, b"\n");
+fn print_pooled(letter: &[u8], dfs: [f64; 6], n: usize)
+    requires { n ≤ 6 }
+{
+    print_line(letter, &[Number::Is(get_fstat_ddf(dfs, n, 1e-8))]);
 }
 
 // (f) and (g): one variance, its gradient 2, A 4.
 fn print_variances() {
     let gradient = [given(2.0); 6];
     let a = [[4.0; 6]; 6];
-    io::write_all(1, b"f");
-    print_number(variance_df(given(2.0), gradient, a, 1));
-    io::write_all(1, b"\ng");
-    print_number(variance_df(given(0.0), gradient, a, 1));
-    io::write_all(1, b"\n");
+    print_line(b"f", &[variance_df(given(2.0), gradient, a, 1)]);
+    print_line(b"g", &[variance_df(given(0.0), gradient, a, 1)]);
 }
 
 // (h): one coefficient, Φ 1, Φ_A 4, P -1, W 2, L -8, β 6.
@@ -90,12 +78,11 @@ fn print_contrast() {
         1,
         &mut refused,
     );
-    io::write_all(1, b"h");
-    print_entry(e);
+    print_line(b"h", &[e.f, e.df]);
 }
 
 // (i) and (j): v = diag(4, 1), one Jacobian equal to v, β (4, 1); L the first q rows of the identity, A as given.
-fn print_parameters(q: usize, a: f64)
+fn print_parameters(letter: &[u8], q: usize, a: f64)
     requires { q ≤ 6 }
 {
     let l = algebra_products::identity(2);
@@ -119,18 +106,21 @@ fn print_parameters(q: usize, a: f64)
         1,
         &mut refused,
     );
-    print_entry(e);
+    print_line(letter, &[e.f, e.df]);
 }
 
 fn main() {
-    print_places();
-    print_pooled();
+    print_places(
+        b"a",
+        &[index_symmat2vec(1, 2, 3), index_symmat2vec(2, 1, 3)],
+    );
+    print_places(b"b", &[index_symmat2vec(2, 2, 3)]);
+    print_pooled(b"c", [6.0, 6.0, 4.0, 0.0, 0.0, 0.0], 3);
+    print_pooled(b"d", [1.0, 1.0, 0.0, 0.0, 0.0, 0.0], 2);
+    print_pooled(b"e", [2.0, 5.0, 0.0, 0.0, 0.0, 0.0], 2);
     print_variances();
     print_contrast();
-    io::write_all(1, b"i");
-    print_parameters(2, 0.5);
-    io::write_all(1, b"j");
-    print_parameters(2, 0.000244140625);
-    io::write_all(1, b"j");
-    print_parameters(1, 0.000244140625);
+    print_parameters(b"i", 2, 0.5);
+    print_parameters(b"j", 2, 0.000244140625);
+    print_parameters(b"j", 1, 0.000244140625);
 }

@@ -2,7 +2,7 @@
 // These programs write by `io`, which reaches no C function but `read` and `write`; std's printing would trust those that tell of an error too.
 #![tactic(auto)]
 
-ghost use Rattle.std.specs.Prelude.{◌≡◌, ◌+◌, ◌<◌, ◌≤◌, length, IfSome};
+ghost use Rattle.std.specs.Prelude.{◌≡◌, ◌≢◌, ◌+◌, ◌<◌, ◌≤◌, ◌∷◌, ◌++◌, length, IfSome, IfNone, All};
 ghost use Rattle.io.specs.Counts.{IsPrefixLen};
 
 // The value of a hexadecimal digit; 0 for any other byte.
@@ -50,7 +50,9 @@ pub fn print_word(word: u64) {
 
 // The part of a text before the first byte of a kind, and the part behind it, if there is one.
 pub fn split_once(text: &[u8], byte: u8) -> Option<(&[u8], &[u8])>
-    ensures { IfSome result (λ parts. length parts.0.now + 1 + length parts.1.now ≡ length text.now) }
+    ensures parts { IfSome result (λ parts. text.now ≡ parts.0.now ++ byte ∷ parts.1.now) }
+    ensures first { IfSome result (λ parts. All (λ b. b ≢ byte) parts.0.now) }
+    ensures none { IfNone result (All (λ b. b ≢ byte) text.now) }
 {
     let at = text.iter().position(|b| *b == byte)?;
     Some((&text[..at], &text[at + 1..]))
