@@ -6,7 +6,7 @@ ghost use Rattle.arithmetic.specs.Numbers.{plus_zero};
 ghost use Rattle.records.specs.format.Kinds.{archive_kinds, archive_table};
 ghost use Rattle.records.specs.format.Cells.{slot_count};
 ghost use Rattle.records.specs.format.File.{count};
-ghost use Rattle.records.specs.format.RefusalNumbers.{told};
+ghost use Rattle.records.specs.format.RefusalNumbers.{result_number};
 ghost use Rattle.records.specs.readers.Archive.{kinds, refusal};
 ghost use Rattle.records_sheet.specs.joints.Sheet.{first_slots, sheet_after};
 ghost use Rattle.records_archive_reader.specs.joints.Checks.{differs, in_units, not_scaled, misscaled_in, numbers_refusal};
@@ -96,7 +96,7 @@ fn misscaled(z: Sizes, firsts: &[usize; 34], sheet: &[f64]) -> bool
 // Refuses a sigma2 not above zero, 5, and then a scaled record, 2.
 fn numbers_refusal(z: Sizes, firsts: &[usize; 34], sheet: &[f64]) -> Result<(), Refusal>
     requires { (z.coefficients ≤ 6) × (z.parameters ≤ 4) × (firsts.now ≡ first_slots (archive_kinds z)) × (slot_count (archive_kinds z) ≤ length sheet.now) }
-    ensures { told result ≡ numbers_refusal z sheet.now }
+    ensures { result_number result ≡ numbers_refusal z sheet.now }
 {
     if sheet[firsts[KIND_ARCHIVED_SIGMA2]] <= 0.0 {
         return Err(Refusal::Variance);
@@ -112,7 +112,7 @@ fn numbers_refusal(z: Sizes, firsts: &[usize; 34], sheet: &[f64]) -> Result<(), 
 pub fn refusal(s: &[u8], flags: &mut [bool], sheet: &mut [f64]) -> Result<(), Refusal>
     requires flags_value { (flags.old ≡ replicate (length flags.old) false) × (slot_count archive_table ≤ length flags.old) }
     requires sheet_value { (sheet.old ≡ replicate (length sheet.old) plus_zero) × (slot_count archive_table ≤ length sheet.old) }
-    ensures value { told result ≡ refusal s.now }
+    ensures value { result_number result ≡ refusal s.now }
     ensures sheet_after { OnOk result (sheet.new ≡ sheet_after (length sheet.old) (kinds s.now) s.now (count s.now)) }
 {
     records_form::file_refusal(Shape::Archived, 1, s, flags)?;

@@ -9,7 +9,7 @@ ghost use Rattle.tests.specs.Satterthwaite.{satterthwaite as test_of};
 ghost use Rattle.records.specs.format.Kinds.{satterthwaite_kinds, satterthwaite};
 ghost use Rattle.records.specs.format.Cells.{slot_count};
 ghost use Rattle.records.specs.format.Layout.{entry_bytes, entry_length};
-ghost use Rattle.records.specs.format.RefusalNumbers.{told};
+ghost use Rattle.records.specs.format.RefusalNumbers.{result_number};
 ghost use Rattle.records.specs.readers.CutoffTable.{built_in_table};
 ghost use Rattle.records.specs.format.File.{count};
 ghost use Rattle.records.specs.readers.Parameters.{kinds, refusal};
@@ -34,7 +34,7 @@ use tests_ddf::satterthwaite::satterthwaite_contrast_f_test;
 fn refusal(s: &[u8], flags: &mut [bool], sheet: &mut [f64]) -> Result<(), Refusal>
     requires flags_value { (flags.old ≡ replicate (length flags.old) false) × (slot_count satterthwaite ≤ length flags.old) }
     requires sheet_value { (sheet.old ≡ replicate (length sheet.old) plus_zero) × (slot_count satterthwaite ≤ length sheet.old) }
-    ensures value { told result ≡ refusal s.now }
+    ensures value { result_number result ≡ refusal s.now }
     ensures sheet_after { OnOk result (sheet.new ≡ sheet_after (length sheet.old) (kinds s.now) s.now (count s.now)) }
 {
     records_form::file_refusal(Shape::Test, 1, s, flags)?;
@@ -75,7 +75,7 @@ fn test(c: Cutoffs, sheet: &[f64], firsts: &[usize; 34], z: Sizes, refused: &mut
 
 // The entry of a file, or what refuses it.
 pub fn judge(c: Cutoffs, s: &[u8]) -> Result<Entry, Refusal>
-    ensures value { told result ≡ number c s.now }
+    ensures value { result_number result ≡ number c s.now }
     ensures answered { result_unwrap_or result no_entry ≡ entry c s.now }
 {
     let mut flags = [false; 256];
@@ -94,7 +94,7 @@ pub fn judge(c: Cutoffs, s: &[u8]) -> Result<Entry, Refusal>
 // The answer to a file with these cutoffs, in the lent entry's bytes. A refusal leaves the bytes as they are.
 fn fill_entry(c: Cutoffs, records: &[u8], answer: &mut [u8]) -> Result<(), Refusal>
     requires { length answer.old ≡ entry_length }
-    ensures value { told result ≡ number c records.now }
+    ensures value { result_number result ≡ number c records.now }
     ensures answer_after { answer.new ≡ cond (eqb (number c records.now) 0) (entry_bytes (entry c records.now)) answer.old }
 {
     let e = judge(c, records)?;
@@ -104,7 +104,7 @@ fn fill_entry(c: Cutoffs, records: &[u8], answer: &mut [u8]) -> Result<(), Refus
 
 // The call with a lab's table: 1 for the lent length, 14 for the table, and then the answer to the records with its cutoffs.
 pub fn call_with(table: &[u8], records: &[u8], answer: &mut [u8]) -> Result<(), Refusal>
-    ensures value { told result ≡ returned table.now records.now answer.old }
+    ensures value { result_number result ≡ returned table.now records.now answer.old }
     ensures answer_after { answer.new ≡ written table.now records.now answer.old }
 {
     if answer.len() != ENTRY_LENGTH {
@@ -118,7 +118,7 @@ pub fn call_with(table: &[u8], records: &[u8], answer: &mut [u8]) -> Result<(), 
 
 // The call without a table: the one with the built-in table, whose numbers are at hand.
 pub fn call(records: &[u8], answer: &mut [u8]) -> Result<(), Refusal>
-    ensures value { told result ≡ returned built_in_table records.now answer.old }
+    ensures value { result_number result ≡ returned built_in_table records.now answer.old }
     ensures answer_after { answer.new ≡ written built_in_table records.now answer.old }
 {
     if answer.len() != ENTRY_LENGTH {

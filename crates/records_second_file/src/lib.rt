@@ -6,7 +6,7 @@ ghost use Rattle.arithmetic.specs.Numbers.{plus_zero};
 ghost use Rattle.records.specs.format.Kinds.{test_table};
 ghost use Rattle.records.specs.format.Cells.{slot_count};
 ghost use Rattle.records.specs.format.File.{count};
-ghost use Rattle.records.specs.format.RefusalNumbers.{told};
+ghost use Rattle.records.specs.format.RefusalNumbers.{result_number};
 ghost use Rattle.records.specs.readers.SecondFile.{kinds, refusal};
 ghost use Rattle.records_sheet.specs.joints.Sheet.{sheet_after};
 
@@ -18,7 +18,7 @@ use records::{KIND_CONTRAST, Shape};
 pub fn refusal(p: usize, t: &[u8], flags: &mut [bool], sheet: &mut [f64]) -> Result<(), Refusal>
     requires flags_value { (flags.old ≡ replicate (length flags.old) false) × (slot_count test_table ≤ length flags.old) }
     requires sheet_value { (sheet.old ≡ replicate (length sheet.old) plus_zero) × (slot_count test_table ≤ length sheet.old) }
-    ensures value { told result ≡ refusal p t.now }
+    ensures value { result_number result ≡ refusal p t.now }
     ensures sheet_after { OnOk result (sheet.new ≡ sheet_after (length sheet.old) (kinds t.now) t.now (count t.now)) }
 {
     records_form::file_refusal(Shape::Second, 1, t, flags)?;

@@ -5,7 +5,7 @@ use Rattle.records.specs.declared.Shape.TheVariants.{Archived}
 use Rattle.records.specs.readers.Reader.{formed_number}
 use Rattle.records.specs.readers.Archive.{reader, reasons, refusal}
 use Rattle.std.proofs.lemmas.Result.{IfOk-from_err}
-use Rattle.records.proofs.format.RefusalNumbers.{no-zero, told-passed, on-ok}
+use Rattle.records.proofs.format.RefusalNumbers.{no-zero, number-passed, on-ok}
 use Rattle.records.proofs.readers.ReaderLaws.{form-refuses}
 use Rattle.records_form.proofs.FormLaws.{FormedSizes, formed-sizes, sheet-from}
 use Rattle.records_archive_reader.proofs.ReaderLaws.{value-refused, sheet-room, numbers-refused}
@@ -21,7 +21,7 @@ pub returns-in_err-file_refusal : goal.returns-in_err-file_refusal
 unfolding refusal reasons
 returns-in_err-file_refusal c =
     let passed = c.from_residual.ensures in
-    record { value = told-passed _ _ passed.1 ∙ form-refuses reader _ _ c.in_err-file_refusal.ensures (no-zero _); sheet_after = IfOk-from_err _ _ passed.0 }
+    record { value = number-passed _ _ passed.1 ∙ form-refuses reader _ _ c.in_err-file_refusal.ensures (no-zero _); sheet_after = IfOk-from_err _ _ passed.0 }
 
 pub returns-then-any_not_finite : goal.returns-then-any_not_finite
 returns-then-any_not_finite c =

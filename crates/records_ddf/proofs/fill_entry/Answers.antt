@@ -1,6 +1,6 @@
 -- `records_ddf::fill_entry` meets its contract.
 use mathlib.Core.Path.{refl, ◌∙◌}
-use Rattle.records.proofs.format.RefusalNumbers.{no-zero, told-passed}
+use Rattle.records.proofs.format.RefusalNumbers.{no-zero, number-passed}
 use Rattle.records.specs.format.Layout.{entry_bytes}
 use Rattle.records.specs.calls.SatterthwaiteCall.{number, entry}
 use Rattle.records.proofs.calls.CallLaws.{kept-bytes, filled-bytes}
@@ -16,7 +16,7 @@ pub returns-in_err-e : goal.returns-in_err-e
 returns-in_err-e c =
     let a = c.args in
     let e = c.in_err-e.ensures.value in
-    record { value = told-passed _ _ c.from_residual.ensures.1 ∙ e; answer_after = kept-bytes _ (number a.c a.records.now) (entry_bytes (entry a.c a.records.now)) a.answer.now e (no-zero _) }
+    record { value = number-passed _ _ c.from_residual.ensures.1 ∙ e; answer_after = kept-bytes _ (number a.c a.records.now) (entry_bytes (entry a.c a.records.now)) a.answer.now e (no-zero _) }
 
 pub returns : goal.returns
 returns c =

@@ -12,7 +12,7 @@ use Rattle.records_sheet.specs.joints.Sheet.{sheet_after}
 use Rattle.records.proofs.readers.Limits.{slot-count}
 use Rattle.records_sheet.proofs.Sheets.{length-sheet}
 use Rattle.tests.specs.Answer.{no_entry}
-use Rattle.records.proofs.format.RefusalNumbers.{no-zero, told-passed}
+use Rattle.records.proofs.format.RefusalNumbers.{no-zero, number-passed}
 use Rattle.records_form.proofs.FormLaws.{FormedSizes}
 use Rattle.records_ddf.specs.joints.Gathered.{inputs_from}
 use Rattle.records_ddf.proofs.Inputs.{outcome-is}
@@ -32,7 +32,7 @@ pub returns-in_err-refusal : goal.returns-in_err-refusal
 returns-in_err-refusal c =
     let passed = c.from_residual.ensures.1 in
     let both = judged-early _ _ _ no_entry c.in_err-refusal.ensures.value (no-zero _) refl in
-    record { value = told-passed _ _ passed ∙ both.1; answered = passed-over _ _ passed ∙ both.0 }
+    record { value = number-passed _ _ passed ∙ both.1; answered = passed-over _ _ passed ∙ both.0 }
 
 pub first_slots-firsts-requires : goal.first_slots-firsts-requires
 first_slots-firsts-requires c =

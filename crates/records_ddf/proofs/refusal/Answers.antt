@@ -3,7 +3,7 @@ use native.Mathlib.Omega.{arith}
 use mathlib.Core.Path.{◌≡◌, sym, ◌∙◌}
 use Rattle.records.specs.readers.Parameters.{reader, reasons, refusal}
 use Rattle.std.proofs.lemmas.Result.{IfOk-from_err}
-use Rattle.records.proofs.format.RefusalNumbers.{no-zero, told-passed}
+use Rattle.records.proofs.format.RefusalNumbers.{no-zero, number-passed}
 use Rattle.records.proofs.readers.ReaderLaws.{form-refuses}
 use Rattle.records_form.proofs.FormLaws.{FormedSizes, sheet-from}
 use Rattle.records_ddf.proofs.Judged.{value-refused, reader-accepts, accepted-sizes}
@@ -20,7 +20,7 @@ pub returns-in_err-file_refusal : goal.returns-in_err-file_refusal
 unfolding refusal reasons
 returns-in_err-file_refusal c =
     let passed = c.from_residual.ensures in
-    record { value = told-passed _ _ passed.1 ∙ form-refuses reader _ _ c.in_err-file_refusal.ensures (no-zero _); sheet_after = IfOk-from_err _ _ passed.0 }
+    record { value = number-passed _ _ passed.1 ∙ form-refuses reader _ _ c.in_err-file_refusal.ensures (no-zero _); sheet_after = IfOk-from_err _ _ passed.0 }
 
 pub returns-then-any_not_finite : goal.returns-then-any_not_finite
 returns-then-any_not_finite c = record { value = value-refused _ (sym c.in_ok-file_refusal.ensures) (sym c.any_not_finite.ensures ∙ c.if-any_not_finite.true); sheet_after = tt }

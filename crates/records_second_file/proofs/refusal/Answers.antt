@@ -4,7 +4,7 @@ use mathlib.Core.Path.{sym, ◌∙◌}
 use Rattle.records.specs.declared.Shape.TheVariants.{Second}
 use Rattle.records.specs.readers.SecondFile.{reader, reasons, refusal}
 use Rattle.std.proofs.lemmas.Result.{IfOk-from_err}
-use Rattle.records.proofs.format.RefusalNumbers.{no-zero, told-passed}
+use Rattle.records.proofs.format.RefusalNumbers.{no-zero, number-passed}
 use Rattle.records.proofs.readers.ReaderLaws.{form-refuses}
 use Rattle.records_form.proofs.FormLaws.{FormedSizes, formed-sizes, sheet-from}
 use Rattle.records_second_file.proofs.SecondLaws.{other-coefficients, value-refused, contrast-refused, reader-accepts, same-coefficients, contrast-fits, zero-read}
@@ -20,7 +20,7 @@ pub returns-in_err-file_refusal : goal.returns-in_err-file_refusal
 unfolding refusal reasons
 returns-in_err-file_refusal c =
     let passed = c.from_residual.ensures in
-    record { value = told-passed _ _ passed.1 ∙ form-refuses (reader c.args.p) _ _ c.in_err-file_refusal.ensures (no-zero _); sheet_after = IfOk-from_err _ _ passed.0 }
+    record { value = number-passed _ _ passed.1 ∙ form-refuses (reader c.args.p) _ _ c.in_err-file_refusal.ensures (no-zero _); sheet_after = IfOk-from_err _ _ passed.0 }
 
 pub returns-then-z-p : goal.returns-then-z-p
 returns-then-z-p c = record { value = other-coefficients _ _ (sym c.in_ok-file_refusal.ensures) (λ e. c.if-z-p.true (sym (same-coefficients _ _ c.second_sizes-z.ensures) ∙ e)); sheet_after = tt }
