@@ -1,6 +1,6 @@
 // Why a call turns a file away, and the number that its caller gets for it.
 ghost use Rattle.std.specs.Prelude.{◌≡◌};
-ghost use Rattle.records.specs.format.RefusalNumbers.{refusal_number, told};
+ghost use Rattle.records.specs.format.RefusalNumbers.{refusal_number, result_number};
 
 // What is wrong, in the order of the numbers 1 to 14 that README.md lists.
 #[derive(Clone, Copy, PartialEq, Eq, Debug)]
@@ -58,11 +58,11 @@ impl From<Refusal> for u32 {
     }
 }
 
-// What the caller of a call gets: 0, or the number of the refusal.
-pub fn told(answer: Result<(), Refusal>) -> u32
-    ensures { result ≡ told answer }
+// The number of a result, as the callers in C get it: 0 where it is Ok.
+pub fn result_number(returned: Result<(), Refusal>) -> u32
+    ensures { result ≡ result_number returned }
 {
-    match answer {
+    match returned {
         Ok(()) => 0,
         Err(refusal) => u32::from(refusal),
     }

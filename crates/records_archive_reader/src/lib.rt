@@ -1,15 +1,17 @@
 // An archive's reader: what refuses its bytes, and its numbers in the lent sheet.
 #![tactic(auto)]
 
-ghost use Rattle.std.specs.Prelude.{◌≡◌, false, ◌+◌, ◌≤◌, length, replicate};
+ghost use Rattle.std.specs.Prelude.{◌≡◌, false, ◌+◌, ◌≤◌, length, replicate, OnOk};
 ghost use Rattle.arithmetic.specs.Numbers.{plus_zero};
 ghost use Rattle.records.specs.format.Kinds.{archive_kinds, archive_table};
 ghost use Rattle.records.specs.format.Cells.{slot_count};
 ghost use Rattle.records.specs.format.File.{count};
+ghost use Rattle.records.specs.format.RefusalNumbers.{result_number};
 ghost use Rattle.records.specs.readers.Archive.{kinds, refusal};
 ghost use Rattle.records_sheet.specs.joints.Sheet.{first_slots, sheet_after};
 ghost use Rattle.records_archive_reader.specs.joints.Checks.{differs, in_units, not_scaled, misscaled_in, numbers_refusal};
 
+use records::refusal::Refusal;
 use records::{RecordKind, Shape, Sizes};
 
 // The bits of two numbers differ: +0 and -0 do.
@@ -86,34 +88,31 @@ fn misscaled(z: Sizes, firsts: &[usize; 34], sheet: &[f64]) -> bool
     phi | phi_a | ps
 }
 
-// Numbers 5, and 2 for a scaled record.
-fn numbers_refusal(z: Sizes, firsts: &[usize; 34], sheet: &[f64]) -> u32
+// Refuses a sigma2 not above zero, 5, and then a scaled record, 2.
+fn numbers_refusal(z: Sizes, firsts: &[usize; 34], sheet: &[f64]) -> Result<(), Refusal>
     requires { (z.coefficients ≤ 6) × (z.parameters ≤ 4) × (firsts.now ≡ first_slots (archive_kinds z)) × (slot_count (archive_kinds z) ≤ length sheet.now) }
-    ensures { result ≡ numbers_refusal z sheet.now }
+    ensures { result_number result ≡ numbers_refusal z sheet.now }
 {
     if sheet[firsts[RecordKind::ArchivedSigma2 as usize]] <= 0.0 {
-        return 5;
+        return Err(Refusal::Variance);
     }
     if misscaled(z, firsts, sheet) {
-        return 2;
+        return Err(Refusal::Form);
     }
-    0
+    Ok(())
 }
 
-// The number with which an archive is refused; 0 where it is not, and then the lent sheet holds its numbers. The flags are all clear at first and the sheet is all +0, with a slot for every cell that the
+// Refuses an archive; where it is taken the lent sheet holds its numbers. The flags are all clear at first and the sheet is all +0, with a slot for every cell that the
 // limits allow.
-pub fn refusal(s: &[u8], flags: &mut [bool], sheet: &mut [f64]) -> u32
+pub fn refusal(s: &[u8], flags: &mut [bool], sheet: &mut [f64]) -> Result<(), Refusal>
     requires flags_value { (flags.old ≡ replicate (length flags.old) false) × (slot_count archive_table ≤ length flags.old) }
     requires sheet_value { (sheet.old ≡ replicate (length sheet.old) plus_zero) × (slot_count archive_table ≤ length sheet.old) }
-    ensures value { result ≡ refusal s.now }
-    ensures sheet_after { result ≡ 0 → sheet.new ≡ sheet_after (length sheet.old) (kinds s.now) s.now (count s.now) }
+    ensures value { result_number result ≡ refusal s.now }
+    ensures sheet_after { OnOk result (sheet.new ≡ sheet_after (length sheet.old) (kinds s.now) s.now (count s.now)) }
 {
-    let formed = records_form::file_refusal(Shape::Archived, 1, s, flags);
-    if formed != 0 {
-        return formed;
-    }
+    records_form::file_refusal(Shape::Archived, 1, s, flags)?;
     if records_file::any_not_finite(s) {
-        return 4;
+        return Err(Refusal::NotFinite);
     }
     let z = records_sizes::archive_sizes(s);
     let firsts = records_sheet::first_slots(Shape::Archived, z);

@@ -8,10 +8,13 @@ use lib.Dec.{eqb}
 use lib.ListN.{length}
 use lib.Seq.{sets}
 use borrow.Author.Tests.{ne_eqb}
+use Rattle.std.specs.Prelude.{Result, Ok, Err, IsErrAnd}
+use Rattle.std.specs.Result.{result_unwrap_or}
 use Rattle.arithmetic_cutoffs.specs.declared.Cutoffs.{Cutoffs}
 use Rattle.algebra.specs.Reasons.{first}
 use Rattle.tests.specs.declared.Entry.{Entry}
 use Rattle.tests.specs.Answer.{no_entry}
+use Rattle.records.specs.declared.refusal.Refusal.{Refusal}
 use Rattle.records.specs.declared.Sizes.{Sizes}
 use Rattle.records.specs.format.Layout.{entry_bytes}
 use Rattle.records.specs.format.Scan.{any}
@@ -67,6 +70,11 @@ module _ (c : Cutoffs) (s : List ℕ) where
   judged-taken e q h p =
       let x : number c s ≡ 0 = satterthwaite-number-is c s ∙ rw (q, h) in
       (p ∙ sym (entry_of 0 x), sym x)
+
+-- what `?` passes on has no entry
+pub passed-over : (r : Result Entry Refusal) (e : Refusal) → IsErrAnd r (λ d. d ≡ e) → result_unwrap_or r no_entry ≡ no_entry
+passed-over (Ok x) e h = absurd h
+passed-over (Err d) e h = refl
 
 -- an entry put into 24 bytes is all of them
 pub entry-fills : (a : List ℕ) (e f : Entry) → length a ≡ 24 → e ≡ f → sets a 0 (entry_bytes e) ≡ entry_bytes f

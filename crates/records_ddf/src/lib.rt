@@ -1,47 +1,47 @@
-// The whole Satterthwaite call: the bytes of a file in, a number and an entry out (ddf).
+// The whole Satterthwaite call: the bytes of a file in, an entry or a refusal out (ddf).
 #![tactic(auto)]
 
-ghost use Rattle.std.specs.Prelude.{◌≡◌, false, cond, eqb, ◌≤◌, length, replicate};
+ghost use Rattle.std.specs.Prelude.{◌≡◌, false, cond, eqb, ◌≤◌, length, replicate, OnOk};
+ghost use Rattle.std.specs.Result.{result_unwrap_or};
 ghost use Rattle.arithmetic.specs.Numbers.{plus_zero};
+ghost use Rattle.tests.specs.Answer.{no_entry};
 ghost use Rattle.tests.specs.Satterthwaite.{satterthwaite as test_of};
 ghost use Rattle.records.specs.format.Kinds.{satterthwaite_kinds, satterthwaite};
 ghost use Rattle.records.specs.format.Cells.{slot_count};
 ghost use Rattle.records.specs.format.Layout.{entry_bytes, entry_length};
+ghost use Rattle.records.specs.format.RefusalNumbers.{result_number};
 ghost use Rattle.records.specs.readers.CutoffTable.{built_in_table};
 ghost use Rattle.records.specs.format.File.{count};
 ghost use Rattle.records.specs.readers.Parameters.{kinds, refusal};
 ghost use Rattle.records_sheet.specs.joints.Sheet.{first_slots, sheet_after};
 ghost use Rattle.records_ddf.specs.joints.Gathered.{inputs_from};
-ghost use Rattle.records.specs.calls.SatterthwaiteCall.{number as fileNumber, entry, returned, written};
+ghost use Rattle.records.specs.calls.SatterthwaiteCall.{number, entry, returned, written};
 ghost use Rattle.algebra.specs.Kind.{marks};
 
 use arithmetic_cutoffs::{Cutoffs, document_cutoffs};
+use records::refusal::Refusal;
 use records::{ENTRY_LENGTH, RecordKind, Shape, Sizes};
 use records_answer_bytes::put_entry;
 use records_sheet_parts::{cells_at, six_at, stack_at};
 use tests::Entry;
 use tests_ddf::satterthwaite::satterthwaite_contrast_f_test;
-use tests_entries::no_entry;
 
-// The number with which a file is refused before anything is computed; 0 where it is not, and then the lent sheet holds the file's numbers. The flags are all clear at first and the sheet is all +0, with a
+// Refuses a file before anything is computed; where it is taken the lent sheet holds its numbers. The flags are all clear at first and the sheet is all +0, with a
 // slot for every cell that the limits allow.
-fn refusal(s: &[u8], flags: &mut [bool], sheet: &mut [f64]) -> u32
+fn refusal(s: &[u8], flags: &mut [bool], sheet: &mut [f64]) -> Result<(), Refusal>
     requires flags_value { (flags.old ≡ replicate (length flags.old) false) × (slot_count satterthwaite ≤ length flags.old) }
     requires sheet_value { (sheet.old ≡ replicate (length sheet.old) plus_zero) × (slot_count satterthwaite ≤ length sheet.old) }
-    ensures value { result ≡ refusal s.now }
-    ensures sheet_after { result ≡ 0 → sheet.new ≡ sheet_after (length sheet.old) (kinds s.now) s.now (count s.now) }
+    ensures value { result_number result ≡ refusal s.now }
+    ensures sheet_after { OnOk result (sheet.new ≡ sheet_after (length sheet.old) (kinds s.now) s.now (count s.now)) }
 {
-    let formed = records_form::file_refusal(Shape::Test, 1, s, flags);
-    if formed != 0 {
-        return formed;
-    }
+    records_form::file_refusal(Shape::Test, 1, s, flags)?;
     if records_file::any_not_finite(s) {
-        return 4;
+        return Err(Refusal::NotFinite);
     }
     let z = records_sizes::parameter_sizes(s);
     let firsts = records_sheet::first_slots(Shape::Test, z);
     records_sheet::fill_sheet(Shape::Test, z, &firsts, s, sheet);
-    0
+    Ok(())
 }
 
 // The test of what the sheet says.
@@ -70,66 +70,56 @@ fn test(c: Cutoffs, sheet: &[f64], firsts: &[usize; 34], z: Sizes, refused: &mut
     satterthwaite_contrast_f_test(c, beta, v, l, js, a, beta_h, p, q, n, refused)
 }
 
-// The number of a file, and its entry, which is not in use where the number is not 0.
-pub fn judge(c: Cutoffs, s: &[u8], number: &mut u32) -> Entry
-    ensures value { result ≡ entry c s.now }
-    ensures number_after { number.new ≡ fileNumber c s.now }
+// The entry of a file, or what refuses it.
+pub fn judge(c: Cutoffs, s: &[u8]) -> Result<Entry, Refusal>
+    ensures value { result_number result ≡ number c s.now }
+    ensures answered { result_unwrap_or result no_entry ≡ entry c s.now }
 {
     let mut flags = [false; 256];
     let mut sheet = [0.0; 256];
-    let early = refusal(s, &mut flags, &mut sheet);
-    if early != 0 {
-        *number = early;
-        return no_entry();
-    }
+    refusal(s, &mut flags, &mut sheet)?;
     let z = records_sizes::parameter_sizes(s);
     let firsts = records_sheet::first_slots(Shape::Test, z);
     let mut refused = false;
     let e = test(c, &sheet, &firsts, z, &mut refused);
     if refused {
-        *number = 11;
-        return no_entry();
+        return Err(Refusal::Eigenvalue);
     }
-    *number = 0;
-    e
+    Ok(e)
 }
 
-// The answer to a file with these cutoffs, in the lent entry's bytes. A refusal returns its number alone and leaves the bytes as they are.
-fn fill_entry(c: Cutoffs, records: &[u8], answer: &mut [u8]) -> u32
+// The answer to a file with these cutoffs, in the lent entry's bytes. A refusal leaves the bytes as they are.
+fn fill_entry(c: Cutoffs, records: &[u8], answer: &mut [u8]) -> Result<(), Refusal>
     requires { length answer.old ≡ entry_length }
-    ensures value { result ≡ fileNumber c records.now }
-    ensures answer_after { answer.new ≡ cond (eqb (fileNumber c records.now) 0) (entry_bytes (entry c records.now)) answer.old }
+    ensures value { result_number result ≡ number c records.now }
+    ensures answer_after { answer.new ≡ cond (eqb (number c records.now) 0) (entry_bytes (entry c records.now)) answer.old }
 {
-    let mut number: u32 = 0;
-    let e = judge(c, records, &mut number);
-    if number != 0 {
-        return number;
-    }
+    let e = judge(c, records)?;
     put_entry(answer, 0, e);
-    0
+    Ok(())
 }
 
 // The call with a lab's table: 1 for the lent length, 14 for the table, and then the answer to the records with its cutoffs.
-pub fn call_with(table: &[u8], records: &[u8], answer: &mut [u8]) -> u32
-    ensures value { result ≡ returned table.now records.now answer.old }
+pub fn call_with(table: &[u8], records: &[u8], answer: &mut [u8]) -> Result<(), Refusal>
+    ensures value { result_number result ≡ returned table.now records.now answer.old }
     ensures answer_after { answer.new ≡ written table.now records.now answer.old }
 {
     if answer.len() != ENTRY_LENGTH {
-        return 1;
+        return Err(Refusal::LentLength);
     }
     if records_cutoffs::bad_table(table) {
-        return 14;
+        return Err(Refusal::CutoffTable);
     }
     fill_entry(records_cutoffs::cutoffs_in(table), records, answer)
 }
 
 // The call without a table: the one with the built-in table, whose numbers are at hand.
-pub fn call(records: &[u8], answer: &mut [u8]) -> u32
-    ensures value { result ≡ returned built_in_table records.now answer.old }
+pub fn call(records: &[u8], answer: &mut [u8]) -> Result<(), Refusal>
+    ensures value { result_number result ≡ returned built_in_table records.now answer.old }
     ensures answer_after { answer.new ≡ written built_in_table records.now answer.old }
 {
     if answer.len() != ENTRY_LENGTH {
-        return 1;
+        return Err(Refusal::LentLength);
     }
     fill_entry(document_cutoffs(), records, answer)
 }

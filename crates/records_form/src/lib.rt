@@ -6,7 +6,7 @@ ghost use Rattle.algebra.specs.Reasons.{first};
 ghost use Rattle.records.specs.format.Kinds.{kinds_of, limits};
 ghost use Rattle.records.specs.format.Cells.{slot_count};
 ghost use Rattle.records.specs.format.File.{form_reasons};
-ghost use Rattle.records.specs.format.RefusalNumbers.{told};
+ghost use Rattle.records.specs.format.RefusalNumbers.{result_number};
 ghost use Rattle.records.specs.readers.Reader.{limit_kinds, file_kinds, formed_number};
 ghost use Rattle.records_sizes.specs.joints.Gathered.{reader_of};
 
@@ -18,7 +18,7 @@ use records_sheet::{any_missing, first_slots, mark_cells};
 // Refuses records that its call does not read, whatever their order, with the limit of specimens w: 2. The lent flags are all clear at first.
 fn form_refusal(file: Shape, w: usize, s: &[u8], flags: &mut [bool]) -> Result<(), Refusal>
     requires { (1 ≤ w) × (w ≤ 256) × (flags.old ≡ replicate (length flags.old) false) × (slot_count (kinds_of file (limits w)) ≤ length flags.old) }
-    ensures { told result ≡ first (form_reasons (limit_kinds (reader_of file w)) (file_kinds (reader_of file w) s.now) s.now) }
+    ensures { result_number result ≡ first (form_reasons (limit_kinds (reader_of file w)) (file_kinds (reader_of file w) s.now) s.now) }
 {
     if any_bad(file, records_kinds::limits(w), s) {
         return Err(Refusal::Form);
@@ -40,7 +40,7 @@ fn form_refusal(file: Shape, w: usize, s: &[u8], flags: &mut [bool]) -> Result<(
 // Refuses a file by its length, its order and its form: 2, 12 and 2.
 pub fn file_refusal(file: Shape, w: usize, s: &[u8], flags: &mut [bool]) -> Result<(), Refusal>
     requires { (1 ≤ w) × (w ≤ 256) × (flags.old ≡ replicate (length flags.old) false) × (slot_count (kinds_of file (limits w)) ≤ length flags.old) }
-    ensures { told result ≡ formed_number (reader_of file w) s.now }
+    ensures { result_number result ≡ formed_number (reader_of file w) s.now }
 {
     if s.len() % 16 != 0 {
         return Err(Refusal::Form);

@@ -24,14 +24,13 @@ use Rattle.records_refusals.proofs.RefusalLaws.{kept-on-sheet}
 use Rattle.records.specs.declared.Shape.TheVariants.{Series}
 
 -- what is lent holds the series once the reader takes it
-pub series-read : (w : ℕ) (s : List ℕ) (flags : List Bool) (xs ys : List Float) (r : ℕ) → Room w flags xs → r ≡ refusal w s → r ≡ 0 → (r ≡ 0 → ys ≡ sheet_after (length xs) (kinds s) s (count s)) → SeriesRead w s (sizes s) (first_slots (kinds s)) ys
-series-read w s flags xs ys r h e z f =
-    let q = f z in
+pub series-read : (w : ℕ) (s : List ℕ) (flags : List Bool) (xs ys : List Float) → Room w flags xs → refusal w s ≡ 0 → ys ≡ sheet_after (length xs) (kinds s) s (count s) → SeriesRead w s (sizes s) (first_slots (kinds s)) ys
+series-read w s flags xs ys h taken q =
     let n : length ys ≡ length xs = ap length q ∙ length-sheet (length xs) (kinds s) s (count s) in
     record {
       some = h.some;
       most = h.most;
-      taken = sym e ∙ z;
+      taken = taken;
       sized = refl;
       starts = refl;
       numbers = q ∙ ap (λ (m : ℕ). sheet_after m (kinds s) s (count s)) (sym n);

@@ -6,7 +6,7 @@ ghost use Rattle.adjustment.specs.Blocks.{block_at};
 ghost use Rattle.records.specs.format.Kinds.{kinds_of, limits};
 ghost use Rattle.records.specs.format.Cells.{slot_count};
 ghost use Rattle.records.specs.format.File.{count};
-ghost use Rattle.records.specs.format.RefusalNumbers.{told};
+ghost use Rattle.records.specs.format.RefusalNumbers.{result_number};
 ghost use Rattle.records.specs.readers.Series.{kinds, refusal};
 ghost use Rattle.records_sheet.specs.joints.Sheet.{Small, first_slots, sheet_after};
 ghost use Rattle.records_refusals.specs.joints.Checks.{records_refusal, negatives, bad_weight_in, all_torn_in, sheet_refusal};
@@ -57,7 +57,7 @@ fn sheet_refusal(
 ) -> Result<(), Refusal>
     requires small { Small z × (z.blocks ≤ 3) × (firsts.now ≡ first_slots (kinds_of Series z)) × (slot_count (kinds_of Series z) ≤ length sheet.now) }
     requires by_index { (b : ℕ) → ((block_at blocks b).effects ≤ 255) × ((block_at blocks b).groups ≤ 4294967295) }
-    ensures { told result ≡ sheet_refusal z blocks sheet.now }
+    ensures { result_number result ≡ sheet_refusal z blocks sheet.now }
 {
     let variance = firsts[RecordKind::Sigma2 as usize];
     let weights = firsts[RecordKind::Weight as usize];
@@ -80,7 +80,7 @@ fn sheet_refusal(
 // Refuses a file by its length, its order and form, and its blocks' parameter counts: 2, 12 and 13. The lent flags are all clear at first.
 fn records_refusal(w: usize, s: &[u8], flags: &mut [bool]) -> Result<(), Refusal>
     requires { (1 ≤ w) × (w ≤ 256) × (flags.old ≡ replicate (length flags.old) false) × (slot_count (kinds_of Series (limits w)) ≤ length flags.old) }
-    ensures { told result ≡ records_refusal w s.now }
+    ensures { result_number result ≡ records_refusal w s.now }
 {
     records_form::file_refusal(Shape::Series, w, s, flags)?;
     if any_miscounted(s) {
@@ -92,7 +92,7 @@ fn records_refusal(w: usize, s: &[u8], flags: &mut [bool]) -> Result<(), Refusal
 // Refuses a file before anything is computed, with the limit of specimens w; where it is taken the sheet holds the file's numbers.
 pub fn refusal(w: usize, s: &[u8], flags: &mut [bool], sheet: &mut [f64]) -> Result<(), Refusal>
     requires { Room w flags.old sheet.old }
-    ensures value { told result ≡ refusal w s.now }
+    ensures value { result_number result ≡ refusal w s.now }
     ensures sheet_after { OnOk result (sheet.new ≡ sheet_after (length sheet.old) (kinds s.now) s.now (count s.now)) }
 {
     records_refusal(w, s, flags)?;

@@ -33,7 +33,7 @@ refusal_number BlockCount = 13
 -- "any other table"
 refusal_number CutoffTable = 14
 
--- what a call's caller is told: "its number (accepted: 0)"
-abbrev pub told : {A : Type 0} → Result A Refusal → ℕ
-told (Ok _) = 0
-told (Err e) = refusal_number e
+-- the number of a result: 0 where it is Ok
+abbrev pub result_number : {A : Type 0} → Result A Refusal → ℕ
+result_number (Ok _) = 0
+result_number (Err e) = refusal_number e

@@ -12,7 +12,7 @@ use Rattle.records.specs.format.Cells.{slot_count}
 use Rattle.records.specs.format.File.{count}
 use Rattle.records.specs.readers.Shortened.{all_torn}
 use Rattle.records.specs.readers.Series.{sizes, as_sent, bad_size}
-use Rattle.records.proofs.format.RefusalNumbers.{no-zero, told-passed, on-ok}
+use Rattle.records.proofs.format.RefusalNumbers.{no-zero, number-passed, on-ok}
 use Rattle.records_sheet.specs.joints.Sheet.{sheet_after}
 use Rattle.records_sheet.proofs.Sheets.{length-sheet}
 use Rattle.records_refusals.proofs.RefusalLaws.{Sound, sound-of, starts, weights-fit, records-refuse, size_is, size-refuses, all-torn-is, torn-refuses, value-refuses, sheet-refuses}
@@ -27,7 +27,7 @@ pub returns-in_err-records_refusal : goal.returns-in_err-records_refusal
 returns-in_err-records_refusal c =
     let a = c.args in
     let passed = c.from_residual.ensures in
-    record { value = told-passed _ _ passed.1 ∙ records-refuse a.w a.s.now _ c.in_err-records_refusal.ensures (no-zero _); sheet_after = IfOk-from_err _ _ passed.0 }
+    record { value = number-passed _ _ passed.1 ∙ records-refuse a.w a.s.now _ c.in_err-records_refusal.ensures (no-zero _); sheet_after = IfOk-from_err _ _ passed.0 }
 
 pub blocks_of-blocks-requires : goal.blocks_of-blocks-requires
 blocks_of-blocks-requires c =
