@@ -7,7 +7,7 @@ use adjustment::packing::index_symmat2vec;
 use adjustment_response_units::scaled_up;
 use arithmetic_cutoffs::document_cutoffs;
 use arithmetic_steps::given;
-use tests::{Entry, Number};
+use tests::Entry;
 use tests_ddf::pooled::get_fstat_ddf;
 use tests_ddf::satterthwaite::satterthwaite_contrast_f_test;
 use tests_ddf::variance::variance_df;
@@ -17,10 +17,10 @@ fn print_bits(x: f64) {
     table_bits_text::print_word(arithmetic::plain::to_bits(x));
 }
 
-fn print_number(n: Number) {
+fn print_number(n: Option<f64>) {
     match n {
-        Number::Is(x) => print_bits(x),
-        Number::None => {
+        Some(x) => print_bits(x),
+        None => {
             io::write_all(1, b" none");
         }
     }

@@ -1,13 +1,10 @@
 use Prim.Native.Nat.{ℕ, ◌≤◌, ◌<◌, ◌-◌, ◌*◌}
 use mathlib.Core.Path.{◌≡◌, refl, ap, ◌∙◌}
-use mathlib.Core.Bool.{false}
 use mathlib.Core.List.{List}
 use native.Mathlib.Omega.{arith}
 use borrow.Author.Rules.{rules}
-use lib.Ieee.{nan}
 use lib.ListN.{length, get_or, take}
 use lib.Seq.{sets, take_all}
-use Rattle.tests.specs.declared.Number.TheVariants.{Is}
 use Rattle.tests.specs.declared.Entry.{Entry}
 use Rattle.records.specs.format.Layout.{answer_bytes, entry_bytes}
 use Rattle.records_little_endian.proofs.StoreLaws.{sets-all}
