@@ -26,8 +26,7 @@ use Rattle.algebra.proofs.MovingProducts.{sum-moves, product-moves, transpose-mo
 use Rattle.algebra.proofs.MovingElimination.{SolvedAlike, solution-moves}
 use Rattle.algebra.specs.Small.{MarkedRows, Rows, given_cells, values, all_marks}
 use Rattle.arithmetic_cutoffs.specs.declared.Cutoffs.{Cutoffs}
-use Rattle.tests.specs.declared.Number.{Number}
-use Rattle.tests.specs.declared.Number.TheVariants.{None}
+use Rattle.std.specs.Prelude.{Option, None}
 use Rattle.tests.specs.Answer.{number_of}
 use Rattle.tests.specs.Basis.{Basis}
 use Rattle.tests.specs.KenwardRoger.{Scaled, Tested, scaling_seen, difference, theta_of, u_of, u_stack, u_values, wald_many, a_rows, x_rows, theta_phi, us, ld_rows, v_rows, y_rows, wald_marked, wald_number, test_seen, a1, a2, tested}
@@ -358,7 +357,7 @@ module _ {t : ℕ} (c : Cutoffs) (p N q : ℕ) (hp : p ≤ 6) (p1 : 0 < p) (hN :
         v' = at marks (v_rows marks c s' beta' betaH' b') 0 0
 
         go : (e : Bool) → eqb q 1 ≡ e → x' ≡ x
-            → ◌≡◌ {A = Number} (cond (e && not (is_positive v'.value)) None (number_of x')) (cond (e && not (is_positive v.value)) None (number_of x))
+            → ◌≡◌ {A = Option Float} (cond (e && not (is_positive v'.value)) None (number_of x')) (cond (e && not (is_positive v.value)) None (number_of x))
         go true e h = rw (given-agrees e, h)
         go false e h = rw h
 

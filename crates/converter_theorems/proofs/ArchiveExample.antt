@@ -25,7 +25,7 @@ use Rattle.tests.specs.Basis.{largest, divided_cell, divided, contrast_basis}
 use Rattle.tests.specs.Both.{stack_seen, square_one, is_positive}
 use Rattle.tests.specs.Moments.{weight, a1_of, a2_of, b_of, g_of, d_of, c1_of, c2_of, c3_of, leading_of, v0_of, v1_of, v2_of, div_of, less_a2, rho_of, positive, general_df, rank_one, df_of, scaling_at, scaling_of, f_of}
 use Rattle.tests.specs.KenwardRoger.{Run, unit_row, coefficient_test, contrast_test, scaled_ps, scaled_by, scaling_seen, difference, theta_of, u_of, u_stack, u_values, wald_many, a_rows, x_rows, theta_phi, us, ld_rows, v_rows, y_rows, wald_marked, wald_number, test_seen, a1, a2, tested, with_test, coefficients_to, run_of}
-use Rattle.tests.specs.declared.Number.TheVariants.{Is}
+use Rattle.std.specs.Prelude.{Some}
 use Rattle.tests.specs.declared.Entry.{Entry}
 use Rattle.tests.specs.Answer.{no_entry, number_of}
 use Rattle.tests.specs.Verdict.{verdict}
@@ -99,9 +99,9 @@ read = record { archived = refl; input = refl; contrast = refl; passes = refl }
 -- ---- what the run makes of it: 9 and 1 of the coefficient, as the series' own run, and 9/4 and 1 of the other question
 abbrev other_entries : List Entry
 other_entries =
-    record { f = Is (fin false 9 (pos 0)); df = Is one; rank = 1; inside = true }
+    record { f = Some (fin false 9 (pos 0)); df = Some one; rank = 1; inside = true }
     ∷ no_entry ∷ no_entry ∷ no_entry ∷ no_entry ∷ no_entry
-    ∷ record { f = Is (fin false 9 (negsuc 1)); df = Is one; rank = 1; inside = true }
+    ∷ record { f = Some (fin false 9 (negsuc 1)); df = Some one; rank = 1; inside = true }
     ∷ []
 
 other-run : run_from document_cutoffs example_read 1 question_read ≡ record { refused = false; entries = other_entries }
@@ -145,7 +145,7 @@ pub record ArchiveWitness : Type 0 where
   pub accepted : from_archive_number document_cutoffs example_archive other_question ≡ 0
   pub inside : PairInside document_cutoffs example_archive other_question
   pub verdicts : map verdict (from_archive_entries document_cutoffs example_archive other_question)
-      ≡ nine_one ∷ unused ∷ unused ∷ unused ∷ unused ∷ unused ∷ record { f = Is (fin false 9 (negsuc 1)); df = Is one; rank = 1 } ∷ []
+      ≡ nine_one ∷ unused ∷ unused ∷ unused ∷ unused ∷ unused ∷ record { f = Some (fin false 9 (negsuc 1)); df = Some one; rank = 1 } ∷ []
   pub other_archive : converted (archive_change (pos 5)) example_archive ≡ archive_shifted
   pub other_tests : converted (kenward_roger_change (pos 5) (λ r. negsuc 2)) other_question ≡ question_shifted
   pub same : SamePairVerdicts document_cutoffs example_archive other_question archive_shifted question_shifted

@@ -29,7 +29,7 @@ use Rattle.tests.specs.Order.{comes_before, place_in, index_at}
 use Rattle.tests.specs.Moments.{weight, a1_of, a2_of, b_of, g_of, d_of, c1_of, c2_of, c3_of, leading_of, v0_of, v1_of, v2_of, div_of, less_a2, rho_of, positive, general_df, rank_one, df_of, scaling_at, scaling_of, f_of}
 use Rattle.tests.specs.KenwardRoger.{unit_row, coefficient_test, contrast_test, scaled_ps, scaled_by, scaling_seen, difference, theta_of, u_of, u_stack, u_values, wald_many, a_rows, x_rows, theta_phi, us, ld_rows, v_rows, y_rows, wald_marked, wald_number, test_seen, a1, a2, tested, with_test, coefficients_to, run_of}
 use Rattle.adjustment.specs.Blocks.{no_block}
-use Rattle.tests.specs.declared.Number.TheVariants.{Is}
+use Rattle.std.specs.Prelude.{Some}
 use Rattle.tests.specs.declared.Entry.{Entry}
 use Rattle.tests.specs.Answer.{no_entry, number_of}
 use Rattle.records.specs.format.Bytes.{word, long, bytes_of}
@@ -131,7 +131,7 @@ batch_adjusted = record {
 
 -- an entry with numbers for F and df, inside
 abbrev entry_inside : Float → Float → ℕ → Entry
-entry_inside f df rank = record { f = Is f; df = Is df; rank = rank; inside = true }
+entry_inside f df rank = record { f = Some f; df = Some df; rank = rank; inside = true }
 
 -- F 90.9924 with df 4.6476, F 2.0255 with df 2.2685; the contrast of rank 2: F 2.7141 with df 2.6336
 abbrev batch_entries : List Entry

@@ -27,7 +27,7 @@ use Rattle.tests.specs.VarianceDf.{relative_gradient, gradient_values, relative_
 use Rattle.tests.specs.Both.{is_positive, square_one, stack_seen}
 use Rattle.tests.specs.PooledDf.{tolerance, all_within, any_low, expected, pooled, get_fstat_ddf}
 use Rattle.tests.specs.Satterthwaite.{column, contrast_of, transformed, transformed_all, gradient_one, eigenvalues, not_positive, variances_of, directions_of, projected, squares_over, jx_all, gradient_at, capped, component_df, component_dfs, any_none, several_df, components_seen, Inputs, Outcome, ld_rows, v_rows, j_stack, rotated_v, variances, directions, jx_stack, f_one, f_several, df_one, df_several, start_seen, seen_one, seen_several, one_row, several_rows, satterthwaite as test}
-use Rattle.tests.specs.declared.Number.TheVariants.{Is}
+use Rattle.std.specs.Prelude.{Some}
 use Rattle.tests.specs.declared.Entry.{Entry}
 use Rattle.records.specs.format.Bytes.{byte, word, long, bytes_of}
 use Rattle.records.specs.format.Layout.{bits_of, entry_bytes}
@@ -203,11 +203,11 @@ read = record { sent = record { inputs = refl; passes = refl }; again = record {
 -- ---- what the test makes of them under the lab's table, and of the first under the built-in one
 -- F 1.0256, df 3.0950, rank 3, inside
 abbrev pub lab_entry : Entry
-lab_entry = record { f = Is (fin false 4618942727994299 (negsuc 51)); df = Is (fin false 6969419658154273 (negsuc 50)); rank = 3; inside = true }
+lab_entry = record { f = Some (fin false 4618942727994299 (negsuc 51)); df = Some (fin false 6969419658154273 (negsuc 50)); rank = 3; inside = true }
 
 -- F 1.0256 in other bits, df 3.1546
 abbrev pub built_in_entry : Entry
-built_in_entry = record { f = Is (fin false 2309538270446409 (negsuc 50)); df = Is (fin false 7103554210604397 (negsuc 50)); rank = 3; inside = true }
+built_in_entry = record { f = Some (fin false 2309538270446409 (negsuc 50)); df = Some (fin false 7103554210604397 (negsuc 50)); rank = 3; inside = true }
 
 record Tested : Type 0 where
   pub sent : test marks lab_cutoffs (correlated_inputs (pos 0)) ≡ record { refused = false; entry = lab_entry }

@@ -24,7 +24,7 @@ use Rattle.tests.specs.VarianceDf.{relative_gradient, gradient_values, relative_
 use Rattle.tests.specs.Both.{is_positive, square_one, stack_seen}
 use Rattle.tests.specs.PooledDf.{tolerance, all_within, any_low, expected, pooled, get_fstat_ddf}
 use Rattle.tests.specs.Satterthwaite.{column, contrast_of, transformed, transformed_all, gradient_one, eigenvalues, not_positive, variances_of, directions_of, projected, squares_over, jx_all, gradient_at, capped, component_df, component_dfs, any_none, several_df, components_seen, Inputs, Outcome, ld_rows, v_rows, j_stack, rotated_v, variances, directions, jx_stack, f_one, f_several, df_one, df_several, start_seen, seen_one, seen_several, one_row, several_rows, satterthwaite as test}
-use Rattle.tests.specs.declared.Number.TheVariants.{Is}
+use Rattle.std.specs.Prelude.{Some}
 use Rattle.tests.specs.declared.Entry.{Entry}
 use Rattle.records.specs.format.Bytes.{word, long, bytes_of}
 use Rattle.algebra.specs.Reasons.{first}
@@ -87,7 +87,7 @@ says = record { inputs = refl; passes = refl }
 
 -- ---- what the test makes of it: F 2.5, df 4, rank 2, inside
 abbrev parameter_outcome : Outcome
-parameter_outcome = record { refused = false; entry = record { f = Is (fin false 5 (negsuc 0)); df = Is four; rank = 2; inside = true } }
+parameter_outcome = record { refused = false; entry = record { f = Some (fin false 5 (negsuc 0)); df = Some four; rank = 2; inside = true } }
 
 tests : test marks document_cutoffs parameter_inputs ≡ parameter_outcome
 unfolding test several_rows one_row seen_several seen_one start_seen df_several df_one f_several f_one jx_stack directions variances rotated_v j_stack v_rows ld_rows stack_seen components_seen several_df any_none component_dfs component_df capped gradient_at jx_all squares_over projected directions_of variances_of not_positive eigenvalues gradient_one square_one transformed_all transformed contrast_of column get_fstat_ddf pooled expected any_low all_within tolerance gradient_seen variance_df df_of_relative relative_variance gradient_values relative_gradient is_positive index_at place_in comes_before number_of document_cutoffs decimal all_marks given_cells sandwich jacobi mirrored sweeps_to sweep_to row_to rotate rotate_tested bound squared rotated rotated_cell turn_columns turn_row turned_second turned_first sine cosine tangent ratio identity minus_cells sum_cells transpose product cell sum table blank row fold marked_magnitude marked_root marked_div marked_mul marked_sub marked_add also lost_quotient lost_product step_mark in_range square_root whole_root of_count is_finite is_zero magnitude sign round add sub mul div neg lt eq le of_int lib.Ieee.is_nan
@@ -106,7 +106,7 @@ parameter-entry = entry-is document_cutoffs parameter_file parameter-accepted �
 
 -- F 2.5, df 4, rank 2
 abbrev pub two_and_a_half : Verdict
-two_and_a_half = record { f = Is (fin false 5 (negsuc 0)); df = Is (fin false 1 (pos 2)); rank = 2 }
+two_and_a_half = record { f = Some (fin false 5 (negsuc 0)); df = Some (fin false 1 (pos 2)); rank = 2 }
 
 -- k = -2: β (4,1) becomes (1, 1/4), v and the Jacobian diag(4,1) become diag(1/4, 1/16)
 abbrev pub parameter_shifted : List ℕ

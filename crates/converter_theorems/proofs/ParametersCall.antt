@@ -16,7 +16,7 @@ use Rattle.algebra.specs.Product.{at}
 use Rattle.algebra.proofs.MovingCells.{abs-twice}
 use Rattle.arithmetic_cutoffs.specs.declared.Cutoffs.{Cutoffs}
 use Rattle.arithmetic_cutoffs.specs.Cutoffs.{document_cutoffs}
-use Rattle.tests.specs.declared.Number.{Number}
+use Rattle.std.specs.Prelude.{Option}
 use Rattle.tests.specs.declared.Entry.{Entry}
 use Rattle.algebra.specs.Reasons.{first}
 use Rattle.records.specs.format.Kinds.{kind_at, width, satterthwaite_kinds}
@@ -194,7 +194,7 @@ module _ {t : ℕ} (c : Cutoffs) (rotation : T (fits binary64 c.rotation)) (s : 
 
   three : (x y : Entry) → y.f ≡ x.f → y.df ≡ x.df → y.rank ≡ x.rank → verdict y ≡ verdict x
   three x y f d r =
-      ap (λ (n : Number). record { f = n; df = y.df; rank = y.rank }) f ∙ ap (λ (n : Number). record { f = x.f; df = n; rank = y.rank }) d
+      ap (λ (n : Option Float). record { f = n; df = y.df; rank = y.rank }) f ∙ ap (λ (n : Option Float). record { f = x.f; df = n; rank = y.rank }) d
       ∙ ap (λ (n : ℕ). record { f = x.f; df = x.df; rank = n }) r
 
   pub parameters-same : SameVerdict c s (converted (satterthwaite_change k) s)

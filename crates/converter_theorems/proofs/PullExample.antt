@@ -28,7 +28,7 @@ use Rattle.tests.specs.Basis.{largest, divided_cell, divided, contrast_basis}
 use Rattle.tests.specs.Moments.{weight, a1_of, a2_of, b_of, g_of, d_of, c1_of, c2_of, c3_of, leading_of, v0_of, v1_of, v2_of, div_of, less_a2, rho_of, positive, general_df, rank_one, df_of, scaling_at, scaling_of, f_of}
 use Rattle.tests.specs.KenwardRoger.{unit_row, coefficient_test, contrast_test, scaled_ps, scaled_by, scaling_seen, difference, theta_of, u_of, u_stack, u_values, wald_many, a_rows, x_rows, theta_phi, us, ld_rows, v_rows, y_rows, wald_marked, wald_number, test_seen, a1, a2, tested, with_test, coefficients_to, run_of}
 use Rattle.adjustment.specs.Blocks.{no_block}
-use Rattle.tests.specs.declared.Number.TheVariants.{Is, None}
+use Rattle.std.specs.Prelude.{Some, None}
 use Rattle.tests.specs.declared.Entry.{Entry}
 use Rattle.tests.specs.Answer.{no_entry, number_of}
 use Rattle.records.specs.format.Bytes.{word, long, bytes_of}
@@ -131,7 +131,7 @@ one-coefficient = (refl, refl, refl)
 -- F and df 1 of the one coefficient, and of the contrast
 abbrev entries_of_f : Float → List Entry
 entries_of_f f =
-    let e : Entry = record { f = Is f; df = Is one; rank = 1; inside = true } in
+    let e : Entry = record { f = Some f; df = Some one; rank = 1; inside = true } in
     e ∷ no_entry ∷ no_entry ∷ no_entry ∷ no_entry ∷ no_entry ∷ e ∷ []
 
 abbrev pub pull_entries : List Entry
@@ -175,7 +175,7 @@ pull-inside = read-inside reads.whole runs.whole 1 one-coefficient.0 (first-insi
 
 -- rank 1, F 9, df 1; and no verdict in an entry that is not in use
 abbrev pub nine_one : Verdict
-nine_one = record { f = Is (fin false 9 (pos 0)); df = Is one; rank = 1 }
+nine_one = record { f = Some (fin false 9 (pos 0)); df = Some one; rank = 1 }
 
 abbrev pub unused : Verdict
 unused = record { f = None; df = None; rank = 0 }

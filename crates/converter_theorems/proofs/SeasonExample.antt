@@ -11,8 +11,8 @@ use lib.ListN.{length, get_or}
 use lib.IntN.{pos, negsuc}
 use lib.Ieee.{fin, lt, to_bits}
 use Rattle.tests.specs.declared.Entry.{Entry}
-use Rattle.tests.specs.declared.Number.{Number}
-use Rattle.tests.specs.declared.Number.TheVariants.{Is}
+use lib.Ieee.{Float}
+use Rattle.std.specs.Prelude.{Option, Some}
 use Rattle.arithmetic_cutoffs.specs.Cutoffs.{document_cutoffs}
 use Rattle.tests.specs.Answer.{no_entry}
 use Rattle.records.specs.calls.KenwardRogerCall.{number, entries}
@@ -50,17 +50,17 @@ lines-text : series_lines document_cutoffs pull_file ≡ codes "coef 0 rank 1 F 
 unfolding series_lines
 lines-text = lot.pulltest
 
-f-nine : contrast_f document_cutoffs pull_file ≡ Is (fin false 9 (pos 0))
+f-nine : contrast_f document_cutoffs pull_file ≡ Some (fin false 9 (pos 0))
 unfolding contrast_f
 f-nine = ap (λ (es : List Entry). (get_or es 6 no_entry).f) pull-entries
 
-nine-text : codes "worst " ++ (number_text (Is (fin false 9 (pos 0))) ++ codes "\n") ≡ codes "worst 4022000000000000\n"
+nine-text : codes "worst " ++ (number_text (Some (fin false 9 (pos 0))) ++ codes "\n") ≡ codes "worst 4022000000000000\n"
 unfolding codes number_text hexadecimal digit to_bits
 nine-text = refl
 
 worst-text : worst_line document_cutoffs (pull_file ∷ []) ≡ codes "worst 4022000000000000\n"
 unfolding worst_line fs_of worst_after worse
-worst-text = ap (λ (n : Number). codes "worst " ++ (number_text n ++ codes "\n")) f-nine ∙ nine-text
+worst-text = ap (λ (n : Option Float). codes "worst " ++ (number_text n ++ codes "\n")) f-nine ∙ nine-text
 
 first-text : closed_texts document_cutoffs (pull_file ∷ [])
     ≡ codes "coef 0 rank 1 F 4022000000000000 df 3ff0000000000000 inside\ntest rank 1 F 4022000000000000 df 3ff0000000000000 inside\n" ++ codes "worst 4022000000000000\n"
@@ -119,7 +119,7 @@ module _ (t : List ℕ) (later : LaterSeries t) where
   unfolding series_lines
   later-lines = ap₂ text_of later.accepted later.judged ∙ quarter-text
 
-  f-quarter : contrast_f document_cutoffs t ≡ Is (fin false 9 (negsuc 1))
+  f-quarter : contrast_f document_cutoffs t ≡ Some (fin false 9 (negsuc 1))
   unfolding contrast_f
   f-quarter = ap (λ (es : List Entry). (get_or es 6 no_entry).f) later.judged
 

@@ -8,7 +8,8 @@ use lib.IntN.{ℤ}
 use lib.ListN.{length, get_or, take, length-drop, length-map, get_or-map}
 use lib.Seq.{ext_get_or, length-take-le, get_or-take, get_or-drop}
 use Rattle.arithmetic_cutoffs.specs.declared.Cutoffs.{Cutoffs}
-use Rattle.tests.specs.declared.Number.{Number}
+use lib.Ieee.{Float}
+use Rattle.std.specs.Prelude.{Option}
 use Rattle.tests.specs.Verdict.{Verdict}
 use Rattle.records.specs.calls.KenwardRogerCall.{number, entries}
 use Rattle.records.specs.text.Text.{codes, number_text}
@@ -90,7 +91,7 @@ pub season-worst-kept : WorstKept
 season-worst-kept c k m s j h kept =
     let s' = converted_season (season_change k m) s in
     let same = latest-same c s s' j h (season-converts k m s).many (λ i a b. f-stands c k m s i (omega arith) (kept i a b)) in
-    worst-latest c (take (j + 1) (series_in s')) ∙ ap (λ (fs : List Number). codes "worst " ++ (number_text (worst fs) ++ codes "\n")) same ∙ sym (worst-latest c (take (j + 1) (series_in s)))
+    worst-latest c (take (j + 1) (series_in s')) ∙ ap (λ (fs : List (Option Float)). codes "worst " ++ (number_text (worst fs) ++ codes "\n")) same ∙ sym (worst-latest c (take (j + 1) (series_in s)))
 
 -- Any cutoffs, every season's file and each of its series for which the latest twenty are all accepted with all entries inside, each with a k and m r of its own from -32 to 32: the `worst` line of the series is the same in
 -- the season's new file.

@@ -11,10 +11,9 @@ use lib.ListN.{length, get_or, take, drop, replicate, length-append}
 use lib.Seq.{sets, split_at, take-suc, length-take-le}
 use lib.Ieee.{Float, binary64, fits, is_nan, to_bits, of_bits}
 use lib.Ieee.Bits.{of_bits-to_bits, to_bits-lt}
-use Rattle.tests.specs.declared.Number.{Number}
-use Rattle.tests.specs.declared.Number.TheVariants.{Is, None}
+use Rattle.std.specs.Prelude.{Option, Some, None, is_some}
 use Rattle.tests.specs.declared.Entry.{Entry}
-use Rattle.tests.specs.Answer.{number_of, is_given, no_entry}
+use Rattle.tests.specs.Answer.{number_of, no_entry}
 use Rattle.records.specs.format.Bytes.{byte, word, long, bytes_of}
 use Rattle.records_little_endian.proofs.StoreLaws.{sets-append}
 use Rattle.records_little_endian.proofs.ReadLaws.{length-bytes, long-back, byte-after, long_after}
@@ -49,7 +48,7 @@ sets-entry l i e = sets-three l i (bytes_of 8 (bits_of e.f)) (bytes_of 8 (bits_o
 -- an entry stored: its two numbers' bits, then its tail, each made on the way
 pub entry-stored : (l a b r : List ℕ) (i : ℕ) (e : Entry) (f df givenF givenDf inside : ℕ)
     → f ≡ bits_of e.f → a ≡ sets l i (bytes_of 8 f) → df ≡ bits_of e.df → b ≡ sets a (i + 8) (bytes_of 8 df)
-    → givenF ≡ flag (is_given e.f) → givenDf ≡ flag (is_given e.df) → inside ≡ flag e.inside
+    → givenF ≡ flag (is_some e.f) → givenDf ≡ flag (is_some e.df) → inside ≡ flag e.inside
     → r ≡ sets b (i + 16) (e.rank ∷ givenF ∷ givenDf ∷ inside ∷ 0 ∷ 0 ∷ 0 ∷ 0 ∷ []) → r ≡ sets l i (entry_bytes e)
 entry-stored l a b r i e f df givenF givenDf inside e1 e2 e3 e4 e5 e6 e7 e8 = rw (← sets-entry l i e, ← e1, ← e2, ← e3, ← e4, ← e5, ← e6, ← e7) e8
 
@@ -73,31 +72,31 @@ store a es i d h =
     rw (k, more) (sets-append a 0 (answer_bytes (take i es)) (entry_bytes e))
 
 -- the number is one that an f64 holds
-abbrev pub Held : Number → Type 0
-Held (Is x) = T (fits binary64 x)
+abbrev pub Held : Option Float → Type 0
+Held (Some x) = T (fits binary64 x)
 Held None = Unit {0}
 
 pub number-held : (x : Float) → T (fits binary64 x) → Held (number_of x)
 unfolding number_of
 number-held x h = go (is_nan x)
   where
-    go : (b : Bool) → Held (cond b None (Is x))
+    go : (b : Bool) → Held (cond b None (Some x))
     go true = tt
     go false = h
 
-bits-lt : (n : Number) → Held n → bits_of n < 2 ^ 64
+bits-lt : (n : Option Float) → Held n → bits_of n < 2 ^ 64
 unfolding bits_of
-bits-lt (Is x) h = to_bits-lt binary64 x h
+bits-lt (Some x) h = to_bits-lt binary64 x h
 bits-lt None h = omega arith
 
 -- a number from its flag and its bits
-number-back : (n : Number) → Held n → cond (eqb (flag (is_given n)) 1) (Is (of_bits binary64 (bits_of n))) None ≡ n
+number-back : (n : Option Float) → Held n → cond (eqb (flag (is_some n)) 1) (Some (of_bits binary64 (bits_of n))) None ≡ n
 unfolding bits_of
-number-back (Is x) h = ap Is (of_bits-to_bits binary64 x h)
+number-back (Some x) h = ap Some (of_bits-to_bits binary64 x h)
 number-back None h = refl
 
-number-from : (n : Number) (s : List ℕ) (at told : ℕ) → Held n → byte s told ≡ flag (is_given n) → long s at ≡ bits_of n → number_from s at told ≡ n
-number-from n s at told h p q = ap (λ (k : ℕ). cond (eqb k 1) (Is (of_bits binary64 (long s at))) None) p ∙ ap (λ (k : ℕ). cond (eqb (flag (is_given n)) 1) (Is (of_bits binary64 k)) None) q ∙ number-back n h
+number-from : (n : Option Float) (s : List ℕ) (at told : ℕ) → Held n → byte s told ≡ flag (is_some n) → long s at ≡ bits_of n → number_from s at told ≡ n
+number-from n s at told h p q = ap (λ (k : ℕ). cond (eqb k 1) (Some (of_bits binary64 (long s at))) None) p ∙ ap (λ (k : ℕ). cond (eqb (flag (is_some n)) 1) (Some (of_bits binary64 k)) None) q ∙ number-back n h
 
 flag-back : (b : Bool) → eqb (flag b) 1 ≡ b
 flag-back true = refl
@@ -147,6 +146,6 @@ pub determined : (es ds : List Entry) (i : ℕ) (d : Entry) → i < length es �
 determined es ds i d h k hf hdf kf kdf same = sym (read_back es i d h hf hdf) ∙ ap (λ (s : List ℕ). entry_from s i) same ∙ read_back ds i d k kf kdf
 
 -- bench example (h): F 9, df 1, rank 1, inside
-pub bench-entry : entry_bytes (record { f = Is (of_bits binary64 0x4022000000000000); df = Is (of_bits binary64 0x3ff0000000000000); rank = 1; inside = true }) ≡ 0 ∷ 0 ∷ 0 ∷ 0 ∷ 0 ∷ 0 ∷ 0x22 ∷ 0x40 ∷ 0 ∷ 0 ∷ 0 ∷ 0 ∷ 0 ∷ 0 ∷ 0xf0 ∷ 0x3f ∷ 1 ∷ 1 ∷ 1 ∷ 1 ∷ 0 ∷ 0 ∷ 0 ∷ 0 ∷ []
+pub bench-entry : entry_bytes (record { f = Some (of_bits binary64 0x4022000000000000); df = Some (of_bits binary64 0x3ff0000000000000); rank = 1; inside = true }) ≡ 0 ∷ 0 ∷ 0 ∷ 0 ∷ 0 ∷ 0 ∷ 0x22 ∷ 0x40 ∷ 0 ∷ 0 ∷ 0 ∷ 0 ∷ 0 ∷ 0 ∷ 0xf0 ∷ 0x3f ∷ 1 ∷ 1 ∷ 1 ∷ 1 ∷ 0 ∷ 0 ∷ 0 ∷ 0 ∷ []
 unfolding entry_bytes bytes_of bits_of to_bits of_bits
 bench-entry = refl

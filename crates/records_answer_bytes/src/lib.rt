@@ -1,34 +1,30 @@
 // The answer bytes: an entry is 24 bytes, and an answer seven entries.
 #![tactic(auto)]
 
-ghost use Rattle.std.specs.Prelude.{◌≡◌, ◌+◌, ◌≤◌, length};
+ghost use Rattle.std.specs.Prelude.{◌≡◌, ◌+◌, ◌≤◌, length, is_some};
 ghost use Rattle.std.proofs.lemmas.List.Edits.{sets};
-ghost use Rattle.tests.specs.Answer.{is_given};
 ghost use Rattle.records.specs.format.Layout.{bits_of, flag, entry_bytes, answer_bytes, answer_length, entry_length};
 
 use arithmetic::plain::to_bits;
 use records::ENTRY_LENGTH;
 use records_little_endian::{put_long, put8};
-use tests::{Entry, Number};
+use tests::Entry;
 
 // The bits of a number, 0 for none.
-fn bits_of(n: Number) -> u64
+fn bits_of(n: Option<f64>) -> u64
     ensures { result ≡ bits_of n }
 {
     match n {
-        Number::Is(x) => to_bits(x),
-        Number::None => 0,
+        Some(x) => to_bits(x),
+        None => 0,
     }
 }
 
 // Whether a number is given, as a byte: the bits alone do not tell +0 from none.
-fn given_of(n: Number) -> u8
-    ensures { result ≡ flag (is_given n) }
+fn given_of(n: Option<f64>) -> u8
+    ensures { result ≡ flag (is_some n) }
 {
-    match n {
-        Number::Is(_) => 1,
-        Number::None => 0,
-    }
+    u8::from(n.is_some())
 }
 
 // An entry's 24 bytes, put from a place on.

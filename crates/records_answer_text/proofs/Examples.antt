@@ -4,14 +4,14 @@ use mathlib.Core.Path.{◌≡◌, refl}
 use mathlib.Core.Bool.{true, false}
 use mathlib.Core.List.{[], ◌∷◌}
 use lib.Ieee.{of_bits, to_bits, binary64}
-use Rattle.tests.specs.declared.Number.TheVariants.{Is, None}
+use Rattle.std.specs.Prelude.{Some, None}
 use Rattle.tests.specs.declared.Entry.{Entry}
 use Rattle.tests.specs.Answer.{no_entry}
 use Rattle.records.specs.text.Text.{codes, digit, hexadecimal, decimal, number_text, mark_text, fields_text, coefficient_line, test_line, coefficient_lines, refusal_text, lines_text, text_of}
 
 -- F 9 and df 1 of rank 1
 abbrev nine : Entry
-nine = record { f = Is (of_bits binary64 0x4022000000000000); df = Is (of_bits binary64 0x3ff0000000000000); rank = 1; inside = true }
+nine = record { f = Some (of_bits binary64 0x4022000000000000); df = Some (of_bits binary64 0x3ff0000000000000); rank = 1; inside = true }
 
 -- neither F nor df, of rank 2, outside
 abbrev neither : Entry

@@ -4,12 +4,9 @@ use native.Mathlib.Omega.{arith}
 use native.Mathlib.Numerals.{add-one}
 use native.Mathlib.Nat.{mod-eq_of_lt, not-suc-le-zero, le_of_suc-le-suc}
 use mathlib.Core.Path.{◌≡◌, refl, sym, ap, ◌∙◌}
-use mathlib.Core.Bool.{false}
 use mathlib.Core.List.{List, [], ◌∷◌, ◌++◌}
-use lib.Ieee.{nan}
 use lib.ListN.{length, get_or}
 use borrow.Author.Tests.{lt-ltb, le-ltb, eq-eqb, ne_eqb}
-use Rattle.tests.specs.declared.Number.TheVariants.{Is}
 use Rattle.tests.specs.declared.Entry.{Entry}
 use Rattle.tests.specs.Answer.{no_entry}
 use Rattle.records.specs.text.Text.{codes, digit, hexadecimal, decimal, fields_text, coefficient_line, coefficient_lines, test_line, refusal_text, lines_text, text_of}
@@ -45,22 +42,17 @@ decimal-more n w h l p s =
     let more : decimal (n - 1) (w / 10) ++ (digit (w % 10) ∷ []) ≡ decimal (suc (n - 1)) w = sym (rw (le-ltb w 10 l)) in
     named (then p s) (more ∙ ap (λ (k : ℕ). decimal k w) (less_one n h)) (omega arith)
 
--- what an array of entries would read past its end; what that is does not matter below the end
-abbrev pub past : Entry
-past = record { f = Is nan; df = Is nan; rank = 0; inside = false }
-
 pub get_d_any : {A : Type 0} (l : List A) (i : ℕ) (d e : A) → i < length l → get_or l i d ≡ get_or l i e
 get_d_any [] i d e h = absurd (not-suc-le-zero h)
 get_d_any (x ∷ l) zero d e h = refl
 get_d_any (x ∷ l) (suc i) d e h = get_d_any l i d e (le_of_suc-le-suc h)
 
 -- the line of one coefficient more
-pub coefficients-more : {a b c : List ℕ} {at r q : ℕ} (i : ℕ) (es : List Entry) → i < length es → Put (63 * i) a at (coefficient_lines i es) b r → Put 63 b r (coefficient_line i (get_or es i past)) c q → Put (63 * (i + 1)) a at (coefficient_lines (i + 1) es) c q
+pub coefficients-more : {a b c : List ℕ} {at r q : ℕ} (i : ℕ) (es : List Entry) → Put (63 * i) a at (coefficient_lines i es) b r → Put 63 b r (coefficient_line i (get_or es i no_entry)) c q → Put (63 * (i + 1)) a at (coefficient_lines (i + 1) es) c q
 unfolding coefficient_lines
-coefficients-more i es h p s =
-    let next : coefficient_line i (get_or es i past) ≡ coefficient_line i (get_or es i no_entry) = ap (coefficient_line i) (get_d_any es i past no_entry h) in
+coefficients-more i es p s =
     let more : coefficient_lines i es ++ coefficient_line i (get_or es i no_entry) ≡ coefficient_lines (i + 1) es = sym (ap (λ (k : ℕ). coefficient_lines k es) (add-one i)) in
-    named (then p s) (ap (λ (t : List ℕ). coefficient_lines i es ++ t) next ∙ more) (omega arith)
+    named (then p s) more (omega arith)
 
 -- a line that is not there, and one that is
 pub coefficient-unused : (a : List ℕ) (at i : ℕ) (e : Entry) → e.rank ≡ 0 → Put 63 a at (coefficient_line i e) a at

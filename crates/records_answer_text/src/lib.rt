@@ -7,7 +7,7 @@ ghost use Rattle.records.specs.text.Text.{digit, hexadecimal, decimal, number_te
 ghost use Rattle.records_answer_text.specs.joints.Cursor.{Put, lines_room};
 
 use arithmetic::plain::to_bits;
-use tests::{Entry, Number};
+use tests::Entry;
 
 // What `pulltest` lends for the text of a series.
 pub const TEXT_ROOM: usize = 512;
@@ -71,13 +71,13 @@ pub fn put_decimal(out: &mut [u8], at: usize, n: usize, w: u64) -> usize
 }
 
 // A number's 16 digits, or none.
-pub fn put_number(out: &mut [u8], at: usize, number: Number) -> usize
+pub fn put_number(out: &mut [u8], at: usize, number: Option<f64>) -> usize
     requires { at + 16 ≤ length out.old }
     ensures { Put 16 out.old at (number_text number) out.new result }
 {
     match number {
-        Number::Is(x) => put_hexadecimal(out, at, 16, to_bits(x)),
-        Number::None => put_text(out, at, b"none"),
+        Some(x) => put_hexadecimal(out, at, 16, to_bits(x)),
+        None => put_text(out, at, b"none"),
     }
 }
 

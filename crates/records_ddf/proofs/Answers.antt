@@ -19,8 +19,7 @@ use Rattle.algebra.specs.Kind.{floats, marks}
 use Rattle.algebra.specs.Jacobi.{two}
 use Rattle.algebra.specs.Small.{Rows}
 use Rattle.algebra.proofs.TableLaws.{row_at}
-use Rattle.tests.specs.declared.Number.{Number}
-use Rattle.tests.specs.declared.Number.TheVariants.{Is, None}
+use Rattle.std.specs.Prelude.{Option, Some, None}
 use Rattle.tests.specs.declared.Entry.{Entry}
 use Rattle.tests.specs.Answer.{number_of, float_of, no_entry}
 use Rattle.tests.specs.VarianceDf.{entry_at, relative_gradient, gradient_values, relative_variance, df_of_relative, variance_df}
@@ -37,15 +36,15 @@ use Rattle.records_ddf.proofs.Judged.{judged-early, contrast-rows-within}
 use Rattle.tests.specs.Both.{is_positive, square_one}
 
 -- ---- every F and df is an f64: a product, a quotient, 2, or the cap
-float_fits : (n : Number) → Held n → T (fits binary64 (float_of n))
-float_fits (Is x) h = h
+float_fits : (n : Option Float) → Held n → T (fits binary64 (float_of n))
+float_fits (Some x) h = h
 float_fits None h = nan-fits binary64
 
 relative-held : (r : Float) → Held (df_of_relative r)
 unfolding df_of_relative
 relative-held r = go (is_positive r)
   where
-    go : (b : Bool) → Held (cond b (Is (div binary64 two r)) None)
+    go : (b : Bool) → Held (cond b (Some (div binary64 two r)) None)
     go true = div-fits binary64 two r
     go false = tt
 
@@ -57,10 +56,10 @@ variance-held n a v g = go (is_positive v.value)
     go true = relative-held (relative_variance floats n (gradient_values marks n (relative_gradient marks n v g)) a)
     go false = tt
 
-capped-held : (c : Cutoffs) → T (fits binary64 c.cap) → (n : Number) → Held n → Held (capped c n)
+capped-held : (c : Cutoffs) → T (fits binary64 c.cap) → (n : Option Float) → Held n → Held (capped c n)
 unfolding capped
 capped-held c h None k = tt
-capped-held c h (Is x) k = cond-fits binary64 (lt c.cap x) c.cap x h k
+capped-held c h (Some x) k = cond-fits binary64 (lt c.cap x) c.cap x h k
 
 pooled-fits : (n : ℕ) (nu : List Float) (tol : Float) → T (fits binary64 (get_or nu 0 nan)) → T (fits binary64 (get_fstat_ddf n nu tol))
 unfolding get_fstat_ddf pooled fits
@@ -99,7 +98,7 @@ module _ (c : Cutoffs) (s : Inputs) where
     component-fits : (k : ℕ) → T (fits binary64 (float_of (component_df marks c s.n s.q s.a (variances marks c s) (directions marks c s) (jx_stack marks c s) k)))
     unfolding component_df
     component-fits k =
-        let n : Number = variance_df marks s.n s.a (entry_at marks (variances marks c s) k) (gradient_at marks s.n s.q (directions marks c s) (jx_stack marks c s) k) in
+        let n : Option Float = variance_df marks s.n s.a (entry_at marks (variances marks c s) k) (gradient_at marks s.n s.q (directions marks c s) (jx_stack marks c s) k) in
         float_fits (capped c n) (capped-held c cap n (variance-held _ _ _ _))
 
     first_fits : T (fits binary64 (get_or (component_dfs marks c s.n s.q s.a (variances marks c s) (directions marks c s) (jx_stack marks c s)) 0 nan))

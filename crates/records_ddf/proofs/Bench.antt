@@ -17,7 +17,7 @@ use Rattle.algebra.specs.Product.{sum, cell, product, transpose, sum_cells, iden
 use Rattle.algebra.specs.Jacobi.{ratio, tangent, cosine, sine, turned_first, turned_second, turn_row, turn_columns, rotated_cell, rotated, squared, bound, rotate_tested, rotate, row_to, sweep_to, sweeps_to, mirrored, jacobi}
 use Rattle.algebra.specs.Small.{sandwich, given_cells, all_marks}
 use Rattle.arithmetic_cutoffs.specs.Cutoffs.{decimal, document_cutoffs}
-use Rattle.tests.specs.declared.Number.TheVariants.{Is}
+use Rattle.std.specs.Prelude.{Some}
 use Rattle.tests.specs.declared.Entry.{Entry}
 use Rattle.tests.specs.Answer.{number_of, no_entry}
 use Rattle.tests.specs.Order.{comes_before, place_in, index_at}
@@ -104,7 +104,7 @@ sent x y = record {
 }
 
 abbrev pub answered : Entry
-answered = record { f = Is (fin false 5 (negsuc 0)); df = Is four; rank = 2; inside = true }
+answered = record { f = Some (fin false 5 (negsuc 0)); df = Some four; rank = 2; inside = true }
 
 -- the file is read
 pub file-sends : (inputs file_i ≡ sent four one) × (inputs file_eleven ≡ sent one plus_zero)

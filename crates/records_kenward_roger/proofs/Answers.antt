@@ -18,8 +18,7 @@ use Rattle.algebra.specs.Kind.{marks}
 use Rattle.algebra.specs.Jacobi.{two}
 use Rattle.algebra.specs.Small.{Rows}
 use Rattle.algebra.proofs.FoldLaws.{fold-keeps}
-use Rattle.tests.specs.declared.Number.{Number}
-use Rattle.tests.specs.declared.Number.TheVariants.{Is, None}
+use Rattle.std.specs.Prelude.{Option, Some, None}
 use Rattle.tests.specs.declared.Entry.{Entry}
 use Rattle.tests.specs.Answer.{no_entry}
 use Rattle.tests.specs.Basis.{Basis, contrast_basis}
@@ -42,18 +41,18 @@ use Rattle.records_kenward_roger.proofs.Numbers.{early-number, run-entries}
 use Rattle.records_kenward_roger.proofs.Contrasts.{contrast-given}
 
 -- ---- every F and df is an f64: a sum, a product or a quotient
-f-held : (q : ℕ) (scaling wald : Number) → Held (f_of q scaling wald)
+f-held : (q : ℕ) (scaling wald : Option Float) → Held (f_of q scaling wald)
 unfolding f_of
 f-held q None wald = tt
-f-held q (Is s) None = tt
-f-held q (Is s) (Is x) = number-held _ (mul-fits binary64 _ _)
+f-held q (Some s) None = tt
+f-held q (Some s) (Some x) = number-held _ (mul-fits binary64 _ _)
 
 module _ (c : Cutoffs) (q : ℕ) (a1 a2 : Float) where
   sum-held : (x y : Float) (b : Bool) → Held (cond b (positive (add binary64 x y)) None)
   unfolding positive
   sum-held x y true = go (lt plus_zero (add binary64 x y))
     where
-      go : (b : Bool) → Held (cond b (Is (add binary64 x y)) None)
+      go : (b : Bool) → Held (cond b (Some (add binary64 x y)) None)
       go true = add-fits binary64 x y
       go false = tt
   sum-held x y false = tt
@@ -68,7 +67,7 @@ module _ (c : Cutoffs) (q : ℕ) (a1 a2 : Float) where
   unfolding df_of
   df-held = go (rank_one q a2)
     where
-      go : (b : Bool) → Held (cond b (Is (div binary64 two a2)) (general_df c q a1 a2))
+      go : (b : Bool) → Held (cond b (Some (div binary64 two a2)) (general_df c q a1 a2))
       go true = div-fits binary64 two a2
       go false = general-held
 

@@ -12,7 +12,7 @@ use borrow.Author.Tests.{eqb-true, eq-eqb, ne_eqb, not-false}
 use lib.Seq.{set-set, get_or-set_same, get_or-set_other, get_or-append-add, take-suc, take-length}
 use native.Mathlib.Numerals.{add-one}
 use Rattle.arithmetic_cutoffs.specs.Cutoffs.{document_cutoffs}
-use Rattle.tests.specs.declared.Number.{Number}
+use Rattle.std.specs.Prelude.{Option}
 use Rattle.tests.specs.declared.Entry.{Entry}
 use Rattle.tests.specs.Answer.{no_entry}
 use Rattle.records.specs.format.Bytes.{byte}
@@ -129,13 +129,13 @@ module _ (s : List ℕ) (st : SeasonState) (k : SeasonCame s st) where
         window-now = rw (t-f, k.window, map_more (contrast_f document_cutoffs) ts t) (window_more (map (contrast_f document_cutoffs) ts) (contrast_f document_cutoffs t))
 
         worst-now : worst (with_latest (arrived_f (whole_ones a) held) st.window) ≡ worst (latest (fs_of document_cutoffs (ts ++ (t ∷ []))))
-        worst-now = ap worst window-now ∙ window-worst (map (contrast_f document_cutoffs) (ts ++ (t ∷ []))) ∙ ap (λ (fs : List Number). worst (latest fs)) (sym (fs-are document_cutoffs (ts ++ (t ∷ []))))
+        worst-now = ap worst window-now ∙ window-worst (map (contrast_f document_cutoffs) (ts ++ (t ∷ []))) ∙ ap (λ (fs : List (Option Float)). worst (latest fs)) (sym (fs-are document_cutoffs (ts ++ (t ∷ []))))
 
         text-now : arrived_text (whole_ones a) held st.window ≡ closed_text document_cutoffs ts t
         unfolding arrived_text closed_text series_lines worst_line
         text-now = rw (t-number, t-entries, worst-now)
 
-        pub closed-state : (current : List ℕ) (window : List Number) → length current ≡ 16 → window ≡ with_latest (arrived_f (whole_ones a) held) st.window → SeasonCame s' (season_of nothing_yet held current window)
+        pub closed-state : (current : List ℕ) (window : List (Option Float)) → length current ≡ 16 → window ≡ with_latest (arrived_f (whole_ones a) held) st.window → SeasonCame s' (season_of nothing_yet held current window)
         closed-state current window l w = record {
           bytes = bytes-now;
           room = k.room;
@@ -149,12 +149,12 @@ module _ (s : List ℕ) (st : SeasonState) (k : SeasonCame s st) where
             (ap (closed_texts document_cutoffs) (closed-series s b whole-now y) ∙ texts-more document_cutoffs ts t ∙ ap (λ (x : List ℕ). printed document_cutoffs s ++ x) (sym text-now))
 
 -- ---- one byte, as the code takes it
-module _ (a : Arrival) (kept current : List ℕ) (window : List Number) (b : ℕ) (small : b < 256) where
+module _ (a : Arrival) (kept current : List ℕ) (window : List (Option Float)) (b : ℕ) (small : b < 256) where
   abbrev before : SeasonState
   before = season_of a kept current window
 
   -- the sixteenth of a record that closes
-  pub closing-fed : a.part ≡ 15 → closes (set current 15 b) 0 ≡ true → (window' : List Number) → window' ≡ with_latest (arrived_f (whole_ones a) kept) window
+  pub closing-fed : a.part ≡ 15 → closes (set current 15 b) 0 ≡ true → (window' : List (Option Float)) → window' ≡ with_latest (arrived_f (whole_ones a) kept) window
       → (out : List ℕ) (at : ℕ) (out' : List ℕ) (at' : ℕ) → Put closed_room out at (arrived_text (whole_ones a) kept window) out' at' → (after : Arrival) → after ≡ nothing_yet
       → Fed (b ∷ []) closed_room before out at (season_of after kept (set current 15 b) window') out' at'
   closing-fed e y window' w out at out' at' p after z = rw z (record {
@@ -249,7 +249,7 @@ pieces-text pieces =
     ap (λ (l : List ℕ). l ++ left_text (left_over (joined_pieces pieces))) (sym all)
 
 -- ---- what a series that is closed adds, from its number and its entries as they were judged
-module _ (a : Arrival) (kept : List ℕ) (window : List Number) (es : List Entry) (e : es ≡ arrived_entries document_cutoffs a kept) (n : ℕ) (q : n ≡ arrived_number document_cutoffs a kept) where
+module _ (a : Arrival) (kept : List ℕ) (window : List (Option Float)) (es : List Entry) (e : es ≡ arrived_entries document_cutoffs a kept) (n : ℕ) (q : n ≡ arrived_number document_cutoffs a kept) where
   pub f-is : (d : Entry) → length es ≡ 7 → (get_or es 6 d).f ≡ arrived_f a kept
   f-is d h = ap (λ (x : Entry). x.f) (get_d_any es 6 d no_entry (omega arith)) ∙ ap (λ (l : List Entry). (get_or l 6 no_entry).f) e
 
@@ -257,7 +257,7 @@ module _ (a : Arrival) (kept : List ℕ) (window : List Number) (es : List Entry
   unfolding arrived_text
   refused-text h = rw (← e, ← q, ne_eqb n 0 h) (sym (append-nil (text_of n es)))
 
-  pub accepted-text : n ≡ 0 → (w : Number) → w ≡ worst (with_latest (arrived_f a kept) window) → text_of n es ++ worst_text w ≡ arrived_text a kept window
+  pub accepted-text : n ≡ 0 → (w : Option Float) → w ≡ worst (with_latest (arrived_f a kept) window) → text_of n es ++ worst_text w ≡ arrived_text a kept window
   unfolding arrived_text
   accepted-text z w f = rw (f, e, q, eq-eqb (arrived_number document_cutoffs a kept) 0 (sym q ∙ z))
 

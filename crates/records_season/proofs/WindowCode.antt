@@ -14,8 +14,7 @@ use lib.ListN.{get_or-append}
 use lib.Ieee.{Float, lt}
 use Rattle.algebra.specs.Fold.{span}
 use Rattle.algebra.proofs.FoldLaws.{fold_next, length-span, span-at, span-other}
-use Rattle.tests.specs.declared.Number.{Number}
-use Rattle.tests.specs.declared.Number.TheVariants.{Is, None}
+use Rattle.std.specs.Prelude.{Option, Some, None}
 use Rattle.records.specs.text.Season.{worse, worst_after, worst, latest_count}
 use Rattle.records_season.specs.joints.SeasonCame.{given_number, window_of, with_latest}
 
@@ -25,7 +24,7 @@ window-length [] gs h = refl
 window-length (v ∷ vs) [] h = absurd (omega arith)
 window-length (v ∷ vs) (g ∷ gs) h = ap suc (window-length vs gs (omega arith))
 
-pub window-at : (vs : List Float) (gs : List Bool) (i : ℕ) (f : Number) (d : Float) (e : Bool) → length vs ≡ length gs → i < length vs → get_or (window_of vs gs) i f ≡ given_number (get_or vs i d) (get_or gs i e)
+pub window-at : (vs : List Float) (gs : List Bool) (i : ℕ) (f : Option Float) (d : Float) (e : Bool) → length vs ≡ length gs → i < length vs → get_or (window_of vs gs) i f ≡ given_number (get_or vs i d) (get_or gs i e)
 unfolding window_of
 window-at [] gs i f d e h l = absurd (not-suc-le-zero l)
 window-at (v ∷ vs) [] i f d e h l = absurd (omega arith)
@@ -40,14 +39,14 @@ window-empty (v ∷ vs) n h = go n h (window-empty vs)
   where
     go : (n : ℕ) → length (v ∷ vs) ≡ n → ((m : ℕ) → length vs ≡ m → window_of vs (replicate m false) ≡ replicate m None) → window_of (v ∷ vs) (replicate n false) ≡ replicate n None
     go zero h r = absurd (omega arith)
-    go (suc n) h r = ap (λ (l : List Number). None ∷ l) (r n (omega arith))
+    go (suc n) h r = ap (λ (l : List (Option Float)). None ∷ l) (r n (omega arith))
 
 window-end : (vs : List Float) (gs : List Bool) (x : Float) (g : Bool) → length vs ≡ length gs → window_of (vs ++ (x ∷ [])) (gs ++ (g ∷ [])) ≡ window_of vs gs ++ (given_number x g ∷ [])
 unfolding window_of
 window-end [] [] x g h = refl
 window-end [] (k ∷ gs) x g h = absurd (omega arith)
 window-end (v ∷ vs) [] x g h = absurd (omega arith)
-window-end (v ∷ vs) (k ∷ gs) x g h = ap (λ (l : List Number). given_number v k ∷ l) (window-end vs gs x g (omega arith))
+window-end (v ∷ vs) (k ∷ gs) x g h = ap (λ (l : List (Option Float)). given_number v k ∷ l) (window-end vs gs x g (omega arith))
 
 -- ONE MORE
 pub window-next : (vs : List Float) (gs : List Bool) (x : Float) (g : Bool) → length vs ≡ length gs → window_of (with_latest x vs) (with_latest g gs) ≡ with_latest (given_number x g) (window_of vs gs)
@@ -57,9 +56,9 @@ window-next [] (k ∷ gs) x g h = absurd (omega arith)
 window-next (v ∷ vs) [] x g h = absurd (omega arith)
 window-next (v ∷ vs) (k ∷ gs) x g h = window-end vs gs x g (omega arith)
 
-pub window-kept : (vs : List Float) (gs : List Bool) (x : Float) (g : Bool) (vs' : List Float) (gs' : List Bool) (f : Number) → length vs ≡ length gs → vs' ≡ with_latest x vs → gs' ≡ with_latest g gs → f ≡ given_number x g
+pub window-kept : (vs : List Float) (gs : List Bool) (x : Float) (g : Bool) (vs' : List Float) (gs' : List Bool) (f : Option Float) → length vs ≡ length gs → vs' ≡ with_latest x vs → gs' ≡ with_latest g gs → f ≡ given_number x g
     → window_of vs' gs' ≡ with_latest f (window_of vs gs)
-window-kept vs gs x g vs' gs' f h a b e = ap₂ window_of a b ∙ window-next vs gs x g h ∙ ap (λ (n : Number). with_latest n (window_of vs gs)) (sym e)
+window-kept vs gs x g vs' gs' f h a b e = ap₂ window_of a b ∙ window-next vs gs x g h ∙ ap (λ (n : Option Float). with_latest n (window_of vs gs)) (sym e)
 
 -- one more of them moved by one, and its place still holds what was there
 pub moved_more : {A : Type 0} (v w : List A) (d : A) (i : ℕ) → w ≡ span 0 i (λ k. get_or v (k + 1) d) v → set w i (get_or w (i + 1) d) ≡ span 0 (i + 1) (λ k. get_or v (k + 1) d) v
@@ -88,16 +87,16 @@ moved_all v x d h =
         ∙ sym (ap (λ (j : ℕ). get_or (with_latest x v) j d) p ∙ get_or-append-add (drop 1 v) (x ∷ []) 0 d)
 
 -- ---- the worst so far and one more, by cases
-module _ (w f : Number) where
-  pub worse-larger : (x y : Float) → w ≡ Is x → f ≡ Is y → lt x y ≡ true → Is y ≡ worse w f
+module _ (w f : Option Float) where
+  pub worse-larger : (x y : Float) → w ≡ Some x → f ≡ Some y → lt x y ≡ true → Some y ≡ worse w f
   unfolding worse
   worse-larger x y a b h = rw (a, b, h)
 
-  pub worse-other : (x y : Float) → w ≡ Is x → f ≡ Is y → lt x y ≡ false → Is x ≡ worse w f
+  pub worse-other : (x y : Float) → w ≡ Some x → f ≡ Some y → lt x y ≡ false → Some x ≡ worse w f
   unfolding worse
   worse-other x y a b h = rw (a, b, h)
 
-  pub worse-kept : (x : Float) → w ≡ Is x → f ≡ None → Is x ≡ worse w f
+  pub worse-kept : (x : Float) → w ≡ Some x → f ≡ None → Some x ≡ worse w f
   unfolding worse
   worse-kept x a b = rw (a, b)
 
@@ -106,12 +105,12 @@ module _ (w f : Number) where
   worse-first a = rw a
 
 -- of the first i + 1 of them
-worst-end : (w : Number) (fs : List Number) (f : Number) → worst_after w (fs ++ (f ∷ [])) ≡ worse (worst_after w fs) f
+worst-end : (w : Option Float) (fs : List (Option Float)) (f : Option Float) → worst_after w (fs ++ (f ∷ [])) ≡ worse (worst_after w fs) f
 unfolding worst_after
 worst-end w [] f = refl
 worst-end w (g ∷ fs) f = worst-end (worse w g) fs f
 
-pub worst-more : (vs : List Float) (gs : List Bool) (i : ℕ) (d : Float) (e : Bool) (w f next : Number) → length vs ≡ length gs → i < length vs → w ≡ worst (take i (window_of vs gs)) → f ≡ given_number (get_or vs i d) (get_or gs i e)
+pub worst-more : (vs : List Float) (gs : List Bool) (i : ℕ) (d : Float) (e : Bool) (w f next : Option Float) → length vs ≡ length gs → i < length vs → w ≡ worst (take i (window_of vs gs)) → f ≡ given_number (get_or vs i d) (get_or gs i e)
     → next ≡ worse w f → next ≡ worst (take (i + 1) (window_of vs gs))
 worst-more vs gs i d e w f next h l a b n =
     let k = window-length vs gs h in

@@ -13,7 +13,6 @@ ghost use Rattle.records_season.specs.joints.SeasonCame.{season_as, given_number
 use records_answer_text::{put_number, put_refusal, put_run, put_text};
 use records_arrived::judge_arrived;
 use records_pieces::{Arrival, nothing_yet};
-use tests::Number;
 
 // The latest series whose F's are kept, and all of them but the last; and what a piece of 4,096 bytes can add to the text, which closes 256 series at most.
 pub const LATEST_COUNT: usize = 20;
@@ -44,39 +43,36 @@ fn closes(bytes: &[u8]) -> bool
 }
 
 // The worst so far, and one more F after it: only a strictly larger one takes its place.
-fn worse(w: Number, f: Number) -> Number
+fn worse(w: Option<f64>, f: Option<f64>) -> Option<f64>
     ensures { result ≡ worse w f }
 {
     match w {
-        Number::Is(x) => match f {
-            Number::Is(y) => {
+        Some(x) => match f {
+            Some(y) => {
                 if x < y {
-                    return Number::Is(y);
+                    return Some(y);
                 }
-                Number::Is(x)
+                Some(x)
             }
-            Number::None => Number::Is(x),
+            None => Some(x),
         },
-        Number::None => f,
+        None => f,
     }
 }
 
 // A number where it is given.
-fn given_number(x: f64, given: bool) -> Number
+fn given_number(x: f64, given: bool) -> Option<f64>
     ensures { result ≡ given_number x given }
 {
-    if given {
-        return Number::Is(x);
-    }
-    Number::None
+    if given { Some(x) } else { None }
 }
 
 // The worst of twenty, the oldest first.
-fn worst_of(values: &[f64], given: &[bool]) -> Number
+fn worst_of(values: &[f64], given: &[bool]) -> Option<f64>
     requires { (length values.now ≡ latest_count) × (length given.now ≡ latest_count) }
     ensures { result ≡ worst (window_of values.now given.now) }
 {
-    let mut w = Number::None;
+    let mut w = None;
     for i in 0..LATEST_COUNT {
         let f = given_number(values[i], given[i]);
         let next = worse(w, f);
@@ -100,18 +96,18 @@ fn shift(values: &mut [f64], given: &mut [bool], x: f64, is_given: bool)
 }
 
 // One more F.
-fn keep_latest(values: &mut [f64], given: &mut [bool], f: Number)
+fn keep_latest(values: &mut [f64], given: &mut [bool], f: Option<f64>)
     requires { (length values.old ≡ latest_count) × (length given.old ≡ latest_count) }
     ensures { window_of values.new given.new ≡ with_latest f (window_of values.old given.old) }
 {
     match f {
-        Number::Is(x) => shift(values, given, x, true),
-        Number::None => shift(values, given, 0.0, false),
+        Some(x) => shift(values, given, x, true),
+        None => shift(values, given, 0.0, false),
     }
 }
 
 // The `worst` line.
-fn put_worst(out: &mut [u8], at: usize, w: Number) -> usize
+fn put_worst(out: &mut [u8], at: usize, w: Option<f64>) -> usize
     requires { at + 23 ≤ length out.old }
     ensures { Put 23 out.old at (worst_text w) out.new result }
 {

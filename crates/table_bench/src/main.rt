@@ -7,23 +7,22 @@ use adjustment::packing::index_symmat2vec;
 use adjustment_response_units::scaled_up;
 use arithmetic_cutoffs::document_cutoffs;
 use arithmetic_steps::given;
-use tests::Number;
 use tests_ddf::pooled::get_fstat_ddf;
 use tests_ddf::satterthwaite::satterthwaite_contrast_f_test;
 use tests_ddf::variance::variance_df;
 
-fn print_number(n: Number) {
+fn print_number(n: Option<f64>) {
     io::write_all(1, b" ");
     match n {
-        Number::Is(x) => table_bits_text::print_word(arithmetic::plain::to_bits(x)),
-        Number::None => {
+        Some(x) => table_bits_text::print_word(arithmetic::plain::to_bits(x)),
+        None => {
             io::write_all(1, b"none");
         }
     }
 }
 
 // A letter, and the numbers behind it.
-fn print_line(letter: &[u8], numbers: &[Number]) {
+fn print_line(letter: &[u8], numbers: &[Option<f64>]) {
     io::write_all(1, letter);
     for n in numbers {
         print_number(*n);
@@ -45,7 +44,7 @@ fn print_places(letter: &[u8], places: &[usize]) {
 fn print_pooled(letter: &[u8], dfs: [f64; 6], n: usize)
     requires { n ≤ 6 }
 {
-    print_line(letter, &[Number::Is(get_fstat_ddf(dfs, n, 1e-8))]);
+    print_line(letter, &[Some(get_fstat_ddf(dfs, n, 1e-8))]);
 }
 
 // (f) and (g): one variance, its gradient 2, A 4.

@@ -5,7 +5,6 @@ use mathlib.Core.List.{List, [], ◌∷◌}
 use Prim.Native.Nat.{ℕ}
 use lib.IntN.{pos, negsuc}
 use lib.Ieee.{Float, fin, binary64, round, add, sub, mul, div, neg, lt, eq, le, of_int}
-use Rattle.arithmetic.specs.declared.Marked.{Marked}
 use Rattle.arithmetic.specs.Numbers.{plus_zero, one, magnitude, is_zero, is_finite, sign, of_count}
 use Rattle.arithmetic.specs.SquareRoot.{square_root, whole_root}
 use Rattle.arithmetic.specs.Marks.{given, in_range, step_mark, lost_product, lost_quotient, marked_add, marked_sub, marked_mul, marked_div, marked_root, marked_magnitude, also}
@@ -16,8 +15,7 @@ use Rattle.algebra.specs.Product.{sum, cell, product, transpose, sum_cells, iden
 use Rattle.algebra.specs.Jacobi.{ratio, tangent, cosine, sine, turned_first, turned_second, turn_row, turn_columns, rotated_cell, rotated, squared, bound, rotate_tested, rotate, row_to, sweep_to, sweeps_to, mirrored, jacobi}
 use Rattle.algebra.specs.Small.{sandwich, given_cells, all_marks}
 use Rattle.arithmetic_cutoffs.specs.Cutoffs.{decimal, document_cutoffs}
-use Rattle.tests.specs.declared.Number.TheVariants.{Is, None}
-use Rattle.tests.specs.declared.Entry.{Entry}
+use Rattle.std.specs.Prelude.{Some, None}
 use Rattle.tests.specs.Answer.{number_of}
 use Rattle.tests.specs.Order.{comes_before, place_in, index_at}
 use Rattle.tests.specs.VarianceDf.{relative_gradient, gradient_values, relative_variance, df_of_relative, variance_df, gradient_seen}
@@ -57,7 +55,7 @@ tiny = fin false 1 (negsuc 11)
 
 -- accepted, inside
 abbrev pub accepted : Float → Float → ℕ → Outcome
-accepted f df rank = record { refused = false; entry = record { f = Is f; df = Is df; rank = rank; inside = true } }
+accepted f df rank = record { refused = false; entry = record { f = Some f; df = Some df; rank = rank; inside = true } }
 
 -- ---- the statement
 pub record SatterthwaiteExamples : Type 0 where
@@ -66,7 +64,7 @@ pub record SatterthwaiteExamples : Type 0 where
   pub d : get_fstat_ddf 2 (one ∷ one ∷ []) tolerance ≡ one
   pub e : get_fstat_ddf 2 (two ∷ five ∷ []) tolerance ≡ two
   -- (f) V 2, J 2, A 4 give 0.5; (g) V 0 gives none
-  pub f : variance_df marks 1 ((four ∷ []) ∷ []) (given two) (given two ∷ []) ≡ Is half
+  pub f : variance_df marks 1 ((four ∷ []) ∷ []) (given two) (given two ∷ []) ≡ Some half
   pub g : variance_df marks 1 ((four ∷ []) ∷ []) (given plus_zero) (given two ∷ []) ≡ None
   -- (i) L identity, v = diag(4,1), one Jacobian equal to v, A 0.5, β (4,1): F 2.5, df 4
   pub i : satterthwaite marks document_cutoffs (example 2 half) ≡ accepted (fin false 5 (negsuc 0)) four 2

@@ -13,8 +13,7 @@ use Rattle.algebra.specs.Kind.{Arith}
 use Rattle.algebra.specs.Small.{Rows}
 use Rattle.algebra.proofs.FoldLaws.{fold-keeps}
 use Rattle.arithmetic_cutoffs.specs.declared.Cutoffs.{Cutoffs}
-use Rattle.tests.specs.declared.Number.{Number}
-use Rattle.tests.specs.declared.Number.TheVariants.{Is, None}
+use Rattle.std.specs.Prelude.{Option, Some, None}
 use Rattle.tests.specs.declared.Entry.{Entry}
 use Rattle.tests.specs.Answer.{number_of, no_entry}
 use Rattle.tests.specs.Basis.{Basis}
@@ -22,8 +21,8 @@ use Rattle.tests.specs.Moments.{f_of}
 use Rattle.tests.specs.KenwardRoger.{Scaled, Tested, tested, coefficient_test, contrast_test, Run, with_test, coefficients_to, run_of}
 
 -- a number that is given is no NaN
-abbrev pub NoNan : Number → Type 0
-NoNan n = (x : Float) → n ≡ Is x → is_nan x ≡ false
+abbrev pub NoNan : Option Float → Type 0
+NoNan n = (x : Float) → n ≡ Some x → is_nan x ≡ false
 
 pub none-given : NoNan None
 none-given x e = absurd (let z : ◌≡◌ {A = ℕ} 0 1 = cc in omega arith)
@@ -32,15 +31,15 @@ number_of-given : (y : Float) → NoNan (number_of y)
 unfolding number_of
 number_of-given y = go (is_nan y) refl
   where
-    go : (b : Bool) → is_nan y ≡ b → NoNan (cond b None (Is y))
+    go : (b : Bool) → is_nan y ≡ b → NoNan (cond b None (Some y))
     go true e = none-given
     go false e = λ x q. let z : y ≡ x = cc in subst (λ (v : Float). is_nan v ≡ false) z e
 
-f_of-given : (q : ℕ) (a b : Number) → NoNan (f_of q a b)
+f_of-given : (q : ℕ) (a b : Option Float) → NoNan (f_of q a b)
 unfolding f_of
 f_of-given q None b = none-given
-f_of-given q (Is s) None = none-given
-f_of-given q (Is s) (Is x) = number_of-given _
+f_of-given q (Some s) None = none-given
+f_of-given q (Some s) (Some x) = number_of-given _
 
 -- one of the replicated entries, or none
 no-entry-given : (n i : ℕ) → NoNan (get_or (replicate n no_entry) i no_entry).f

@@ -1,8 +1,7 @@
 -- Document 01, "Bench examples, one statement over the lot": those of the adjustment and of the Kenward–Roger test, computed from the definitions.
 use mathlib.Core.Path.{◌≡◌, refl}
-use mathlib.Core.Bool.{Bool, true, false, cond}
+use mathlib.Core.Bool.{true, false}
 use mathlib.Core.List.{List, [], ◌∷◌}
-use Prim.Native.Nat.{ℕ}
 use lib.IntN.{pos, negsuc}
 use lib.Ieee.{Float, fin, binary64, round, add, sub, mul, div, neg, lt, eq, le, of_int}
 use lib.ListN.{replicate}
@@ -18,18 +17,15 @@ use Rattle.algebra.specs.Elimination.{larger, pivot_row, swap_rows, factor, less
 use Rattle.algebra.specs.Reasons.{first}
 use Rattle.algebra.specs.Small.{sandwich, given_cells, values, all_marks}
 use Rattle.arithmetic_cutoffs.specs.Cutoffs.{decimal, document_cutoffs}
-use Rattle.adjustment.specs.declared.Block.{Block}
 use Rattle.adjustment.specs.Information.{h_rows, o_rows, p_rows, q_rows, packed, k_cell, ie_cell, mirror, smallest, ridged, inverted, w_rows, w_refused}
 use Rattle.adjustment.specs.Blocks.{columns_before, places_before, block_of, place_of, theta_cell, factor_of, direction}
 use Rattle.adjustment.specs.Covariance.{Design, directed_cell, group_cell, block_cell, residual_cell, g_cell, factor as factorOfMatrix, g_rows, sigma_cell, sigma_rows, cholesky, inverse_factor, inverse_factor_refused, precision}
-use Rattle.adjustment.specs.Adjusted.{Adjustment, stack, q_stack, u_term, u_term_at, u_above, u_rows, phi_a_rows, h_stack, o_stack, p_stack, q_stack_of, ie_rows, eigen, from_precision, information_refused, precision_of, adjustment, scaled_up, scaled_down, not_all_finite, not_all_finite_marked, output_not_finite, adjustment_reasons, adjustment_refusal}
+use Rattle.adjustment.specs.Adjusted.{stack, q_stack, u_term, u_term_at, u_above, u_rows, phi_a_rows, h_stack, o_stack, p_stack, q_stack_of, ie_rows, eigen, from_precision, information_refused, precision_of, adjustment, scaled_up, scaled_down, not_all_finite, not_all_finite_marked, output_not_finite, adjustment_reasons, adjustment_refusal}
 use Rattle.algebra.specs.Cholesky.{put, less_dot, below_diagonal, cholesky_column, cholesky_to, not_positive, cholesky_refused, lower}
 use Rattle.algebra.specs.Jacobi.{ratio, tangent, cosine, sine, turned_first, turned_second, turn_row, turn_columns, rotated_cell, rotated, squared, bound, rotate_tested, rotate, row_to, sweep_to, sweeps_to, mirrored, jacobi}
-use Rattle.tests.specs.declared.Number.{Number}
-use Rattle.tests.specs.declared.Number.TheVariants.{Is, None}
-use Rattle.tests.specs.declared.Entry.{Entry}
+use Rattle.std.specs.Prelude.{Some}
 use Rattle.tests.specs.Answer.{number_of}
-use Rattle.tests.specs.Basis.{Basis, largest, divided_cell, divided, contrast_basis}
+use Rattle.tests.specs.Basis.{largest, divided_cell, divided, contrast_basis}
 use Rattle.tests.specs.Moments.{weight, a1_of, a2_of, b_of, g_of, d_of, c1_of, c2_of, c3_of, leading_of, v0_of, v1_of, v2_of, div_of, less_a2, rho_of, positive, general_df, rank_one, df_of, scaling_at, scaling_of, f_of}
 use Rattle.tests.specs.KenwardRoger.{unit_row, coefficient_test, contrast_test, scaled_ps, scaled_by, Scaled, scaling_seen, difference, theta_of, u_of, u_stack, u_values, wald_many, Tested, a_rows, x_rows, theta_phi, us, ld_rows, v_rows, y_rows, wald_marked, wald_number, test_seen, a1, a2, tested}
 use Rattle.tests.specs.Both.{square_one, is_positive, stack_seen}
@@ -45,7 +41,7 @@ scaled_h = record { p = 1; matrices = 1; phi = single one; phi_a = single (fin f
 
 -- rank 1, F 9 and df 1, inside
 abbrev pub nine_and_one : Tested
-nine_and_one = record { refused = false; entry = record { f = Is (fin false 9 (pos 0)); df = Is one; rank = 1; inside = true } }
+nine_and_one = record { refused = false; entry = record { f = Some (fin false 9 (pos 0)); df = Some one; rank = 1; inside = true } }
 
 -- 1, 1 as a column; Φ 0.5; β 6
 abbrev pub ones : List (List Float)

@@ -1,8 +1,7 @@
 -- Eigenvalues that a second run has all scaled by one power of two stand in the same order.
-use Prim.Native.Nat.{ℕ, ◌+◌, ◌≤◌, ◌<◌}
-use native.Mathlib.Omega.{arith}
-use mathlib.Core.Path.{◌≡◌, refl, ap}
-use mathlib.Core.Bool.{Bool, cond, ◌||◌}
+use Prim.Native.Nat.{ℕ, ◌+◌, ◌<◌}
+use mathlib.Core.Path.{◌≡◌}
+use mathlib.Core.Bool.{cond}
 use mathlib.Core.List.{List}
 use lib.Dec.{eqb}
 use lib.IntN.{ℤ}
@@ -10,7 +9,6 @@ use lib.ListN.{get_or}
 use lib.Ieee.{Float, nan, eq}
 use Rattle.arithmetic.proofs.Tied.{Tied}
 use Rattle.arithmetic.proofs.ScaleLaws.{eq-scale}
-use Rattle.algebra.specs.Fold.{fold}
 use Rattle.algebra.proofs.FoldLaws.{fold-ext, fold-keeps}
 use Rattle.algebra.proofs.MovingCells.{less-agrees, cond_both}
 use Rattle.tests.specs.Order.{comes_before, place_in, index_at}

@@ -21,7 +21,7 @@ use Rattle.algebra.specs.Product.{at, sum_cells}
 use Rattle.algebra.proofs.FoldLaws.{fold-ext}
 use Rattle.algebra.proofs.TableLaws.{row_at}
 use Rattle.algebra.proofs.MovingCells.{first-bears, step-bears, moves-by, still-value, cond_both}
-use Rattle.tests.specs.declared.Number.TheVariants.{None}
+use Rattle.std.specs.Prelude.{None}
 use Rattle.tests.specs.VarianceDf.{entry_at, relative_gradient, gradient_values, relative_variance, df_of_relative, variance_df, gradient_seen}
 use Rattle.tests.proofs.VarianceLaws.{gradient_values-agree}
 use Rattle.tests.specs.Both.{is_positive}

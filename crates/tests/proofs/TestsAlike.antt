@@ -12,7 +12,6 @@ use Rattle.algebra.specs.Fold.{span}
 use Rattle.algebra.specs.Table.{blank}
 use Rattle.algebra.specs.Kind.{Arith, zero_of, floats}
 use Rattle.algebra.specs.Product.{at}
-use Rattle.algebra.specs.Elimination.{refused}
 use Rattle.algebra.specs.Small.{Rows, given_cells, values}
 use Rattle.algebra.proofs.FoldLaws.{fold-both, fold-ext}
 use Rattle.algebra.proofs.ValueLaws.{cond_both, Each, each_set, each_none, each-replicate, each-span, blank-both, table-both, Alike, Like, sum_alike, product-alike, transpose-alike, refused-alike, solution-alike, sandwich-alike, given_cells-alike, values-alike, all_marks-alike}

@@ -1,7 +1,7 @@
 -- Document 01, `contrast_basis`: "M: each nonzero row divided by its largest magnitude. One row: done. Otherwise 30 sweeps over row pairs (x,y): g = x·y; if g ≠ 0,
 -- z = (y·y − x·x)/(2g), t, c, s as above, x' = cx − sy, y' = sx + cy. Singular values are row norms, falling, ties by index, only the first min(rows, columns) of them; rank
 -- counts those > 2^-52 × max(rows, columns) × largest; the basis is those rows divided by their norms."
-use Rattle.std.specs.Prelude.{ℕ, ◌+◌, min, max, Bool, true, false, cond, List, [], eqb, get_or, set, negsuc, Float}
+use Rattle.std.specs.Prelude.{ℕ, ◌+◌, min, max, false, cond, List, [], eqb, get_or, set, negsuc, Float}
 use Rattle.std.specs.Float.{nan, fin, binary64}
 use Rattle.std.specs.Float.Ieee.{mul, div, lt}
 use Rattle.arithmetic.specs.Numbers.{plus_zero, magnitude, is_zero, of_count}

@@ -1,7 +1,7 @@
 -- Document 01, `kr_modcomp_test`: "L is now the basis. M: D = β − β_H; A = LΦLᵀ; Θ = Lᵀ(A⁻¹L), A⁻¹L by elimination; u_i = ((ΘΦ)P_i)Φ. .. F = scaling × (Wald/q). Wald, M:
 -- q = 1: v = LΦ_ALᵀ must be finite and positive, else none; (LD/sqrt v)². Otherwise LD · ((LΦ_ALᵀ)⁻¹LD), by elimination." And the run of "kenward_roger.rs".
 -- All of it over a kind of number N: on marked numbers it is the test that the contracts cite, on plain ones the same test with no marks. What follows "Unmarked" is on values.
-use Rattle.std.specs.Prelude.{ℕ, Bool, false, not, cond, ◌&&◌, ◌||◌, List, [], eqb, get_or, replicate, set, Float}
+use Rattle.std.specs.Prelude.{ℕ, Bool, false, not, cond, ◌&&◌, ◌||◌, List, [], eqb, get_or, replicate, set, Option, None, Float}
 use Rattle.std.specs.Float.{nan}
 use Rattle.arithmetic.specs.Numbers.{plus_zero, one}
 use Rattle.algebra.specs.Fold.{fold, span}
@@ -12,8 +12,6 @@ use Rattle.algebra.specs.Elimination.{solution, refused}
 use Rattle.algebra.specs.Small.{Rows, sandwich, given_cells, values, all_marks}
 use Rattle.arithmetic_cutoffs.specs.declared.Cutoffs.{Cutoffs}
 use Rattle.adjustment.specs.Adjusted.{Adjustment, scaled_up, scaled_down}
-use Rattle.tests.specs.declared.Number.{Number}
-use Rattle.tests.specs.declared.Number.TheVariants.{None}
 use Rattle.tests.specs.declared.Entry.{Entry}
 use Rattle.tests.specs.Answer.{number_of, no_entry}
 use Rattle.tests.specs.Both.{is_positive, square_one, stack_seen}
@@ -110,7 +108,7 @@ module _ {A : Type 0} (N : Arith A) (c : Cutoffs) (s : Scaled A) (beta beta_h : 
   wald_marked =
       cond (eqb q 1) (cond (is_positive (N.value (at N v_rows 0 0))) (square_one N (at N ld_rows 0 0) (at N v_rows 0 0)) (zero_of N)) (wald_many N q ld_rows y_rows)
 
-  unfoldable pub wald_number : Number
+  unfoldable pub wald_number : Option Float
   wald_number = cond (eqb q 1 && not (is_positive (N.value (at N v_rows 0 0)))) None (number_of (N.value wald_marked))
 
   -- THE MARK OF AN ENTRY: the conjunction over every marked step of the test and of the scaling. A cell of a product carries the marks of all that it was made from, so the

@@ -1,5 +1,5 @@
 -- Document 01, `kr_modcomp_test`, what follows "Unmarked": a1 and a2, and from these the degrees of freedom, the scaling of F, and F. The formulas stand beside their definitions.
-use Rattle.std.specs.Prelude.{ℕ, ◌+◌, Bool, true, false, cond, ◌&&◌, List, [], eqb, get_or, pos, Float}
+use Rattle.std.specs.Prelude.{ℕ, ◌+◌, Bool, false, cond, ◌&&◌, List, [], eqb, get_or, pos, Option, Some, None, Float}
 use Rattle.std.specs.Float.{fin, binary64}
 use Rattle.std.specs.Float.Ieee.{add, sub, mul, div, lt}
 use Rattle.arithmetic.specs.Numbers.{plus_zero, one, magnitude, of_count}
@@ -8,8 +8,6 @@ use Rattle.algebra.specs.Kind.{floats}
 use Rattle.algebra.specs.Product.{at, trace, like_cells, transpose}
 use Rattle.algebra.specs.Jacobi.{two}
 use Rattle.arithmetic_cutoffs.specs.declared.Cutoffs.{Cutoffs}
-use Rattle.tests.specs.declared.Number.{Number}
-use Rattle.tests.specs.declared.Number.TheVariants.{Is, None}
 use Rattle.tests.specs.Answer.{number_of}
 use Rattle.tests.specs.Both.{is_positive}
 use Rattle.algebra.specs.Small.{Rows}
@@ -65,17 +63,17 @@ unfoldable pub less_a2 : ℕ → Float → Float
 less_a2 q a2 = minus one (over a2 (of_count q))
 
 -- "df ≤ 0 or NaN is none"
-unfoldable pub positive : Float → Number
-positive x = cond (lt plus_zero x) (Is x) None
+unfoldable pub positive : Float → Option Float
+positive x = cond (lt plus_zero x) (Some x) None
 
 -- "q = 1 with finite a2 > 0"
 unfoldable pub rank_one : ℕ → Float → Bool
 rank_one q a2 = eqb q 1 && is_positive a2
 
 -- the scaling by the df of the moment equations: "|df−2| < 1e-2 gives 1; else none with df none; else df(1−a2/q)/(df−2)"
-unfoldable pub scaling_at : Cutoffs → ℕ → Float → Number → Number
+unfoldable pub scaling_at : Cutoffs → ℕ → Float → Option Float → Option Float
 scaling_at c q a2 None = None
-scaling_at c q a2 (Is x) = cond (lt (magnitude (minus x two)) c.near) (Is one) (number_of (over (times x (less_a2 q a2)) (minus x two)))
+scaling_at c q a2 (Some x) = cond (lt (magnitude (minus x two)) c.near) (Some one) (number_of (over (times x (less_a2 q a2)) (minus x two)))
 
 module _ (c : Cutoffs) (q : ℕ) (a1 a2 : Float) where
   -- g = ((q+1)a1 − (q+4)a2)/((q+2)a2) if |a2| > 1e-15, else 0
@@ -111,20 +109,20 @@ module _ (c : Cutoffs) (q : ℕ) (a1 a2 : Float) where
   rho_of = let h : Float = div_of c (less_a2 q a2) v1_of in times (times (over one (of_count q)) (times h h)) (div_of c v0_of v2_of)
 
   -- df = 4 + (q+2)/(qρ−1) if |qρ−1| > 1e-12, else none
-  unfoldable pub general_df : Number
+  unfoldable pub general_df : Option Float
   general_df =
       let e : Float = minus (times (of_count q) rho_of) one in
       cond (lt c.excess (magnitude e)) (positive (plus four (over (plus (of_count q) two) e))) None
 
   -- "Scaling: q = 1 with finite a2 > 0 gives df 2/a2 and 1; else .."
-  unfoldable pub df_of : Number
-  df_of = cond (rank_one q a2) (Is (over two a2)) general_df
+  unfoldable pub df_of : Option Float
+  df_of = cond (rank_one q a2) (Some (over two a2)) general_df
 
-  unfoldable pub scaling_of : Number
-  scaling_of = cond (rank_one q a2) (Is one) (scaling_at c q a2 general_df)
+  unfoldable pub scaling_of : Option Float
+  scaling_of = cond (rank_one q a2) (Some one) (scaling_at c q a2 general_df)
 
 -- F = scaling × (Wald/q)
-unfoldable pub f_of : ℕ → Number → Number → Number
+unfoldable pub f_of : ℕ → Option Float → Option Float → Option Float
 f_of q None wald = None
-f_of q (Is s) None = None
-f_of q (Is s) (Is x) = number_of (times s (over x (of_count q)))
+f_of q (Some s) None = None
+f_of q (Some s) (Some x) = number_of (times s (over x (of_count q)))

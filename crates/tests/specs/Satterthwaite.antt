@@ -1,7 +1,7 @@
 -- Document 01, "ddf.rs": "`satterthwaite_contrast_f_test` is the reference; its caller reduces L, so no basis here. M: LβD = Lβ − Lβ_H; v is the covariance of β, A that of the
 -- parameters; V = LvLᵀ, each Jacobian gives J_i likewise. Everything up to and with g is marked, for one row or several."
 -- All of it over a kind of number N: on marked numbers it is the test that the contracts cite, on plain ones the same test with no marks.
-use Rattle.std.specs.Prelude.{ℕ, Bool, true, false, not, cond, ◌&&◌, ◌||◌, List, [], eqb, get_or, replicate, Float}
+use Rattle.std.specs.Prelude.{ℕ, Bool, false, not, cond, ◌||◌, List, [], eqb, get_or, replicate, Option, Some, None, Float}
 use Rattle.std.specs.Float.{nan}
 use Rattle.std.specs.Float.Ieee.{lt, is_nan}
 use Rattle.arithmetic.specs.Numbers.{plus_zero, of_count}
@@ -12,8 +12,6 @@ use Rattle.algebra.specs.Product.{at, sum, cell, product, transpose, minus_cells
 use Rattle.algebra.specs.Jacobi.{State, jacobi}
 use Rattle.algebra.specs.Small.{Rows, sandwich, given_cells, all_marks}
 use Rattle.arithmetic_cutoffs.specs.declared.Cutoffs.{Cutoffs}
-use Rattle.tests.specs.declared.Number.{Number}
-use Rattle.tests.specs.declared.Number.TheVariants.{Is, None}
 use Rattle.tests.specs.declared.Entry.{Entry}
 use Rattle.tests.specs.Answer.{number_of, float_of}
 use Rattle.tests.specs.Order.{index_at}
@@ -72,11 +70,11 @@ unfoldable pub gradient_at : {A : Type 0} → Arith A → ℕ → ℕ → List (
 gradient_at N n q x jx k = row (zero_of N) 6 n (λ i. cell N q (transpose N 6 6 q q x) (get_or jx i []) k k)
 
 -- "each component df by `variance_df` .., above 3000 it becomes 3000, only here"
-unfoldable pub capped : Cutoffs → Number → Number
+unfoldable pub capped : Cutoffs → Option Float → Option Float
 capped c None = None
-capped c (Is x) = Is (cond (lt c.cap x) c.cap x)
+capped c (Some x) = Some (cond (lt c.cap x) c.cap x)
 
-unfoldable pub component_df : {A : Type 0} → Arith A → Cutoffs → ℕ → ℕ → Rows → List A → List (List A) → List (List (List A)) → ℕ → Number
+unfoldable pub component_df : {A : Type 0} → Arith A → Cutoffs → ℕ → ℕ → Rows → List A → List (List A) → List (List (List A)) → ℕ → Option Float
 component_df N c n q a es x jx k = capped c (variance_df N n a (entry_at N es k) (gradient_at N n q x jx k))
 
 -- the components' degrees of freedom, with the Rust's NaN for none
@@ -87,7 +85,7 @@ component_dfs N c n q a es x jx = row plus_zero 6 q (λ k. float_of (component_d
 unfoldable pub any_none : ℕ → List Float → Bool
 any_none q nu = fold 0 q (λ k s. s || is_nan (get_or nu k nan)) false
 
-unfoldable pub several_df : ℕ → List Float → Number
+unfoldable pub several_df : ℕ → List Float → Option Float
 several_df q nu = cond (any_none q nu) None (number_of (get_fstat_ddf q nu tolerance))
 
 -- `seen`, with the marks of every component's g counted
@@ -145,10 +143,10 @@ module _ {A : Type 0} (N : Arith A) (c : Cutoffs) (s : Inputs) where
   unfoldable pub f_several : A
   f_several = squares_over N s.q (projected N s.q directions ld_rows) variances
 
-  unfoldable pub df_one : Number
+  unfoldable pub df_one : Option Float
   df_one = variance_df N s.n s.a (at N v_rows 0 0) (gradient_one N s.n j_stack)
 
-  unfoldable pub df_several : Number
+  unfoldable pub df_several : Option Float
   df_several = several_df s.q (component_dfs N c s.n s.q s.a variances directions jx_stack)
 
   -- THE MARK OF THE ENTRY: the conjunction over every marked step that is done. A cell carries the marks of all that it was made from, so the cells of LβD, V and every J_i count

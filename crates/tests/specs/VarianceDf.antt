@@ -1,6 +1,6 @@
 -- Document 01, "ddf.rs": "df by `variance_df`: none unless V finite and > 0; g = J/V (M ends); r = sum over j, k of (g_j A_jk) g_k; 2/r if r finite and > 0, else none."
 -- A variance and its gradient, a number for each of n parameters, are of a kind of number N, in the contracts marked; A is given, and r is made of plain numbers.
-use Rattle.std.specs.Prelude.{ℕ, cond, List, get_or, Float}
+use Rattle.std.specs.Prelude.{ℕ, cond, List, get_or, Option, Some, None, Float}
 use Rattle.std.specs.Float.{binary64}
 use Rattle.std.specs.Float.Ieee.{div}
 use Rattle.arithmetic.specs.Numbers.{plus_zero}
@@ -9,8 +9,6 @@ use Rattle.algebra.specs.Table.{row}
 use Rattle.algebra.specs.Kind.{Arith, zero_of, floats}
 use Rattle.algebra.specs.Product.{at, sum_cells}
 use Rattle.algebra.specs.Jacobi.{two}
-use Rattle.tests.specs.declared.Number.{Number}
-use Rattle.tests.specs.declared.Number.TheVariants.{Is, None}
 use Rattle.tests.specs.Both.{is_positive}
 
 -- number i of a list of numbers
@@ -30,11 +28,11 @@ unfoldable pub relative_variance : {A : Type 0} → Arith A → ℕ → List A �
 relative_variance N n g a = sum_cells N n n (λ j k. N.times (N.times (entry_at N g j) (N.of (at floats a j k))) (entry_at N g k))
 
 -- "2/r if r finite and > 0, else none"
-unfoldable pub df_of_relative : Float → Number
-df_of_relative r = cond (is_positive r) (Is (div binary64 two r)) None
+unfoldable pub df_of_relative : Float → Option Float
+df_of_relative r = cond (is_positive r) (Some (div binary64 two r)) None
 
 -- "none unless V finite and > 0"
-unfoldable pub variance_df : {A : Type 0} → Arith A → ℕ → List (List Float) → A → List A → Number
+unfoldable pub variance_df : {A : Type 0} → Arith A → ℕ → List (List Float) → A → List A → Option Float
 variance_df N n a variance gradient =
     cond (is_positive (N.value variance)) (df_of_relative (relative_variance floats n (gradient_values N n (relative_gradient N n variance gradient)) a)) None
 

@@ -1,14 +1,13 @@
 -- Document 01: "F, df and rank are its verdict, and a run's verdict is the verdicts of all its entries. Demand 3 compares the verdicts of whole inputs; the mark may change."
-use Rattle.std.specs.Prelude.{ℕ, ◌<◌, ◌≡◌, List, map, get_or}
+use Rattle.std.specs.Prelude.{ℕ, ◌<◌, ◌≡◌, List, map, get_or, Option, Float}
 use Rattle.arithmetic.specs.Marks.{MarkBears}
-use Rattle.tests.specs.declared.Number.{Number}
 use Rattle.tests.specs.declared.Entry.{Entry}
 use Rattle.tests.specs.Answer.{no_entry}
 use Rattle.tests.specs.KenwardRoger.{Run}
 
 pub record Verdict : Type 0 where
-  pub f : Number
-  pub df : Number
+  pub f : Option Float
+  pub df : Option Float
   pub rank : ℕ
 
 abbrev pub verdict : Entry → Verdict

@@ -8,28 +8,18 @@ use arithmetic::plain::is_nan;
 
 pub mod both;
 
-// A number, or none where the Rust has NaN: every F and df.
-#[derive(Clone, Copy)]
-pub enum Number {
-    Is(f64),
-    None,
-}
-
-// The result of one test.
+// The result of one test. F and df are none where the Rust has NaN.
 #[derive(Clone, Copy)]
 pub struct Entry {
-    pub f: Number,
-    pub df: Number,
+    pub f: Option<f64>,
+    pub df: Option<f64>,
     pub rank: u8,
     pub inside: bool,
 }
 
 // None where the Rust has a NaN.
-pub fn number_of(x: f64) -> Number
+pub fn number_of(x: f64) -> Option<f64>
     ensures { result ≡ number_of x }
 {
-    if is_nan(x) {
-        return Number::None;
-    }
-    Number::Is(x)
+    if is_nan(x) { None } else { Some(x) }
 }

@@ -15,7 +15,7 @@ use Rattle.algebra.specs.Jacobi.{jacobi}
 use Rattle.algebra_jacobi.specs.joints.States.{marked_state}
 use Rattle.algebra.specs.Small.{MarkedRows, Rows, given_cells}
 use Rattle.arithmetic_cutoffs.specs.declared.Cutoffs.{Cutoffs}
-use Rattle.tests.specs.declared.Number.{Number}
+use Rattle.std.specs.Prelude.{Option}
 use Rattle.tests.specs.declared.Entry.{Entry}
 use Rattle.tests.specs.Answer.{number_of}
 use Rattle.tests.specs.Satterthwaite.{contrast_of, transformed, transformed_all, gradient_one, eigenvalues, not_positive, variances_of, directions_of, projected, squares_over, jx_all, component_dfs, several_df, components_seen, ld_rows, v_rows, j_stack, rotated_v, variances, directions, jx_stack, f_one, f_several, df_one, df_several, start_seen, seen_one, seen_several, one_row, several_rows, satterthwaite}
@@ -23,7 +23,7 @@ use Rattle.tests_ddf.specs.joints.Parts.{inputs_of, start_seen_of, rotations_see
 
 -- several rows, from x·LβD, F, the components' degrees of freedom and their marks
 pub components-entry-is : (c : Cutoffs) (n q : ℕ) (a : Rows) (ld : MarkedRows) (es : List Marked) (x : MarkedRows) (jx : List MarkedRows) (seen : Marked)
-    (y : MarkedRows) (f : Marked) (nu : List Float) (df number : Number) (both all : Marked)
+    (y : MarkedRows) (f : Marked) (nu : List Float) (df number : Option Float) (both all : Marked)
     → y ≡ projected marks q x ld → f ≡ squares_over marks q y es → nu ≡ component_dfs marks c n q a es x jx → df ≡ several_df q nu → both ≡ also seen f
     → all ≡ components_seen marks n q es x jx both → number ≡ number_of f.value
     → ◌≡◌ {A = Entry} (record { f = number; df = df; rank = q; inside = all.inside }) (components_entry_of c n q a ld es x jx seen)

@@ -5,7 +5,7 @@ ghost use Rattle.arithmetic.specs.Marks.{given, marked_mul, marked_div};
 ghost use Rattle.algebra.specs.Table.{row};
 ghost use Rattle.algebra.specs.Kind.{marks};
 ghost use Rattle.algebra.specs.Product.{at, sum, cell};
-ghost use Rattle.tests.specs.declared.Number.TheVariants.{Is};
+ghost use Rattle.std.specs.Prelude.{Some};
 ghost use Rattle.tests.specs.Answer.{float_of};
 ghost use Rattle.tests.specs.Order.{index_at};
 ghost use Rattle.tests.specs.VarianceDf.{entry_at, gradient_seen};
@@ -19,7 +19,7 @@ use arithmetic::plain::{is_nan, of_count};
 use arithmetic_cutoffs::Cutoffs;
 use arithmetic_steps::{add, div, given, mul, zero_of};
 use tests::both::is_positive;
-use tests::{Number, number_of};
+use tests::number_of;
 use tests_falling_order::index_at;
 
 // The diagonal that Jacobi ends with.
@@ -197,33 +197,24 @@ pub fn gradient_at(
 }
 
 // The cap of a df that is a number.
-pub fn capped_at(c: Cutoffs, x: f64) -> Number
-    ensures { result ≡ capped c (Is x) }
+pub fn capped_at(c: Cutoffs, x: f64) -> f64
+    ensures { Some result ≡ capped c (Some x) }
 {
-    if c.cap < x {
-        return Number::Is(c.cap);
-    }
-    Number::Is(x)
+    if c.cap < x { c.cap } else { x }
 }
 
 // A component's df is capped; one row's is not.
-pub fn capped(c: Cutoffs, df: Number) -> Number
+pub fn capped(c: Cutoffs, df: Option<f64>) -> Option<f64>
     ensures { result ≡ capped c df }
 {
-    match df {
-        Number::Is(x) => capped_at(c, x),
-        Number::None => Number::None,
-    }
+    Some(capped_at(c, df?))
 }
 
 // The f64 that stands for a number: a NaN for none.
-pub fn float_of(x: Number) -> f64
+pub fn float_of(x: Option<f64>) -> f64
     ensures { result ≡ float_of x }
 {
-    match x {
-        Number::Is(value) => value,
-        Number::None => 0.0 / 0.0,
-    }
+    x.unwrap_or(0.0 / 0.0)
 }
 
 // The df of component k.
@@ -236,7 +227,7 @@ pub fn component_df(
     n: usize,
     q: usize,
     k: usize,
-) -> Number
+) -> Option<f64>
     requires { (n ≤ 4) × (q ≤ 6) × (k < 6) }
     ensures { result ≡ component_df marks c n q a es x jx k }
 {
@@ -278,12 +269,12 @@ pub fn any_none(nu: [f64; 6], q: usize) -> bool
 }
 
 // The df of several rows.
-pub fn several_df(nu: [f64; 6], q: usize) -> Number
+pub fn several_df(nu: [f64; 6], q: usize) -> Option<f64>
     requires { q ≤ 6 }
     ensures { result ≡ several_df q nu }
 {
     if any_none(nu, q) {
-        return Number::None;
+        return None;
     }
     number_of(get_fstat_ddf(nu, q, tolerance()))
 }

@@ -11,7 +11,6 @@ ghost use Rattle.tests.specs.VarianceDf.{entry_at, relative_gradient, gradient_v
 
 use arithmetic::Marked;
 use arithmetic_steps::{also, div, zero_of};
-use tests::Number;
 use tests::both::is_positive;
 
 // Six zeros, for rows of marked numbers.
@@ -59,17 +58,19 @@ pub fn qform_grad(g: [Marked; 6], a: [[f64; 6]; 6], n: usize) -> f64
 }
 
 // 2/r, or none.
-pub fn df_of_relative(r: f64) -> Number
+pub fn df_of_relative(r: f64) -> Option<f64>
     ensures { result ≡ df_of_relative r }
 {
-    if is_positive(r) {
-        return Number::Is(2.0 / r);
-    }
-    Number::None
+    if is_positive(r) { Some(2.0 / r) } else { None }
 }
 
 // The degrees of freedom of a variance; none for one that is not finite and positive.
-pub fn variance_df(variance: Marked, gradient: [Marked; 6], a: [[f64; 6]; 6], n: usize) -> Number
+pub fn variance_df(
+    variance: Marked,
+    gradient: [Marked; 6],
+    a: [[f64; 6]; 6],
+    n: usize,
+) -> Option<f64>
     requires { n ≤ 6 }
     ensures { result ≡ variance_df marks n a variance gradient }
 {
@@ -77,7 +78,7 @@ pub fn variance_df(variance: Marked, gradient: [Marked; 6], a: [[f64; 6]; 6], n:
         let g = relative_gradient(variance, gradient, n);
         return df_of_relative(qform_grad(g, a, n));
     }
-    Number::None
+    None
 }
 
 // `seen`, with the marks of n numbers counted.

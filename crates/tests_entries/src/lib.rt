@@ -5,15 +5,15 @@ ghost use Rattle.std.specs.Prelude.{◌≡◌};
 ghost use Rattle.tests.specs.Answer.{no_entry};
 ghost use Rattle.tests.specs.Entries.{run_refusal, run_entries};
 
-use tests::{Entry, Number};
+use tests::Entry;
 
 // An entry that is not in use.
 pub fn no_entry() -> Entry
     ensures { result ≡ no_entry }
 {
     Entry {
-        f: Number::None,
-        df: Number::None,
+        f: None,
+        df: None,
         rank: 0,
         inside: false,
     }

@@ -18,7 +18,7 @@ use Rattle.algebra.specs.Elimination as elimination
 use Rattle.algebra.specs.Small.{MarkedRows, Rows, sandwich, given_cells, values, all_marks}
 use Rattle.algebra.proofs.FoldLaws.{span-at}
 use Rattle.arithmetic_cutoffs.specs.declared.Cutoffs.{Cutoffs}
-use Rattle.tests.specs.declared.Number.{Number}
+use Rattle.std.specs.Prelude.{Option}
 use Rattle.tests.specs.declared.Entry.{Entry}
 use Rattle.tests.specs.Moments.{a1_of, a2_of, df_of, scaling_of, f_of}
 use Rattle.tests.specs.KenwardRoger.{scaling_seen, difference, theta_of, u_of, u_stack, u_values, a_rows, x_rows, theta_phi, us, ld_rows, v_rows, y_rows, wald_marked, wald_number, test_seen, a1, a2, tested}
@@ -43,7 +43,7 @@ module _ (N p : ℕ) (tp : MarkedRows) (ps : List MarkedRows) (phi : MarkedRows)
   u-seen-step all r d = rw u-at at d
 
 -- the entry, from the moments
-pub entry-is : (c : Cutoffs) (N p q : ℕ) (w : Rows) (plain : List Rows) (wald : Number) (seen : Marked) (x y : Float) (scaling f df : Number)
+pub entry-is : (c : Cutoffs) (N p q : ℕ) (w : Rows) (plain : List Rows) (wald : Option Float) (seen : Marked) (x y : Float) (scaling f df : Option Float)
     → x ≡ a1_of N p w plain → y ≡ a2_of N p w plain → scaling ≡ scaling_of c q x y → f ≡ f_of q scaling wald → df ≡ df_of c q x y
     → ◌≡◌ {A = Entry} (record { f = f; df = df; rank = q; inside = seen.inside }) (entry_of c N p q w plain wald seen)
 unfolding entry_of

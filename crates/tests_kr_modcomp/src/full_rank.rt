@@ -16,7 +16,7 @@ use arithmetic::Marked;
 use arithmetic_cutoffs::Cutoffs;
 use arithmetic_steps::{add, also, given, is_inside, mul, sub, zero_of};
 use tests::both::{is_positive, square_one, stack_seen};
-use tests::{Entry, Number, number_of};
+use tests::{Entry, number_of};
 use tests_moments::{a1_of, a2_of, df_of, f_of, scaling_of};
 
 // Each of the n matrices P in response units.
@@ -161,13 +161,13 @@ pub fn solve_wald_quadratic(
 }
 
 // Wald as a number or none.
-pub fn wald_number(v: [[Marked; 6]; 6], wald: Marked, q: usize) -> Number
+pub fn wald_number(v: [[Marked; 6]; 6], wald: Marked, q: usize) -> Option<f64>
     ensures { result ≡ wald_number_of q v wald }
 {
     let one_row = q == 1;
     let variance = v[0][0];
     if one_row & !is_positive(variance.value) {
-        return Number::None;
+        return None;
     }
     number_of(wald.value)
 }
@@ -220,7 +220,7 @@ pub fn entry_of(
     n: usize,
     p: usize,
     q: usize,
-    wald: Number,
+    wald: Option<f64>,
     seen: Marked,
 ) -> Entry
     requires { (n ≤ 4) × (p ≤ 6) × (q ≤ 6) }

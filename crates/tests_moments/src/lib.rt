@@ -9,14 +9,14 @@ ghost use Rattle.algebra.specs.Fold.{fold};
 ghost use Rattle.algebra.specs.Table.{row};
 ghost use Rattle.algebra.specs.Kind.{floats};
 ghost use Rattle.algebra.specs.Product.{trace, like_cells, transpose};
-ghost use Rattle.tests.specs.declared.Number.TheVariants.{Is};
+ghost use Rattle.std.specs.Prelude.{Some};
 ghost use Rattle.tests.specs.Answer.{number_of};
 ghost use Rattle.tests.specs.Moments.{weight, a1_of, a2_of, b_of, g_of, d_of, c1_of, c2_of, c3_of, leading_of, v0_of, v1_of, v2_of, div_of, less_a2, rho_of, positive, general_df, rank_one, df_of, scaling_at, scaling_of, f_of};
 
 use arithmetic::plain::{magnitude, of_count};
 use arithmetic_cutoffs::Cutoffs;
 use tests::both::is_positive;
-use tests::{Number, number_of};
+use tests::number_of;
 
 // W_ij counts once on the diagonal and twice off it, since only i ≤ j is summed.
 pub fn weight(w: &[[f64; 6]; 6], i: usize, j: usize) -> f64
@@ -246,13 +246,10 @@ pub fn rho_of(c: Cutoffs, q: usize, a1: f64, a2: f64) -> f64
 }
 
 // A df that is positive; zero, a negative number and a NaN are none.
-pub fn positive(x: f64) -> Number
+pub fn positive(x: f64) -> Option<f64>
     ensures { result ≡ positive x }
 {
-    if 0.0 < x {
-        return Number::Is(x);
-    }
-    Number::None
+    if 0.0 < x { Some(x) } else { None }
 }
 
 // qρ − 1.
@@ -264,7 +261,7 @@ pub fn excess_of(c: Cutoffs, q: usize, a1: f64, a2: f64) -> f64
 }
 
 // df by the moment equations; none where qρ is next to 1.
-pub fn general_df(c: Cutoffs, q: usize, a1: f64, a2: f64) -> Number
+pub fn general_df(c: Cutoffs, q: usize, a1: f64, a2: f64) -> Option<f64>
     requires { q ≤ 6 }
     ensures { result ≡ general_df c q a1 a2 }
 {
@@ -272,7 +269,7 @@ pub fn general_df(c: Cutoffs, q: usize, a1: f64, a2: f64) -> Number
     if c.excess < magnitude(e) {
         return positive(4.0 + (of_count(q) + 2.0) / e);
     }
-    Number::None
+    None
 }
 
 // One row, with an a2 that has a df of its own.
@@ -283,69 +280,58 @@ pub fn rank_one(q: usize, a2: f64) -> bool
     one_row & is_positive(a2)
 }
 
-pub fn df_of(c: Cutoffs, q: usize, a1: f64, a2: f64) -> Number
+pub fn df_of(c: Cutoffs, q: usize, a1: f64, a2: f64) -> Option<f64>
     requires { q ≤ 6 }
     ensures { result ≡ df_of c q a1 a2 }
 {
     if rank_one(q, a2) {
-        return Number::Is(2.0 / a2);
+        return Some(2.0 / a2);
     }
     general_df(c, q, a1, a2)
 }
 
 // The scaling of F for a df that is a number: 1 next to 2, where the quotient has no limit.
-pub fn scaling_of_df(c: Cutoffs, q: usize, a2: f64, df: f64) -> Number
+pub fn scaling_of_df(c: Cutoffs, q: usize, a2: f64, df: f64) -> Option<f64>
     requires { q ≤ 6 }
-    ensures { result ≡ scaling_at c q a2 (Is df) }
+    ensures { result ≡ scaling_at c q a2 (Some df) }
 {
     let beyond = df - 2.0;
     if magnitude(beyond) < c.near {
-        return Number::Is(1.0);
+        return Some(1.0);
     }
     number_of(df * less_a2(q, a2) / beyond)
 }
 
 // The scaling of F; none for no df.
-pub fn scaling_at(c: Cutoffs, q: usize, a2: f64, df: Number) -> Number
+pub fn scaling_at(c: Cutoffs, q: usize, a2: f64, df: Option<f64>) -> Option<f64>
     requires { q ≤ 6 }
     ensures { result ≡ scaling_at c q a2 df }
 {
-    match df {
-        Number::Is(x) => scaling_of_df(c, q, a2, x),
-        Number::None => Number::None,
-    }
+    scaling_of_df(c, q, a2, df?)
 }
 
-pub fn scaling_of(c: Cutoffs, q: usize, a1: f64, a2: f64) -> Number
+pub fn scaling_of(c: Cutoffs, q: usize, a1: f64, a2: f64) -> Option<f64>
     requires { q ≤ 6 }
     ensures { result ≡ scaling_of c q a1 a2 }
 {
     if rank_one(q, a2) {
-        return Number::Is(1.0);
+        return Some(1.0);
     }
     scaling_at(c, q, a2, general_df(c, q, a1, a2))
 }
 
 // F for a scaling and a Wald that are numbers.
-pub fn f_of_numbers(q: usize, scaling: f64, wald: f64) -> Number
+pub fn f_of_numbers(q: usize, scaling: f64, wald: f64) -> Option<f64>
     requires { q ≤ 6 }
-    ensures { result ≡ f_of q (Is scaling) (Is wald) }
+    ensures { result ≡ f_of q (Some scaling) (Some wald) }
 {
     number_of(scaling * (wald / of_count(q)))
 }
 
 // F; none where the scaling or Wald is none.
-pub fn f_of(q: usize, scaling: Number, wald: Number) -> Number
+pub fn f_of(q: usize, scaling: Option<f64>, wald: Option<f64>) -> Option<f64>
     requires { q ≤ 6 }
     ensures { result ≡ f_of q scaling wald }
 {
-    match scaling {
-        Number::Is(s) => {
-            match wald {
-                Number::Is(x) => f_of_numbers(q, s, x),
-                Number::None => Number::None,
-            }
-        }
-        Number::None => Number::None,
-    }
+    f_of_numbers(q, scaling?, wald?)
 }

@@ -10,7 +10,7 @@ use lib.ListN.{length, get_or, take, drop, replicate, length-drop}
 use lib.Seq.{take-suc, length-take-le, get_or-take, get_or-drop}
 use Rattle.arithmetic_cutoffs.specs.declared.Cutoffs.{Cutoffs}
 use Rattle.algebra.specs.Kind.{marks}
-use Rattle.tests.specs.declared.Number.TheVariants.{None}
+use Rattle.std.specs.Prelude.{None}
 use Rattle.tests.specs.Answer.{no_entry}
 use Rattle.tests.proofs.GivenF.{NoNan, none-given, run-given}
 use Rattle.records.specs.format.Scan.{last}

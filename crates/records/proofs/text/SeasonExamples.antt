@@ -8,8 +8,8 @@ use lib.ListN.{replicate}
 use lib.Ieee.{inf, fin, lt}
 use Rattle.arithmetic_cutoffs.specs.declared.Cutoffs.{Cutoffs}
 use Rattle.algebra.specs.Reasons.{first}
-use Rattle.tests.specs.declared.Number.{Number}
-use Rattle.tests.specs.declared.Number.TheVariants.{Is, None}
+use lib.Ieee.{Float}
+use Rattle.std.specs.Prelude.{Option, Some, None}
 use Rattle.records.specs.format.Bytes.{word, long, bytes_of}
 use Rattle.records.specs.format.Scan.{any, most, last}
 use Rattle.records.specs.format.Kinds.{kind_at, holds, width, kenward_roger_kinds, limits}
@@ -72,14 +72,14 @@ unfolding fs_of contrast_f entries number all_reasons reasons length_reasons ord
 empty-place c = refl
 
 -- ---- F's
-abbrev f : ℕ → Number
-f n = Is (fin false n (pos 0))
+abbrev f : ℕ → Option Float
+f n = Some (fin false n (pos 0))
 
-abbrev minus_zero : Number
-minus_zero = Is (fin true 0 (pos 0))
+abbrev minus_zero : Option Float
+minus_zero = Some (fin true 0 (pos 0))
 
-abbrev zero_f : Number
-zero_f = Is (fin false 0 (pos 0))
+abbrev zero_f : Option Float
+zero_f = Some (fin false 0 (pos 0))
 
 pub record WorstExamples : Type 0 where
   -- "the largest F number"
@@ -87,10 +87,10 @@ pub record WorstExamples : Type 0 where
   -- "earliest on ties": -0 and +0 tie, and so do 2 and 1 times 2 ^ 1, which are the same number
   pub minus_first : worst (minus_zero ∷ zero_f ∷ []) ≡ minus_zero
   pub zero_first : worst (zero_f ∷ minus_zero ∷ []) ≡ zero_f
-  pub same_first : worst (f 2 ∷ Is (fin false 1 (pos 1)) ∷ []) ≡ f 2
+  pub same_first : worst (f 2 ∷ Some (fin false 1 (pos 1)) ∷ []) ≡ f 2
   -- an infinite F counts, and one below zero
-  pub infinite : worst (f 9 ∷ Is (inf false) ∷ f 4 ∷ []) ≡ Is (inf false)
-  pub below : worst (Is (fin true 2 (pos 0)) ∷ None ∷ Is (fin true 3 (pos 0)) ∷ []) ≡ Is (fin true 2 (pos 0))
+  pub infinite : worst (f 9 ∷ Some (inf false) ∷ f 4 ∷ []) ≡ Some (inf false)
+  pub below : worst (Some (fin true 2 (pos 0)) ∷ None ∷ Some (fin true 3 (pos 0)) ∷ []) ≡ Some (fin true 2 (pos 0))
   -- "or `none`"
   pub none : worst (None ∷ None ∷ []) ≡ None
   -- "the latest twenty series": of twenty the first still counts, of twenty-one it does not, and a series that gives no F has its place

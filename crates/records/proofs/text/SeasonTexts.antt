@@ -7,7 +7,8 @@ use mathlib.Core.List.{List, [], ◌∷◌, ◌++◌, map, append-nil, append_as
 use lib.ListN.{length, get_or, take, drop, length-append, length-map, get_or-append}
 use lib.Seq.{take-append-le, take-append_seam, drop-append_seam, get_or-append_seam}
 use Rattle.arithmetic_cutoffs.specs.declared.Cutoffs.{Cutoffs}
-use Rattle.tests.specs.declared.Number.{Number}
+use lib.Ieee.{Float}
+use Rattle.std.specs.Prelude.{Option}
 use Rattle.records.specs.format.File.{count}
 use Rattle.records.specs.text.Text.{codes, number_text}
 use Rattle.records.specs.text.Season.{closes, series_before, series_to, series_in, worst, latest, contrast_f, fs_of, worst_line, closed_text, texts_to, closed_texts, printed, added, latest_count}
@@ -69,7 +70,7 @@ module _ (c : Cutoffs) where
   pub fs-are : (ts : List (List ℕ)) → fs_of c ts ≡ map (contrast_f c) ts
   unfolding fs_of
   fs-are [] = refl
-  fs-are (t ∷ ts) = ap (λ (l : List Number). contrast_f c t ∷ l) (fs-are ts)
+  fs-are (t ∷ ts) = ap (λ (l : List (Option Float)). contrast_f c t ∷ l) (fs-are ts)
 
   -- the latest twenty's are the latest twenty
   latest-fs : (ts : List (List ℕ)) → latest (fs_of c ts) ≡ map (contrast_f c) (latest ts)
@@ -78,7 +79,7 @@ module _ (c : Cutoffs) where
   -- so the `worst` line turns on the latest twenty alone
   pub worst-latest : (ts : List (List ℕ)) → worst_line c ts ≡ codes "worst " ++ (number_text (worst (map (contrast_f c) (latest ts))) ++ codes "\n")
   unfolding worst_line
-  worst-latest ts = ap (λ (l : List Number). codes "worst " ++ (number_text (worst l) ++ codes "\n")) (latest-fs ts)
+  worst-latest ts = ap (λ (l : List (Option Float)). codes "worst " ++ (number_text (worst l) ++ codes "\n")) (latest-fs ts)
 
 -- ---- series that are closed stay
 series-extend : (s : List ℕ) (d n : ℕ) → Extends (series_to s n) (series_to s (n + d))

@@ -1,17 +1,14 @@
 -- Document 01: "168 answer bytes: seven entries (coefficients 0–5, contrast) of F bits, df bits (none: 0), then bytes rank, F given, df given, inside, four zeros. Unused entries are
 -- zero. The Satterthwaite call fills one such entry, 24 bytes."
-use Rattle.std.specs.Prelude.{ℕ, ◌+◌, ◌*◌, Bool, cond, List, [], ◌∷◌, ◌++◌, eqb}
+use Rattle.std.specs.Prelude.{ℕ, ◌+◌, ◌*◌, Bool, cond, List, [], ◌∷◌, ◌++◌, eqb, is_some, Option, Some, None, Float}
 use Rattle.std.specs.Float.Ieee.{to_bits, of_bits}
 use Rattle.std.specs.Float.{binary64}
-use Rattle.tests.specs.declared.Number.{Number}
-use Rattle.tests.specs.declared.Number.TheVariants.{Is, None}
 use Rattle.tests.specs.declared.Entry.{Entry}
-use Rattle.tests.specs.Answer.{is_given}
 use Rattle.records.specs.format.Bytes.{byte, long, bytes_of}
 
 -- "F bits, df bits (none: 0)"
-unfoldable pub bits_of : Number → ℕ
-bits_of (Is x) = to_bits binary64 x
+unfoldable pub bits_of : Option Float → ℕ
+bits_of (Some x) = to_bits binary64 x
 bits_of None = 0
 
 -- a byte that says yes or no: 1 or 0
@@ -20,7 +17,7 @@ flag b = cond b 1 0
 
 -- "rank, F given, df given, inside, four zeros"
 abbrev pub tail : Entry → List ℕ
-tail e = e.rank ∷ flag (is_given e.f) ∷ flag (is_given e.df) ∷ flag e.inside ∷ 0 ∷ 0 ∷ 0 ∷ 0 ∷ []
+tail e = e.rank ∷ flag (is_some e.f) ∷ flag (is_some e.df) ∷ flag e.inside ∷ 0 ∷ 0 ∷ 0 ∷ 0 ∷ []
 
 -- "seven entries", "one such entry, 24 bytes"
 abbrev pub entry_length : ℕ
@@ -40,8 +37,8 @@ answer_bytes [] = []
 answer_bytes (e ∷ es) = entry_bytes e ++ answer_bytes es
 
 -- The reader's side: the number whose bits start at a byte, where another byte says that it is given, and entry i of the answer.
-abbrev pub number_from : List ℕ → ℕ → ℕ → Number
-number_from s at told = cond (eqb (byte s told) 1) (Is (of_bits binary64 (long s at))) None
+abbrev pub number_from : List ℕ → ℕ → ℕ → Option Float
+number_from s at told = cond (eqb (byte s told) 1) (Some (of_bits binary64 (long s at))) None
 
 abbrev pub entry_from : List ℕ → ℕ → Entry
 entry_from s i = record {

@@ -1,6 +1,6 @@
 -- Document 01, "Bench examples, one statement over the lot": (a) to (k), and what `pulltest` prints of its example. Definitions alone: the numbers that the examples are run on, and the
 -- statement.
-use Rattle.std.specs.Prelude.{ℕ, ◌≡◌, true, false, List, [], ◌∷◌, ◌++◌, pos, negsuc, replicate, Float}
+use Rattle.std.specs.Prelude.{ℕ, ◌≡◌, true, false, List, [], ◌∷◌, ◌++◌, pos, negsuc, replicate, Some, None, Float}
 use Rattle.std.specs.Float.{fin}
 use Rattle.arithmetic.specs.declared.Marked.{Marked}
 use Rattle.arithmetic.specs.Numbers.{plus_zero, one}
@@ -11,7 +11,6 @@ use Rattle.algebra.specs.Product.{at}
 use Rattle.adjustment.specs.Information.{packed}
 use Rattle.adjustment.specs.Covariance.{Design}
 use Rattle.adjustment.specs.Adjusted.{adjustment, adjustment_refusal}
-use Rattle.tests.specs.declared.Number.TheVariants.{Is, None}
 use Rattle.tests.specs.Basis.{contrast_basis}
 use Rattle.tests.specs.KenwardRoger.{Scaled, Tested, tested}
 use Rattle.tests.specs.VarianceDf.{variance_df}
@@ -45,7 +44,7 @@ scaled_h = record { p = 1; matrices = 1; phi = cell_alone one; phi_a = cell_alon
 
 -- (h): "F 9, df 1", with its rank, accepted and inside
 abbrev pub tested_h : Tested
-tested_h = record { refused = false; entry = record { f = Is (fin false 9 (pos 0)); df = Is one; rank = 1; inside = true } }
+tested_h = record { refused = false; entry = record { f = Some (fin false 9 (pos 0)); df = Some one; rank = 1; inside = true } }
 
 -- (k): "n 2, X 1,1, Z 1,1, one group, theta 0"; "Φ 0.5"
 abbrev column : List (List Float)
@@ -69,7 +68,7 @@ inputs_i q a = record { p = 2; q = q; n = 1; l = unit; beta = four ∷ one ∷ [
 
 -- F, df and the rank, accepted and inside
 abbrev pub outcome_i : Float → Float → ℕ → Outcome
-outcome_i f df rank = record { refused = false; entry = record { f = Is f; df = Is df; rank = rank; inside = true } }
+outcome_i f df rank = record { refused = false; entry = record { f = Some f; df = Some df; rank = rank; inside = true } }
 
 -- `pulltest`'s example as a file, with the bits of sigma2, β and the contrast: "X 1,1, Φ 0.5 .."
 abbrev pub pull_bytes : ℕ → ℕ → ℕ → List ℕ
@@ -94,7 +93,7 @@ pub record BenchExamples : Type 0 where
   -- "(e) 2,5 give 2."
   pub e : get_fstat_ddf 2 (two ∷ fin false 5 (pos 0) ∷ []) tolerance ≡ two
   -- "(f) V 2, J 2, A 4 give 0.5."
-  pub f : variance_df marks 1 ((four ∷ []) ∷ []) (given two) (given two ∷ []) ≡ Is half
+  pub f : variance_df marks 1 ((four ∷ []) ∷ []) (given two) (given two ∷ []) ≡ Some half
   -- "(g) V 0 gives none."
   pub g : variance_df marks 1 ((four ∷ []) ∷ []) (given plus_zero) (given two ∷ []) ≡ None
   -- "(h) Φ 1, Φ_A 4, P -1, W 2, L -8, β 6: F 9, df 1."

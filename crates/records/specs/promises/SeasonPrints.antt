@@ -1,9 +1,7 @@
 -- Document 02, "Req 07": what is promised of a season's text and of the worst of twenty. Statements alone, for any cutoffs; that of a changed converter is `converter/specs/SeasonDemand`.
-use Rattle.std.specs.Prelude.{ℕ, ◌+◌, ◌%◌, ◌<◌, ◌≡◌, false, cond, List, [], ◌∷◌, ◌++◌, eqb, length, get_or, take, replicate, Float}
+use Rattle.std.specs.Prelude.{ℕ, ◌+◌, ◌%◌, ◌<◌, ◌≡◌, false, cond, List, [], ◌∷◌, ◌++◌, eqb, length, get_or, take, replicate, Option, Some, None, Float}
 use Rattle.std.specs.Float.Ieee.{lt, eq, is_nan}
 use Rattle.arithmetic_cutoffs.specs.declared.Cutoffs.{Cutoffs}
-use Rattle.tests.specs.declared.Number.{Number}
-use Rattle.tests.specs.declared.Number.TheVariants.{Is, None}
 use Rattle.records.specs.format.Scan.{any}
 use Rattle.records.specs.format.File.{count}
 use Rattle.records.specs.calls.KenwardRogerCall.{number}
@@ -39,14 +37,14 @@ pub record SeasonParted : Type 0 where
 
 -- ---- the worst of F's
 -- it is one of the F's; "the largest": none is larger; "earliest on ties": none before it is equal
-pub record LargestIn (fs : List Number) (x : Float) : Type 0 where
+pub record LargestIn (fs : List (Option Float)) (x : Float) : Type 0 where
   pub place : ℕ
-  pub there : get_or fs place None ≡ Is x
-  pub largest : (j : ℕ) (y : Float) → get_or fs j None ≡ Is y → lt x y ≡ false
-  pub earliest : (j : ℕ) (y : Float) → j < place → get_or fs j None ≡ Is y → eq y x ≡ false
+  pub there : get_or fs place None ≡ Some x
+  pub largest : (j : ℕ) (y : Float) → get_or fs j None ≡ Some y → lt x y ≡ false
+  pub earliest : (j : ℕ) (y : Float) → j < place → get_or fs j None ≡ Some y → eq y x ≡ false
 
-pub record WorstOf (fs : List Number) : Type 0 where
-  pub given : (x : Float) → worst fs ≡ Is x → LargestIn fs x
+pub record WorstOf (fs : List (Option Float)) : Type 0 where
+  pub given : (x : Float) → worst fs ≡ Some x → LargestIn fs x
   -- "or `none`": where no F is given
   pub none : worst fs ≡ None → (i : ℕ) → get_or fs i None ≡ None
 
@@ -85,6 +83,6 @@ pub record SeasonPrints (c : Cutoffs) : Type 0 where
   pub places : (ts : List (List ℕ)) → length (fs_of c ts) ≡ length ts
   pub refused : (t : List ℕ) → (number 24 c t ≡ 0 → ⊥) → contrast_f c t ≡ None
   -- document 01, "Every F and df is a number, or none where the Rust has NaN": an F among the twenty is no NaN, which no order has a place for
-  pub numbers : (t : List ℕ) (x : Float) → contrast_f c t ≡ Is x → is_nan x ≡ false
+  pub numbers : (t : List ℕ) (x : Float) → contrast_f c t ≡ Some x → is_nan x ≡ false
   -- what is printed of a series stands there as soon as it is closed: bytes that come later add to the text, and take nothing back
   pub grows : (s t : List ℕ) → printed c (s ++ t) ≡ printed c s ++ added c s t

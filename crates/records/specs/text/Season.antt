@@ -1,11 +1,9 @@
 -- Document 02, "Req 07": "A season's file, and the worst of twenty." A season's file s is a list of bytes, in records of 16 as any file is. Each of its series is judged by itself, as a file of its own bytes,
 -- so that "numbering and order start again" after each record that closes one. c are the cutoffs: the program has the built-in ones.
-use Rattle.std.specs.Prelude.{ℕ, zero, suc, ◌+◌, ◌-◌, ◌*◌, Bool, not, ◌&&◌, cond, List, [], ◌∷◌, ◌++◌, eqb, length, get_or, take, drop}
+use Rattle.std.specs.Prelude.{ℕ, zero, suc, ◌+◌, ◌-◌, ◌*◌, Bool, not, ◌&&◌, cond, List, [], ◌∷◌, ◌++◌, eqb, length, get_or, take, drop, Option, Some, None, Float}
 use Rattle.std.proofs.Math.Seq.{slice}
 use Rattle.std.specs.Float.Ieee.{lt}
 use Rattle.arithmetic_cutoffs.specs.declared.Cutoffs.{Cutoffs}
-use Rattle.tests.specs.declared.Number.{Number}
-use Rattle.tests.specs.declared.Number.TheVariants.{Is, None}
 use Rattle.tests.specs.Answer.{no_entry}
 use Rattle.records.specs.format.Scan.{any, last}
 use Rattle.records.specs.format.Bytes.{byte}
@@ -42,17 +40,17 @@ left_over s = drop (16 * begins s (count s)) s
 
 -- ---- the worst of twenty
 -- the worst so far, and a series' F after it: "the largest F number .. (earliest on ties)", so that only a strictly larger one takes its place. A series that "gives no F" changes nothing.
-unfoldable pub worse : Number → Number → Number
+unfoldable pub worse : Option Float → Option Float → Option Float
 worse None f = f
-worse (Is x) None = Is x
-worse (Is x) (Is y) = cond (lt x y) (Is y) (Is x)
+worse (Some x) None = Some x
+worse (Some x) (Some y) = cond (lt x y) (Some y) (Some x)
 
 -- after further F's, the oldest first; and of F's alone: none where none is given
-unfoldable pub worst_after : Number → List Number → Number
+unfoldable pub worst_after : Option Float → List (Option Float) → Option Float
 worst_after w [] = w
 worst_after w (f ∷ fs) = worst_after (worse w f) fs
 
-abbrev pub worst : List Number → Number
+abbrev pub worst : List (Option Float) → Option Float
 worst fs = worst_after None fs
 
 -- "the latest twenty"
@@ -74,11 +72,11 @@ module _ (c : Cutoffs) where
   series_lines t = text_of (number panel_limit c t) (entries panel_limit c t)
 
   -- "the .. F number of the contrast", which is entry 6. "A refused series .. gives no F", nor does one without a contrast or whose F is none.
-  unfoldable pub contrast_f : List ℕ → Number
+  unfoldable pub contrast_f : List ℕ → Option Float
   contrast_f t = (get_or (entries panel_limit c t) 6 no_entry).f
 
   -- of series, one for each: "A refused series .. counts among the twenty, and gives no F"
-  unfoldable pub fs_of : List (List ℕ) → List Number
+  unfoldable pub fs_of : List (List ℕ) → List (Option Float)
   fs_of [] = []
   fs_of (t ∷ ts) = contrast_f t ∷ fs_of ts
 

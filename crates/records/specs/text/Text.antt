@@ -3,13 +3,11 @@
 --   test rank 1 F 4022000000000000 df 3ff0000000000000 inside
 -- Fields: index, rank, f64 bits in hexadecimal or `none`, `inside` or `outside`. No contrast, no `test` line. A refusal prints `refused` and its number."
 -- Bits are 16 lower-case digits, and each line ends in one newline. A text is the list of its characters' codes.
-use Rattle.std.specs.Prelude.{ℕ, zero, suc, ◌+◌, ◌-◌, ◌/◌, ◌%◌, Bool, cond, List, [], ◌∷◌, ◌++◌, eqb, ltb, get_or}
+use Rattle.std.specs.Prelude.{ℕ, zero, suc, ◌+◌, ◌-◌, ◌/◌, ◌%◌, Bool, cond, List, [], ◌∷◌, ◌++◌, eqb, ltb, get_or, Option, Some, None, Float}
 use Prim.Native.Char.{code}
 use Prim.Native.String.{String, [] as none, ◌∷◌ as ◌before◌}
 use Rattle.std.specs.Float.Ieee.{to_bits}
 use Rattle.std.specs.Float.{binary64}
-use Rattle.tests.specs.declared.Number.{Number}
-use Rattle.tests.specs.declared.Number.TheVariants.{Is, None}
 use Rattle.tests.specs.declared.Entry.{Entry}
 use Rattle.tests.specs.Answer.{no_entry}
 
@@ -33,8 +31,8 @@ decimal zero w = []
 decimal (suc n) w = cond (ltb w 10) [] (decimal n (w / 10)) ++ (digit (w % 10) ∷ [])
 
 -- "f64 bits in hexadecimal or `none`"
-unfoldable pub number_text : Number → List ℕ
-number_text (Is x) = hexadecimal 16 (to_bits binary64 x)
+unfoldable pub number_text : Option Float → List ℕ
+number_text (Some x) = hexadecimal 16 (to_bits binary64 x)
 number_text None = codes "none"
 
 -- "`inside` or `outside`", and the end of the line

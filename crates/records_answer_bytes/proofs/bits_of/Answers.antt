@@ -3,9 +3,9 @@ use mathlib.Core.Path.{sym, ap, ◌∙◌}
 use Rattle.records.specs.format.Layout.{bits_of}
 use Rattle.records_answer_bytes.proofs.bits_of.Goals as goal
 
-pub returns-in-Is : goal.returns-in-Is
+pub returns-in-Some : goal.returns-in-Some
 unfolding bits_of
-returns-in-Is c = c.to_bits.ensures ∙ sym (ap bits_of c.in-Is.is)
+returns-in-Some c = c.to_bits.ensures ∙ sym (ap bits_of c.in-Some.is)
 
 pub returns-in-None : goal.returns-in-None
 unfolding bits_of

@@ -1,23 +1,17 @@
 -- `records_answer_bytes::put_answer` meets its contract: after i turns the first i entries stand, and seven fill the answer.
 use Prim.Native.Nat.{ℕ, ◌<◌, ◌*◌}
 use mathlib.Core.Path.{◌≡◌, refl, ap, ◌∙◌}
-use mathlib.Core.Bool.{false}
 use mathlib.Core.List.{List}
 use native.Mathlib.Omega.{arith}
 use borrow.Author.Rules.{rules}
-use lib.Ieee.{nan}
 use lib.ListN.{length, get_or, take}
 use lib.Seq.{sets, take_all}
-use Rattle.tests.specs.declared.Number.TheVariants.{Is}
 use Rattle.tests.specs.declared.Entry.{Entry}
+use Rattle.tests.specs.Answer.{no_entry}
 use Rattle.records.specs.format.Layout.{answer_bytes, entry_bytes}
 use Rattle.records_little_endian.proofs.StoreLaws.{sets-all}
 use Rattle.records_answer_bytes.proofs.LayoutLaws.{length-answer, store}
 use Rattle.records_answer_bytes.proofs.put_answer.Goals as goal
-
--- what would be read past the end of the entries
-abbrev past : Entry
-past = record { f = Is nan; df = Is nan; rank = 0; inside = false }
 
 pub loop-i-init : goal.loop-i-init
 unfolding answer_bytes
@@ -33,7 +27,7 @@ loop-i-preserved c =
       c.loop-i.invariant.1,
       c.loop-i.invariant.2,
       omega arith,
-      p.ensures ∙ ap (λ (a : List ℕ). sets a (24 * c.loop-i.i) (entry_bytes (get_or g.es c.loop-i.i past))) c.loop-i.invariant.4 ∙ store g.a.now g.es c.loop-i.i past h,
+      p.ensures ∙ ap (λ (a : List ℕ). sets a (24 * c.loop-i.i) (entry_bytes (get_or g.es c.loop-i.i no_entry))) c.loop-i.invariant.4 ∙ store g.a.now g.es c.loop-i.i no_entry h,
     )
 
 pub returns : goal.returns

@@ -22,13 +22,12 @@ put_coefficient-next-requires c =
 pub loop-i-preserved : goal.loop-i-preserved
 loop-i-preserved c =
     let g = c.args in
-    let p = c.put_coefficient-next in
-    let h : c.loop-i.i < length g.es = omega arith in (
+    let p = c.put_coefficient-next in (
       omega arith,
       c.loop-i.invariant.1,
       c.loop-i.invariant.2,
       p.auto.out ∙ c.loop-i.invariant.3,
-      coefficients-more c.loop-i.i g.es h c.loop-i.invariant.4 p.ensures,
+      coefficients-more c.loop-i.i g.es c.loop-i.invariant.4 p.ensures,
     )
 
 pub shape_of-out : goal.shape_of-out

@@ -2,7 +2,8 @@
 use native.Mathlib.Omega.{arith}
 use mathlib.Core.Path.{◌≡◌, ap, ◌∙◌}
 use lib.ListN.{length}
-use Rattle.tests.specs.declared.Number.{Number}
+use lib.Ieee.{Float}
+use Rattle.std.specs.Prelude.{Option}
 use Rattle.records.specs.text.Season.{worst}
 use Rattle.records_answer_text.proofs.CursorLaws.{then, named}
 use Rattle.records_season.specs.joints.SeasonCame.{window_of, with_latest}
@@ -17,7 +18,7 @@ returns-then-number-ne0 c =
     let w = window_of a.values.now a.given.now in
     let seven : length es ≡ 7 = search rules in
     let q = c.judge_arrived-es.ensures in
-    let kept = c.keep_latest.ensures ∙ ap (λ (f : Number). with_latest f w) (f-is a.a a.kept.now w es q.value _ q.told_after _ seven) in
+    let kept = c.keep_latest.ensures ∙ ap (λ (f : Option Float). with_latest f w) (f-is a.a a.kept.now w es q.value _ q.told_after _ seven) in
     record { given_after = kept; put = named c.put_run-next.ensures (refused-text a.a a.kept.now w es q.value _ q.told_after c.if-number-ne0.true) (omega arith) }
 
 pub returns : goal.returns
@@ -27,7 +28,7 @@ returns c =
     let w = window_of a.values.now a.given.now in
     let seven : length es ≡ 7 = search rules in
     let q = c.judge_arrived-es.ensures in
-    let kept = c.keep_latest.ensures ∙ ap (λ (f : Number). with_latest f w) (f-is a.a a.kept.now w es q.value _ q.told_after _ seven) in
+    let kept = c.keep_latest.ensures ∙ ap (λ (f : Option Float). with_latest f w) (f-is a.a a.kept.now w es q.value _ q.told_after _ seven) in
     let worst-is = c.worst_of-w.ensures ∙ ap worst kept in
     let lines = accepted-text a.a a.kept.now w es q.value _ q.told_after c.if-number-ne0.false _ worst-is in
     record { given_after = kept; put = named (then c.put_run-next.ensures c.put_worst.ensures) lines (omega arith) }

@@ -1,9 +1,7 @@
 -- Not needed to check document 01: names that join the code to its definitions.
 -- A season's file that arrives in pieces of any lengths: what is kept of it while it comes. Of its open series that is what records_pieces keeps of a file; of those that are closed, the F's of the latest twenty.
-use Rattle.std.specs.Prelude.{ℕ, ◌<◌, ◌≡◌, Bool, cond, List, [], ◌∷◌, ◌++◌, map, eqb, length, get_or, drop, replicate, Float}
+use Rattle.std.specs.Prelude.{ℕ, ◌<◌, ◌≡◌, Bool, cond, List, [], ◌∷◌, ◌++◌, map, eqb, length, get_or, drop, replicate, Option, Some, None, Float}
 use Rattle.arithmetic_cutoffs.specs.Cutoffs.{document_cutoffs}
-use Rattle.tests.specs.declared.Number.{Number}
-use Rattle.tests.specs.declared.Number.TheVariants.{Is, None}
 use Rattle.tests.specs.Answer.{no_entry}
 use Rattle.records.specs.format.Bytes.{byte}
 use Rattle.records.specs.text.Text.{codes, number_text, text_of}
@@ -24,25 +22,25 @@ piece_room = 118272
 -- how far the open series has come, and twenty F's, the oldest first
 pub record SeasonState : Type 0 where
   pub arrived : Arrived
-  pub window : List Number
+  pub window : List (Option Float)
 
 -- twenty F's as the code has them: their values, and which are given
-abbrev pub given_number : Float → Bool → Number
-given_number x given = cond given (Is x) None
+abbrev pub given_number : Float → Bool → Option Float
+given_number x given = cond given (Some x) None
 
-unfoldable pub window_of : List Float → List Bool → List Number
+unfoldable pub window_of : List Float → List Bool → List (Option Float)
 window_of [] gs = []
 window_of (v ∷ vs) [] = []
 window_of (v ∷ vs) (g ∷ gs) = given_number v g ∷ window_of vs gs
 
-abbrev pub season_of : Arrival → List ℕ → List ℕ → List Number → SeasonState
+abbrev pub season_of : Arrival → List ℕ → List ℕ → List (Option Float) → SeasonState
 season_of a kept current window = record { arrived = arrived_as a kept current; window = window }
 
 abbrev pub season_as : Arrival → List ℕ → List ℕ → List Float → List Bool → SeasonState
 season_as a kept current values given = season_of a kept current (window_of values given)
 
 -- the last twenty of the F's of all series, and none in front of them for series that have not been
-unfoldable pub last_twenty : List Number → List Number
+unfoldable pub last_twenty : List (Option Float) → List (Option Float)
 last_twenty fs = drop (length fs) (replicate latest_count None ++ fs)
 
 -- one more: the oldest goes
@@ -50,14 +48,14 @@ abbrev pub with_latest : {A : Type 0} → A → List A → List A
 with_latest x l = drop 1 l ++ (x ∷ [])
 
 -- the `worst` line of a number
-abbrev pub worst_text : Number → List ℕ
+abbrev pub worst_text : Option Float → List ℕ
 worst_text w = codes "worst " ++ (number_text w ++ codes "\n")
 
 -- the F of a series that arrived, and what is printed of it when it is closed, from what is kept
-abbrev pub arrived_f : Arrival → List ℕ → Number
+abbrev pub arrived_f : Arrival → List ℕ → Option Float
 arrived_f a kept = (get_or (arrived_entries document_cutoffs a kept) 6 no_entry).f
 
-unfoldable pub arrived_text : Arrival → List ℕ → List Number → List ℕ
+unfoldable pub arrived_text : Arrival → List ℕ → List (Option Float) → List ℕ
 arrived_text a kept window =
     text_of (arrived_number document_cutoffs a kept) (arrived_entries document_cutoffs a kept)
     ++ cond (eqb (arrived_number document_cutoffs a kept) 0) (worst_text (worst (with_latest (arrived_f a kept) window))) []

@@ -1,6 +1,6 @@
 -- Not needed to check document 01: names that join the code to its definitions.
 -- What the functions that make up a Satterthwaite test answer, from the matrices at hand. Their joints are those of `satterthwaite`.
-use Rattle.std.specs.Prelude.{ℕ, List, Float}
+use Rattle.std.specs.Prelude.{ℕ, List, Option, Float}
 use Rattle.arithmetic.specs.declared.Marked.{Marked}
 use Rattle.arithmetic.specs.Numbers.{plus_zero}
 use Rattle.arithmetic.specs.Marks.{given, also}
@@ -9,7 +9,6 @@ use Rattle.algebra.specs.Product.{at}
 use Rattle.algebra.specs.Jacobi.{State, jacobi}
 use Rattle.algebra.specs.Small.{MarkedRows, Rows, all_marks}
 use Rattle.arithmetic_cutoffs.specs.declared.Cutoffs.{Cutoffs}
-use Rattle.tests.specs.declared.Number.{Number}
 use Rattle.tests.specs.declared.Entry.{Entry}
 use Rattle.tests.specs.Answer.{number_of}
 use Rattle.tests.specs.VarianceDf.{variance_df, gradient_seen}

@@ -1,6 +1,6 @@
 -- Not needed to check document 01: names that join the code to its definitions.
 -- What the functions that make up a Kenward–Roger test answer, from the matrices at hand. Their joints are those of `tested`.
-use Rattle.std.specs.Prelude.{ℕ, not, cond, ◌&&◌, List, eqb}
+use Rattle.std.specs.Prelude.{ℕ, not, cond, ◌&&◌, List, eqb, Option, None, Float}
 use Rattle.arithmetic.specs.declared.Marked.{Marked}
 use Rattle.arithmetic.specs.Numbers.{plus_zero}
 use Rattle.arithmetic.specs.Marks.{given, also}
@@ -9,8 +9,6 @@ use Rattle.algebra.specs.Product.{at, product}
 use Rattle.algebra.specs.Elimination.{solution}
 use Rattle.algebra.specs.Small.{MarkedRows, Rows, sandwich, all_marks}
 use Rattle.arithmetic_cutoffs.specs.declared.Cutoffs.{Cutoffs}
-use Rattle.tests.specs.declared.Number.{Number}
-use Rattle.tests.specs.declared.Number.TheVariants.{None}
 use Rattle.tests.specs.declared.Entry.{Entry}
 use Rattle.tests.specs.Answer.{number_of}
 use Rattle.tests.specs.Both.{is_positive, square_one, stack_seen}
@@ -34,7 +32,7 @@ unfoldable pub wald_of : ℕ → MarkedRows → MarkedRows → MarkedRows → Ma
 wald_of q ld v y = cond (eqb q 1) (cond (is_positive (at marks v 0 0).value) (square_one marks (at marks ld 0 0) (at marks v 0 0)) (given plus_zero)) (wald_many marks q ld y)
 
 -- Wald as a number or none, from v and its marked number
-unfoldable pub wald_number_of : ℕ → MarkedRows → Marked → Number
+unfoldable pub wald_number_of : ℕ → MarkedRows → Marked → Option Float
 wald_number_of q v wald = cond (eqb q 1 && not (is_positive (at marks v 0 0).value)) None (number_of wald.value)
 
 -- the marks of D, A, A⁻¹L and ΘΦ, after what was seen before
@@ -46,7 +44,7 @@ unfoldable pub wald_seen_of : ℕ → MarkedRows → MarkedRows → MarkedRows �
 wald_seen_of q ld v y wald seen = let s4 : Marked = all_marks marks q q v (all_marks marks q 1 ld seen) in also (cond (eqb q 1) s4 (all_marks marks q 1 y s4)) wald
 
 -- the entry, from the values of the u_i, Wald and what was seen
-unfoldable pub entry_of : Cutoffs → ℕ → ℕ → ℕ → Rows → List Rows → Number → Marked → Entry
+unfoldable pub entry_of : Cutoffs → ℕ → ℕ → ℕ → Rows → List Rows → Option Float → Marked → Entry
 entry_of c N p q w vs wald seen =
     record {
       f = f_of q (scaling_of c q (a1_of N p w vs) (a2_of N p w vs)) wald;

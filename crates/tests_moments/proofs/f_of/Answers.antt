@@ -3,13 +3,10 @@ use Rattle.tests.specs.Moments.{f_of}
 use borrow.Author.Rules.{rules}
 use Rattle.tests_moments.proofs.f_of.Goals as goal
 
-pub returns-in-Is-wald : goal.returns-in-Is-wald
-returns-in-Is-wald c = rw (c.in-Is.is, c.in-Is-wald.is) c.f_of_numbers.ensures
-
-pub returns-in-None-wald : goal.returns-in-None-wald
+pub returns-in_err-scaling : goal.returns-in_err-scaling
 unfolding f_of
-returns-in-None-wald c = rw (c.in-Is.is, c.in-None-wald.is)
+returns-in_err-scaling c = rw c.in_err-scaling.was c.from_residual.ensures
 
-pub returns-in-None : goal.returns-in-None
+pub returns-in_err-wald : goal.returns-in_err-wald
 unfolding f_of
-returns-in-None c = rw c.in-None.is
+returns-in_err-wald c = rw (c.in_ok-scaling.was, c.in_err-wald.was) c.from_residual-in_err-wald.ensures

@@ -7,6 +7,6 @@ pub returns-then-x : goal.returns-then-x
 unfolding positive of_bits
 returns-then-x c = rw c.if-x.true
 
-pub returns : goal.returns
+pub returns-else-x : goal.returns-else-x
 unfolding positive of_bits
-returns c = rw c.if-x.false
+returns-else-x c = rw c.if-x.false

@@ -1,7 +1,6 @@
 -- `tests::both::is_positive` meets its contract.
 use lib.Ieee.{of_bits}
 use Rattle.tests.specs.Both.{is_positive}
-use borrow.Author.Rules.{rules}
 use Rattle.tests.proofs.both.is_positive.Goals as goal
 
 pub returns : goal.returns

@@ -1,6 +1,5 @@
 -- `tests::both::square_one` meets its contract.
 use Rattle.tests.specs.Both.{square_one}
-use borrow.Author.Rules.{rules}
 use Rattle.tests.proofs.both.square_one.Goals as goal
 
 pub returns : goal.returns

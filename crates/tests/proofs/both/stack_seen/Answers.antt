@@ -1,7 +1,4 @@
 -- `tests::both::stack_seen` meets its contract.
-use Prim.Native.Nat.{◌≤◌, ◌-◌}
-use mathlib.Core.Path.{◌≡◌}
-use Rattle.algebra.specs.Kind.{marks}
 use Rattle.algebra.proofs.FoldLaws.{fold_start, fold_next, fold_end}
 use Rattle.tests.specs.Both.{stack_seen}
 use native.Mathlib.Omega.{arith}

@@ -1,9 +1,7 @@
 use Prim.Native.Nat.{◌≤◌, ◌-◌}
 use mathlib.Core.Path.{◌≡◌}
 use Rattle.algebra.specs.Kind.{marks}
-use Rattle.algebra.proofs.FoldLaws.{fold_start, fold_next, fold_end}
 use Rattle.tests.specs.Both.{stack_seen}
-use native.Mathlib.Omega.{arith}
 use Rattle.tests.proofs.both.stack_seen.Given as goal
 
 abbrev pub invariant-loop-i : goal.invariant-loop-i

@@ -6,6 +6,6 @@ pub returns-then-c-x : goal.returns-then-c-x
 unfolding capped
 returns-then-c-x c = rw c.if-c-x.true
 
-pub returns : goal.returns
+pub returns-else-c-x : goal.returns-else-c-x
 unfolding capped
-returns c = rw c.if-c-x.false
+returns-else-c-x c = rw c.if-c-x.false

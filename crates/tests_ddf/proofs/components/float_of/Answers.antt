@@ -3,6 +3,6 @@ use lib.Ieee.{div, of_bits}
 use borrow.Author.Rules.{rules}
 use Rattle.tests_ddf.proofs.components.float_of.Goals as goal
 
-pub returns-in-None : goal.returns-in-None
+pub returns : goal.returns
 unfolding of_bits div
-returns-in-None c = rw c.in-None.is
+returns c = c.unwrap_or.ensures

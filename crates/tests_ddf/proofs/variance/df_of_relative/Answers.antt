@@ -8,6 +8,6 @@ pub returns-then-is_positive : goal.returns-then-is_positive
 unfolding df_of_relative of_bits
 returns-then-is_positive c = rw (← c.is_positive.ensures, c.if-is_positive.true)
 
-pub returns : goal.returns
+pub returns-else-is_positive : goal.returns-else-is_positive
 unfolding df_of_relative
-returns c = rw (← c.is_positive.ensures, c.if-is_positive.false)
+returns-else-is_positive c = rw (← c.is_positive.ensures, c.if-is_positive.false)
