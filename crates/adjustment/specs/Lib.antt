@@ -3,4 +3,5 @@ pub mod Blocks
 pub mod Covariance
 pub mod Information
 pub mod PackedOnce
+pub mod Refusals
 pub mod Adjusted

@@ -1,14 +1,15 @@
 // From IE on, on small matrices by value: W, U, Φ_A, and the two refusals that are left.
 #![tactic(auto)]
 
-ghost use Rattle.std.specs.Prelude.{◌≡◌, ◌≤◌};
+ghost use Rattle.std.specs.Prelude.{◌≡◌, ◌≤◌, IfOk};
 ghost use Rattle.algebra.specs.Kind.{floats};
 ghost use Rattle.algebra.specs.Jacobi.{State, jacobi};
 ghost use Rattle.adjustment.specs.Information.{w_rows, w_refused};
-ghost use Rattle.adjustment.specs.Adjusted.{Adjustment, u_rows, phi_a_rows};
-ghost use Rattle.adjustment_adjusted.specs.joints.FromInformation.{accepted};
-ghost use Rattle.adjustment_adjusted.specs.joints.FromInformation.{inverted_of, from_information, information_refusal};
+ghost use Rattle.adjustment.specs.Adjusted.{u_rows, phi_a_rows};
+ghost use Rattle.adjustment.specs.Refusals.{number_told};
+ghost use Rattle.adjustment_adjusted.specs.joints.FromInformation.{phi_side, inverted_of, from_information, information_refusal};
 
+use adjustment::{AdjustedPhi, AdjustmentRefusal};
 use arithmetic_cutoffs::Cutoffs;
 
 pub mod adjusted_phi;
@@ -43,7 +44,7 @@ pub fn phi_a_of(
     crate::adjusted_phi::phi_a(p, phi, u)
 }
 
-// From IE on. A refusal, 10 or 4, leaves what is lent as it is.
+// From IE on: the adjusted Φ, or why there is none, a zero pivot or a number that is not finite.
 pub fn from_information(
     c: Cutoffs,
     p: usize,
@@ -53,32 +54,25 @@ pub fn from_information(
     ps: [[[f64; 6]; 6]; 4],
     qs: [[[f64; 6]; 6]; 10],
     ie: [[f64; 6]; 6],
-    phi_a: &mut [[f64; 6]; 6],
-    all_p: &mut [[[f64; 6]; 6]; 4],
-    w: &mut [[f64; 6]; 6],
-    rotations: &mut usize,
-) -> u32
+) -> Result<AdjustedPhi, AdjustmentRefusal>
     requires { (p ≤ 6) × (n ≤ 4) }
-    ensures value { result ≡ information_refusal c p n phi sigma2 ps qs ie }
-    ensures phi_a_after { phi_a.new ≡ accepted result (from_information c p n phi ps qs ie).phi_a phi_a.old }
-    ensures all_p_after { all_p.new ≡ accepted result (from_information c p n phi ps qs ie).ps all_p.old }
-    ensures w_after { w.new ≡ accepted result (from_information c p n phi ps qs ie).w w.old }
-    ensures rotations_after { rotations.new ≡ accepted result (from_information c p n phi ps qs ie).rotations rotations.old }
+    ensures told { number_told result ≡ information_refusal c p n phi sigma2 ps qs ie }
+    ensures value { IfOk result (λ a. a ≡ phi_side (from_information c p n phi ps qs ie)) }
 {
     let mut made = 0;
     let m = inverted_of(c, n, ie, &mut made);
     let mut zero_pivot = false;
-    let inverse = crate::information::w_of(n, m, &mut zero_pivot);
+    let w = crate::information::w_of(n, m, &mut zero_pivot);
     if zero_pivot {
-        return 10;
+        return Err(AdjustmentRefusal::ZeroPivot);
     }
-    let adjusted = phi_a_of(p, n, phi, ps, qs, inverse);
-    if adjustment_response_units::output_not_finite(p, n, phi, sigma2, adjusted, ps, inverse) {
-        return 4;
+    let phi_a = phi_a_of(p, n, phi, ps, qs, w);
+    if adjustment_response_units::output_not_finite(p, n, phi, sigma2, phi_a, ps, w) {
+        return Err(AdjustmentRefusal::NotFinite);
     }
-    *phi_a = adjusted;
-    *all_p = ps;
-    *w = inverse;
-    *rotations = made;
-    0
+    Ok(AdjustedPhi {
+        phi_a,
+        w,
+        rotations: made,
+    })
 }

@@ -6,26 +6,32 @@ ghost use Rattle.algebra.specs.Kind.{floats};
 ghost use Rattle.algebra.specs.Product.{cell, product, transpose};
 ghost use Rattle.algebra_large.specs.joints.Slab.{rows_at, put_row, put_rows, Holds, Apart};
 ghost use Rattle.adjustment.specs.Information.{o_rows, p_rows, k_cell};
-ghost use Rattle.adjustment_covariance.specs.joints.Lent.{gained_with};
+ghost use Rattle.adjustment_covariance.specs.joints.Lent.{x_rows, HeldX, gained_with};
 
+use adjustment::LentDesign;
 use algebra_large::rows::start;
 
 // The narrow matrix at d becomes H X, with H at a of the work slice: O_r, and S X where S stands at a.
-pub fn fill_o(
-    narrow: &mut [f64],
-    d: usize,
-    work: &[f64],
-    a: usize,
-    s: usize,
-    x: &[f64],
-    xs: usize,
-    n: usize,
-    p: usize,
-)
-    requires { Holds 6 d n p (length narrow.old) × Holds s a n n (length work.now) × Holds xs 0 n p (length x.now) }
-    ensures { narrow.new ≡ put_rows 6 d n p (o_rows n p (rows_at s a n n work.now) (rows_at xs 0 n p x.now)) narrow.old }
+pub fn fill_o(narrow: &mut [f64], d: usize, work: &[f64], a: usize, s: usize, design: &LentDesign)
+    requires { Holds 6 d design.now.covariance.specimens design.now.coefficients (length narrow.old) × Holds s a design.now.covariance.specimens design.now.covariance.specimens (length work.now) × HeldX design.now }
+    ensures { narrow.new ≡ put_rows 6 d design.now.covariance.specimens design.now.coefficients (o_rows design.now.covariance.specimens design.now.coefficients (rows_at s a design.now.covariance.specimens design.now.covariance.specimens work.now) (x_rows design.now)) narrow.old }
 {
-    algebra_large_products::narrow::times_narrow(narrow, d, 6, work, a, s, x, 0, xs, n, n, p);
+    let n = design.covariance.specimens;
+    let p = design.coefficients;
+    algebra_large_products::narrow::times_narrow(
+        narrow,
+        d,
+        6,
+        work,
+        a,
+        s,
+        design.x,
+        0,
+        design.x_stride,
+        n,
+        n,
+        p,
+    );
 }
 
 // Cell (a, b) of OᵀT, with O at o and T at t.

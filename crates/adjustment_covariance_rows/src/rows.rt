@@ -6,33 +6,30 @@ ghost use Rattle.arithmetic.specs.Numbers.{plus_zero};
 ghost use Rattle.algebra.specs.Fold.{fold};
 ghost use Rattle.algebra.specs.Kind.{floats};
 ghost use Rattle.algebra.specs.Product.{at};
-ghost use Rattle.algebra_large.specs.joints.Slab.{rows_at, put_row, Holds};
+ghost use Rattle.algebra_large.specs.joints.Slab.{put_row};
 ghost use Rattle.adjustment.specs.Blocks.{places_before};
 ghost use Rattle.adjustment.specs.Covariance.{group_cell, block_cell, residual_cell, g_cell};
 ghost use Rattle.adjustment_covariance.specs.joints.Bounds.{Placed};
-ghost use Rattle.adjustment_covariance.specs.joints.Lent.{design, Lent};
+ghost use Rattle.adjustment_covariance.specs.joints.Lent.{weighted, weights, z_rows, Held, lent_design, Lent};
 
 use crate::cells::{cell_of, directed_cell, group_column};
-use adjustment::{Block, Place};
+use adjustment::{CovarianceDesign, Place};
 
 // Each cell gains the term of a group of one effect: u times column k of Z.
 pub fn gain_one(
     out: &mut [f64],
     d: usize,
     m: usize,
-    z: &[f64],
-    zs: usize,
-    n: usize,
-    columns: usize,
+    design: &CovarianceDesign,
     lo: usize,
     k: usize,
     u: f64,
 )
-    requires { (d + m ≤ length out.old) × Holds zs 0 n columns (length z.now) × (lo + m ≤ n) × (k < columns) }
-    ensures { out.new ≡ put_row d m (λ j. floats.plus (get_or out.old (d + j) nan) (floats.plus plus_zero (floats.times u (at floats (rows_at zs 0 n columns z.now) (lo + j) k)))) out.old }
+    requires { (d + m ≤ length out.old) × Held design.now × (lo + m ≤ design.now.specimens) × (k < design.now.columns) }
+    ensures { out.new ≡ put_row d m (λ j. floats.plus (get_or out.old (d + j) nan) (floats.plus plus_zero (floats.times u (at floats (z_rows design.now) (lo + j) k)))) out.old }
 {
     for j in 0..m {
-        let x = cell_of(z, zs, n, columns, lo + j, k);
+        let x = cell_of(design, lo + j, k);
         out[d + j] = out[d + j] + (0.0 + u * x);
     }
 }
@@ -42,22 +39,19 @@ pub fn gain_two(
     out: &mut [f64],
     d: usize,
     m: usize,
-    z: &[f64],
-    zs: usize,
-    n: usize,
-    columns: usize,
+    design: &CovarianceDesign,
     lo: usize,
     k: usize,
     u: f64,
     l: usize,
     v: f64,
 )
-    requires { (d + m ≤ length out.old) × Holds zs 0 n columns (length z.now) × (lo + m ≤ n) × (k < columns) × (l < columns) }
-    ensures { out.new ≡ put_row d m (λ j. floats.plus (get_or out.old (d + j) nan) (floats.plus (floats.plus plus_zero (floats.times u (at floats (rows_at zs 0 n columns z.now) (lo + j) k))) (floats.times v (at floats (rows_at zs 0 n columns z.now) (lo + j) l)))) out.old }
+    requires { (d + m ≤ length out.old) × Held design.now × (lo + m ≤ design.now.specimens) × (k < design.now.columns) × (l < design.now.columns) }
+    ensures { out.new ≡ put_row d m (λ j. floats.plus (get_or out.old (d + j) nan) (floats.plus (floats.plus plus_zero (floats.times u (at floats (z_rows design.now) (lo + j) k))) (floats.times v (at floats (z_rows design.now) (lo + j) l)))) out.old }
 {
     for j in 0..m {
-        let x = cell_of(z, zs, n, columns, lo + j, k);
-        let y = cell_of(z, zs, n, columns, lo + j, l);
+        let x = cell_of(design, lo + j, k);
+        let y = cell_of(design, lo + j, l);
         out[d + j] = out[d + j] + (0.0 + u * x + v * y);
     }
 }
@@ -67,27 +61,24 @@ pub fn gain_group(
     out: &mut [f64],
     d: usize,
     m: usize,
-    z: &[f64],
-    zs: usize,
-    n: usize,
-    columns: usize,
+    design: &CovarianceDesign,
     lo: usize,
     t: Place,
     g: usize,
     i: usize,
 )
-    requires { (d + m ≤ length out.old) × Holds zs 0 n columns (length z.now) × (lo + m ≤ n) × Placed t columns × (g < t.groups) × (i < n) }
-    ensures { out.new ≡ put_row d m (λ j. floats.plus (get_or out.old (d + j) nan) (group_cell (rows_at zs 0 n columns z.now) t g i (lo + j))) out.old }
+    requires { (d + m ≤ length out.old) × Held design.now × (lo + m ≤ design.now.specimens) × Placed t design.now.columns × (g < t.groups) × (i < design.now.specimens) }
+    ensures { out.new ≡ put_row d m (λ j. floats.plus (get_or out.old (d + j) nan) (group_cell (z_rows design.now) t g i (lo + j))) out.old }
 {
-    let k = group_column(t, columns, g, 0);
-    let u = directed_cell(z, zs, n, columns, t, g, i, 0);
+    let k = group_column(t, design.columns, g, 0);
+    let u = directed_cell(design, t, g, i, 0);
     if t.effects == 1 {
-        gain_one(out, d, m, z, zs, n, columns, lo, k, u);
+        gain_one(out, d, m, design, lo, k, u);
         return;
     }
-    let l = group_column(t, columns, g, 1);
-    let v = directed_cell(z, zs, n, columns, t, g, i, 1);
-    gain_two(out, d, m, z, zs, n, columns, lo, k, u, l, v);
+    let l = group_column(t, design.columns, g, 1);
+    let v = directed_cell(design, t, g, i, 1);
+    gain_two(out, d, m, design, lo, k, u, l, v);
 }
 
 // Each cell gains the terms of all groups, by rising index.
@@ -95,19 +86,16 @@ pub fn gain_groups(
     out: &mut [f64],
     d: usize,
     m: usize,
-    z: &[f64],
-    zs: usize,
-    n: usize,
-    columns: usize,
+    design: &CovarianceDesign,
     lo: usize,
     t: Place,
     i: usize,
 )
-    requires { (d + m ≤ length out.old) × Holds zs 0 n columns (length z.now) × (lo + m ≤ n) × Placed t columns × (i < n) }
-    ensures { out.new ≡ put_row d m (λ j. fold 0 t.groups (λ g y. floats.plus y (group_cell (rows_at zs 0 n columns z.now) t g i (lo + j))) (get_or out.old (d + j) nan)) out.old }
+    requires { (d + m ≤ length out.old) × Held design.now × (lo + m ≤ design.now.specimens) × Placed t design.now.columns × (i < design.now.specimens) }
+    ensures { out.new ≡ put_row d m (λ j. fold 0 t.groups (λ g y. floats.plus y (group_cell (z_rows design.now) t g i (lo + j))) (get_or out.old (d + j) nan)) out.old }
 {
     for g in 0..t.groups {
-        gain_group(out, d, m, z, zs, n, columns, lo, t, g, i);
+        gain_group(out, d, m, design, lo, t, g, i);
     }
 }
 
@@ -116,19 +104,16 @@ pub fn block_row(
     out: &mut [f64],
     d: usize,
     m: usize,
-    z: &[f64],
-    zs: usize,
-    n: usize,
-    columns: usize,
+    design: &CovarianceDesign,
     lo: usize,
     t: Place,
     i: usize,
 )
-    requires { (d + m ≤ length out.old) × Holds zs 0 n columns (length z.now) × (lo + m ≤ n) × Placed t columns × (i < n) }
-    ensures { out.new ≡ put_row d m (λ j. block_cell (rows_at zs 0 n columns z.now) t i (lo + j)) out.old }
+    requires { (d + m ≤ length out.old) × Held design.now × (lo + m ≤ design.now.specimens) × Placed t design.now.columns × (i < design.now.specimens) }
+    ensures { out.new ≡ put_row d m (λ j. block_cell (z_rows design.now) t i (lo + j)) out.old }
 {
     algebra_large::rows::clear_row(out, d, m);
-    gain_groups(out, d, m, z, zs, n, columns, lo, t, i);
+    gain_groups(out, d, m, design, lo, t, i);
 }
 
 // Row i of the last G.
@@ -136,16 +121,15 @@ pub fn residual_row(
     out: &mut [f64],
     d: usize,
     m: usize,
-    weighted: bool,
-    weights: &[f64],
+    design: &CovarianceDesign,
     lo: usize,
     i: usize,
 )
-    requires { (d + m ≤ length out.old) × (lo + m ≤ 18446744073709551615) × (weighted ≡ true → i < length weights.now) }
-    ensures { out.new ≡ put_row d m (λ j. residual_cell weighted weights.now i (lo + j)) out.old }
+    requires { (d + m ≤ length out.old) × (lo + m ≤ 18446744073709551615) × (weighted design.now ≡ true → i < length (weights design.now)) }
+    ensures { out.new ≡ put_row d m (λ j. residual_cell (weighted design.now) (weights design.now) i (lo + j)) out.old }
 {
     for j in 0..m {
-        out[d + j] = crate::cells::residual_cell(weighted, weights, i, lo + j);
+        out[d + j] = crate::cells::residual_cell(design, i, lo + j);
     }
 }
 
@@ -154,26 +138,20 @@ pub fn g_row(
     out: &mut [f64],
     d: usize,
     m: usize,
-    z: &[f64],
-    zs: usize,
-    n: usize,
-    columns: usize,
-    weighted: bool,
-    weights: &[f64],
-    blocks: [Block; 3],
-    count: usize,
+    design: &CovarianceDesign,
     lo: usize,
     r: usize,
     i: usize,
 )
-    requires { (d + m ≤ length out.old) × Lent n zs columns z.now weighted weights.now blocks count × (lo + m ≤ n) × (r ≤ places_before blocks count) × (i < n) }
-    ensures { out.new ≡ put_row d m (λ j. g_cell (design n (rows_at zs 0 n columns z.now) weighted weights.now blocks count []) r i (lo + j)) out.old }
+    requires { (d + m ≤ length out.old) × Lent design.now × (lo + m ≤ design.now.specimens) × (r ≤ places_before design.now.blocks design.now.count) × (i < design.now.specimens) }
+    ensures { out.new ≡ put_row d m (λ j. g_cell (lent_design design.now []) r i (lo + j)) out.old }
 {
-    let last = adjustment_covariance::blocks::places_before(blocks, count);
+    let last = adjustment_covariance::blocks::places_before(design.blocks, design.count);
     if r == last {
-        residual_row(out, d, m, weighted, weights, lo, i);
+        prove!(lo <= design.specimens);
+        residual_row(out, d, m, design, lo, i);
         return;
     }
-    let t = adjustment_covariance::blocks::place_of(blocks, count, r);
-    block_row(out, d, m, z, zs, n, columns, lo, t, i);
+    let t = adjustment_covariance::blocks::place_of(design.blocks, design.count, r);
+    block_row(out, d, m, design, lo, t, i);
 }

@@ -1,15 +1,12 @@
 -- How the calls from S on make up the definitions, and how the parts make up the whole.
-use Prim.Native.Nat.{ℕ, ◌+◌, ◌*◌, ◌<◌, ◌≤◌}
+use Prim.Native.Nat.{ℕ, ◌+◌, ◌*◌, ◌≤◌}
 use native.Mathlib.Omega.{arith}
 use mathlib.Core.Path.{◌≡◌, refl, sym, ap, ◌∙◌}
 use mathlib.Core.Bool.{Bool, true, false, cond}
 use mathlib.Core.List.{List, []}
-use lib.Dec.{eqb}
 use lib.ListN.{length}
 use lib.Ieee.{Float}
 use borrow.Author.Tests.{eq-eqb, ne_eqb}
-use Rattle.algebra.specs.Kind.{floats}
-use Rattle.algebra.specs.Jacobi.{State, jacobi}
 use Rattle.algebra_large.specs.joints.Slab.{rows_at, put_rows}
 use Rattle.algebra_large.proofs.SlabLaws.{length-put_rows, read_back}
 use Rattle.adjustment.specs.declared.Block.{Block}
@@ -18,7 +15,11 @@ use Rattle.algebra.specs.Small.{Rows}
 use Rattle.adjustment.specs.Blocks.{places_before}
 use Rattle.adjustment.specs.Covariance.{Design, matrices, g_cell, g_rows, sigma_rows, not_definite, cholesky, inverse_factor, inverse_factor_refused, precision}
 use Rattle.adjustment.specs.Information.{h_rows, o_rows, p_rows, q_rows, mirror}
-use Rattle.adjustment.specs.Adjusted.{Stack, Adjustment, stack, q_stack, h_stack, o_stack, p_stack, q_stack_of, ie_rows, eigen, from_precision, information_refused, output_not_finite, precision_of, adjustment, adjustment_reasons, adjustment_refusal}
+use Rattle.adjustment.specs.Adjusted.{Stack, Adjustment, stack, q_stack, h_stack, o_stack, p_stack, q_stack_of, ie_rows, eigen, from_precision, information_refused, precision_of, adjustment, adjustment_reasons, adjustment_refusal}
+use Rattle.adjustment.specs.declared.AdjustmentRefusal.{AdjustmentRefusal}
+use Rattle.adjustment.specs.declared.AdjustmentRefusal.TheVariants.{NotFinite, NotDefinite, ZeroPivot}
+use Rattle.adjustment.specs.Refusals.{adjustment_refusal_number, number_told}
+use Rattle.std.specs.Prelude.{Result, Ok, Err, IfOk, is_err}
 use Rattle.algebra.specs.Reasons.{first}
 use Rattle.adjustment_covariance.specs.joints.Lent.{design}
 use Rattle.adjustment_covariance.proofs.DesignLaws.{sigma-whole}
@@ -39,6 +40,25 @@ accepted-yes k new old e = rw (eq-eqb k 0 e)
 pub accepted-no : {A : Type 0} (k : ℕ) (new old : A) → (k ≡ 0 → ⊥) → accepted k new old ≡ old
 unfolding accepted
 accepted-no k new old e = rw (ne_eqb k 0 e)
+
+-- what an answer tells: 0 where it is accepted, and another number where it is refused
+pub told-ok : {A : Type 0} (r : Result A AdjustmentRefusal) → is_err r ≡ false → number_told r ≡ 0
+told-ok (Ok a) e = refl
+told-ok (Err b) e = absurd (cc e)
+
+pub refusal-above : (b : AdjustmentRefusal) → adjustment_refusal_number b ≡ 0 → ⊥
+refusal-above NotFinite e = omega arith
+refusal-above NotDefinite e = omega arith
+refusal-above ZeroPivot e = omega arith
+
+pub told-err : {A : Type 0} (r : Result A AdjustmentRefusal) → is_err r ≡ true → number_told r ≡ 0 → ⊥
+told-err (Ok a) e z = absurd (cc e)
+told-err (Err b) e z = refusal-above b z
+
+-- what is in an answer, given in another way
+pub value-is : {A : Type 0} (r : Result A AdjustmentRefusal) (a b : A) → a ≡ b → IfOk r (λ t. t ≡ a) → IfOk r (λ t. t ≡ b)
+value-is (Ok t) a b e h = h ∙ e
+value-is (Err t) a b e h = h
 
 -- The Hs, the Ps, the Qs and IE, of the series as it is lent, where the calls count k matrices.
 module _ (s n p k : ℕ) (x : List Float) (xs : ℕ) (z : List Float) (zs columns : ℕ) (weighted : Bool) (weights : List Float) (blocks : List Block) (count : ℕ)
@@ -78,6 +98,10 @@ module _ (c : Cutoffs) (d : Design) (phi : Rows) (sm : Rows) (k : ℕ) (ps qs : 
   pub adjusted-is : from_information c d.p k phi ps qs ie ≡ from_precision c d phi sm
   unfolding from_information from_precision inverted_of ps_of qs_of ie_of eigen
   adjusted-is = rw (ek, ep, eq, ei)
+
+  pub ps-kept : ps ≡ (from_precision c d phi sm).ps
+  unfolding from_information
+  ps-kept = ap (λ (t : Adjustment). t.ps) adjusted-is
 
   pub number_is : (sigma2 : Float) → information_refusal c d.p k phi sigma2 ps qs ie ≡ after_precision c d phi sigma2 sm
   unfolding information_refusal after_precision information_refused inverted_of ps_of qs_of ie_of eigen

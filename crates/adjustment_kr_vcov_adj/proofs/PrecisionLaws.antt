@@ -13,7 +13,7 @@ use Rattle.algebra.specs.Kind.{floats}
 use Rattle.algebra.specs.Product.{at, identity, cell, product, transpose}
 use Rattle.algebra.specs.Elimination.{eliminate_to, joined, back_to, solution, inverse, inverse_refused}
 use Rattle.algebra.specs.Cholesky.{cholesky_to, cholesky_refused, lower}
-use Rattle.algebra_large.specs.joints.Slab.{rows_at, put_row, put_rows, gram_of, Holds, Apart}
+use Rattle.algebra_large.specs.joints.Slab.{rows_at, put_row, put_rows, gram_of, Holds}
 use Rattle.algebra_large.specs.joints.Steps.{back_over}
 use Rattle.algebra_large.proofs.SlabLaws.{Shape, shape-rows_at, shape-table, row_in, row_fits, InRow, within, beyond, in_row, put_row-at, put_row-other, length-put_row, put_rows-at, put_rows-other, length-put_rows, put_rows-is}
 use Rattle.algebra_large.proofs.InPlace.{put-turn, read-now}

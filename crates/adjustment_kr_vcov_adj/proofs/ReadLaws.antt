@@ -5,7 +5,7 @@ use mathlib.Core.Path.{◌≡◌, refl, sym, ap, ◌∙◌}
 use mathlib.Core.Bool.{cond}
 use mathlib.Core.List.{List, []}
 use lib.Dec.{leb}
-use lib.ListN.{get_or, length, set, replicate, length-replicate}
+use lib.ListN.{length, set, replicate, length-replicate}
 use lib.Ieee.{Float}
 use Rattle.arithmetic.specs.Numbers.{plus_zero}
 use Rattle.algebra.specs.Fold.{fold}
@@ -14,7 +14,7 @@ use Rattle.algebra.specs.Kind.{floats}
 use Rattle.algebra.specs.Product.{cell, product}
 use Rattle.algebra.proofs.FoldLaws.{fold-ext, span-at}
 use Rattle.algebra.proofs.TableLaws.{table-ext}
-use Rattle.algebra_large.specs.joints.Slab.{rows_at, put_rows, Holds, Apart}
+use Rattle.algebra_large.specs.joints.Slab.{put_rows}
 use Rattle.algebra_large.proofs.SlabLaws.{Shape, shape-table, length-put_rows, read_back}
 use Rattle.algebra.specs.Small.{Rows}
 use Rattle.adjustment.specs.Covariance.{Design, matrices, g_rows}

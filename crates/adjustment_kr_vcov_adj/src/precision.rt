@@ -6,12 +6,13 @@ ghost use Rattle.algebra.specs.Product.{identity};
 ghost use Rattle.algebra.specs.Elimination.{eliminate_to, joined};
 ghost use Rattle.algebra_large.specs.joints.Slab.{rows_at, put_row, put_rows, gram_of, Holds, Apart};
 ghost use Rattle.adjustment.specs.Covariance.{cholesky, not_definite, inverse_factor, inverse_factor_refused, precision, sigma_rows};
-ghost use Rattle.adjustment_covariance.specs.joints.Lent.{design, Lent};
+ghost use Rattle.adjustment.specs.Refusals.{number_told};
+ghost use Rattle.adjustment_covariance.specs.joints.Lent.{lent_design, Lent};
 ghost use Rattle.adjustment_work.specs.joints.Work.{square, zeros, precision_in};
 ghost use Rattle.adjustment_adjusted.specs.joints.FromInformation.{accepted};
 ghost use Rattle.adjustment_kr_vcov_adj.specs.joints.Parts.{precision_refusal};
 
-use adjustment::Block;
+use adjustment::{AdjustmentRefusal, CovarianceDesign};
 use adjustment_work::squares::{clear_all, clear_rest, square_at};
 
 // Square 2 becomes L, the Cholesky factor of Σ in square 0; true where a diagonal is not above zero, and L is of no use.
@@ -58,38 +59,30 @@ pub fn fill_precision(work: &mut [f64], s: usize, n: usize)
     precision_at(work, a, b, s, n);
 }
 
-// Σ in square 0 and S in square 1, of a work slice that is cleared first, and ends as zeros elsewhere. A refusal, 9 or 10, leaves zeros alone.
+// Σ in square 0 and S in square 1, of a work slice that is cleared first, and ends as zeros elsewhere. A refusal, for a Σ that is not definite or a zero pivot, leaves zeros alone.
 pub fn sigma_and_precision(
     work: &mut [f64],
     s: usize,
-    z: &[f64],
-    zs: usize,
-    n: usize,
-    columns: usize,
-    weighted: bool,
-    weights: &[f64],
-    blocks: [Block; 3],
-    count: usize,
+    design: &CovarianceDesign,
     theta: [f64; 3],
-) -> u32
-    requires { (n ≤ s) × (6 * (s * s) ≤ length work.old) × Lent n zs columns z.now weighted weights.now blocks count }
-    ensures value { result ≡ precision_refusal (design n (rows_at zs 0 n columns z.now) weighted weights.now blocks count theta) }
-    ensures work_after { work.new ≡ accepted result (precision_in s (length work.old) (design n (rows_at zs 0 n columns z.now) weighted weights.now blocks count theta)) (zeros (length work.old)) }
+) -> Result<(), AdjustmentRefusal>
+    requires { (design.now.specimens ≤ s) × (6 * (s * s) ≤ length work.old) × Lent design.now }
+    ensures told { number_told result ≡ precision_refusal (lent_design design.now theta) }
+    ensures work_after { work.new ≡ accepted (number_told result) (precision_in s (length work.old) (lent_design design.now theta)) (zeros (length work.old)) }
 {
+    let n = design.specimens;
     clear_all(work);
     let a = square_at(s, 0, work.len());
-    adjustment_sigma::build_sigma_g(
-        work, a, s, z, zs, n, columns, weighted, weights, blocks, count, theta,
-    );
+    adjustment_sigma::build_sigma_g(work, a, s, design, theta);
     if fill_factor(work, s, n) {
         clear_all(work);
-        return 9;
+        return Err(AdjustmentRefusal::NotDefinite);
     }
     if fill_inverse(work, s, n) {
         clear_all(work);
-        return 10;
+        return Err(AdjustmentRefusal::ZeroPivot);
     }
     fill_precision(work, s, n);
     clear_rest(work, s);
-    0
+    Ok(())
 }

@@ -11,9 +11,9 @@ ghost use Rattle.adjustment.specs.Blocks.{places_before};
 ghost use Rattle.adjustment.specs.Covariance.{factor, g_cell, g_rows, sigma_cell, sigma_rows};
 ghost use Rattle.adjustment.specs.Information.{h_rows};
 ghost use Rattle.adjustment_covariance.specs.joints.Bounds.{Sound};
-ghost use Rattle.adjustment_covariance.specs.joints.Lent.{design, Lent, gained_with};
+ghost use Rattle.adjustment_covariance.specs.joints.Lent.{design, lent_design, Lent, gained_with};
 
-use adjustment::Block;
+use adjustment::{Block, CovarianceDesign};
 use adjustment_covariance_rows::rows::g_row;
 
 // The factor of G_r in Σ. It looks at neither Z nor the weights.
@@ -45,29 +45,20 @@ pub fn gain_sigma(
     work: &mut [f64],
     a: usize,
     row: &mut [f64],
-    z: &[f64],
-    zs: usize,
-    n: usize,
-    columns: usize,
-    weighted: bool,
-    weights: &[f64],
-    blocks: [Block; 3],
-    count: usize,
+    design: &CovarianceDesign,
     theta: [f64; 3],
     i: usize,
     lo: usize,
     m: usize,
 )
-    requires m_in_bounds { (a + m ≤ length work.old) × (m ≤ length row.old) × (lo + m ≤ n) }
-    requires lent { Lent n zs columns z.now weighted weights.now blocks count × (i < n) }
-    ensures { work.new ≡ put_row a m (λ j. fold 0 (places_before blocks count + 1) (λ r y. floats.plus y (floats.times (factor (design n (rows_at zs 0 n columns z.now) weighted weights.now blocks count theta) r) (g_cell (design n (rows_at zs 0 n columns z.now) weighted weights.now blocks count theta) r i (lo + j)))) (get_or work.old (a + j) nan)) work.old }
+    requires m_in_bounds { (a + m ≤ length work.old) × (m ≤ length row.old) × (lo + m ≤ design.now.specimens) }
+    requires lent { Lent design.now × (i < design.now.specimens) }
+    ensures { work.new ≡ put_row a m (λ j. fold 0 (places_before design.now.blocks design.now.count + 1) (λ r y. floats.plus y (floats.times (factor (lent_design design.now theta) r) (g_cell (lent_design design.now theta) r i (lo + j)))) (get_or work.old (a + j) nan)) work.old }
 {
-    let last = adjustment_covariance::blocks::places_before(blocks, count);
+    let last = adjustment_covariance::blocks::places_before(design.blocks, design.count);
     for r in 0..last + 1 {
-        g_row(
-            row, 0, m, z, zs, n, columns, weighted, weights, blocks, count, lo, r, i,
-        );
-        let f = factor(blocks, count, theta, r);
+        g_row(row, 0, m, design, lo, r, i);
+        let f = factor(design.blocks, design.count, theta, r);
         algebra_large_products::narrow::gain_from(work, a, row, 0, m, f);
     }
 }
@@ -76,67 +67,31 @@ pub fn gain_sigma(
 pub fn sigma_part(
     work: &mut [f64],
     a: usize,
-    z: &[f64],
-    zs: usize,
-    n: usize,
-    columns: usize,
-    weighted: bool,
-    weights: &[f64],
-    blocks: [Block; 3],
-    count: usize,
+    design: &CovarianceDesign,
     theta: [f64; 3],
     i: usize,
     lo: usize,
     m: usize,
 )
-    requires m_in_bounds { (a + m ≤ length work.old) × (m ≤ 24) × (lo + m ≤ n) }
-    requires lent { Lent n zs columns z.now weighted weights.now blocks count × (i < n) }
-    ensures { work.new ≡ put_row a m (λ j. sigma_cell (design n (rows_at zs 0 n columns z.now) weighted weights.now blocks count theta) i (lo + j)) work.old }
+    requires m_in_bounds { (a + m ≤ length work.old) × (m ≤ 24) × (lo + m ≤ design.now.specimens) }
+    requires lent { Lent design.now × (i < design.now.specimens) }
+    ensures { work.new ≡ put_row a m (λ j. sigma_cell (lent_design design.now theta) i (lo + j)) work.old }
 {
     let mut row = [0.0; 24];
     algebra_large::rows::clear_row(work, a, m);
-    gain_sigma(
-        work, a, &mut row, z, zs, n, columns, weighted, weights, blocks, count, theta, i, lo, m,
-    );
+    gain_sigma(work, a, &mut row, design, theta, i, lo, m);
 }
 
 // Row i of Σ, at a.
-pub fn sigma_row(
-    work: &mut [f64],
-    a: usize,
-    z: &[f64],
-    zs: usize,
-    n: usize,
-    columns: usize,
-    weighted: bool,
-    weights: &[f64],
-    blocks: [Block; 3],
-    count: usize,
-    theta: [f64; 3],
-    i: usize,
-)
-    requires { (a + n ≤ length work.old) × Lent n zs columns z.now weighted weights.now blocks count × (i < n) }
-    ensures { work.new ≡ put_row a n (sigma_cell (design n (rows_at zs 0 n columns z.now) weighted weights.now blocks count theta) i) work.old }
+pub fn sigma_row(work: &mut [f64], a: usize, design: &CovarianceDesign, theta: [f64; 3], i: usize)
+    requires { (a + design.now.specimens ≤ length work.old) × Lent design.now × (i < design.now.specimens) }
+    ensures { work.new ≡ put_row a design.now.specimens (sigma_cell (lent_design design.now theta) i) work.old }
 {
+    let n = design.specimens;
     let mut lo = 0;
     while lo < n {
         let m = part(n, lo);
-        sigma_part(
-            work,
-            a + lo,
-            z,
-            zs,
-            n,
-            columns,
-            weighted,
-            weights,
-            blocks,
-            count,
-            theta,
-            i,
-            lo,
-            m,
-        );
+        sigma_part(work, a + lo, design, theta, i, lo, m);
         lo = lo + m;
     }
 }
@@ -146,24 +101,16 @@ pub fn build_sigma_g(
     work: &mut [f64],
     d: usize,
     s: usize,
-    z: &[f64],
-    zs: usize,
-    n: usize,
-    columns: usize,
-    weighted: bool,
-    weights: &[f64],
-    blocks: [Block; 3],
-    count: usize,
+    design: &CovarianceDesign,
     theta: [f64; 3],
 )
-    requires { Holds s d n n (length work.old) × Lent n zs columns z.now weighted weights.now blocks count }
-    ensures { work.new ≡ put_rows s d n n (sigma_rows (design n (rows_at zs 0 n columns z.now) weighted weights.now blocks count theta)) work.old }
+    requires { Holds s d design.now.specimens design.now.specimens (length work.old) × Lent design.now }
+    ensures { work.new ≡ put_rows s d design.now.specimens design.now.specimens (sigma_rows (lent_design design.now theta)) work.old }
 {
+    let n = design.specimens;
     for i in 0..n {
         let a = algebra_large::rows::start(d, s, i, n, n, work.len());
-        sigma_row(
-            work, a, z, zs, n, columns, weighted, weights, blocks, count, theta, i,
-        );
+        sigma_row(work, a, design, theta, i);
     }
 }
 
@@ -185,27 +132,19 @@ pub fn gain_part(
     a: usize,
     q: usize,
     s: usize,
-    z: &[f64],
-    zs: usize,
-    n: usize,
-    columns: usize,
-    weighted: bool,
-    weights: &[f64],
-    blocks: [Block; 3],
-    count: usize,
+    design: &CovarianceDesign,
     r: usize,
     i: usize,
     lo: usize,
     m: usize,
 )
-    requires n_in_bounds { (a + n ≤ length work.old) × Holds s q n n (length work.old) × Apart a n q (n * s) × (m ≤ 24) × (lo + m ≤ n) × (lo < n) }
-    requires lent { Lent n zs columns z.now weighted weights.now blocks count × (r ≤ places_before blocks count) × (i < n) }
-    ensures { work.new ≡ put_row a n (λ j. gained_with m (λ k. g_cell (design n (rows_at zs 0 n columns z.now) weighted weights.now blocks count []) r i (lo + k)) work.old (q + lo * s) s (get_or work.old (a + j) nan) j) work.old }
+    requires n_in_bounds { (a + design.now.specimens ≤ length work.old) × Holds s q design.now.specimens design.now.specimens (length work.old) × Apart a design.now.specimens q (design.now.specimens * s) × (m ≤ 24) × (lo + m ≤ design.now.specimens) × (lo < design.now.specimens) }
+    requires lent { Lent design.now × (r ≤ places_before design.now.blocks design.now.count) × (i < design.now.specimens) }
+    ensures { work.new ≡ put_row a design.now.specimens (λ j. gained_with m (λ k. g_cell (lent_design design.now []) r i (lo + k)) work.old (q + lo * s) s (get_or work.old (a + j) nan) j) work.old }
 {
+    let n = design.specimens;
     let mut row = [0.0; 24];
-    g_row(
-        &mut row, 0, m, z, zs, n, columns, weighted, weights, blocks, count, lo, r, i,
-    );
+    g_row(&mut row, 0, m, design, lo, r, i);
     let b = algebra_large::rows::start(q, s, lo, n, n, work.len());
     gain_cells(work, a, &row, b, s, n, m);
 }
@@ -216,27 +155,19 @@ pub fn gain_g(
     a: usize,
     q: usize,
     s: usize,
-    z: &[f64],
-    zs: usize,
-    n: usize,
-    columns: usize,
-    weighted: bool,
-    weights: &[f64],
-    blocks: [Block; 3],
-    count: usize,
+    design: &CovarianceDesign,
     r: usize,
     i: usize,
 )
-    requires n_in_bounds { (a + n ≤ length work.old) × Holds s q n n (length work.old) × Apart a n q (n * s) }
-    requires lent { Lent n zs columns z.now weighted weights.now blocks count × (r ≤ places_before blocks count) × (i < n) }
-    ensures { work.new ≡ put_row a n (λ j. gained_with n (g_cell (design n (rows_at zs 0 n columns z.now) weighted weights.now blocks count []) r i) work.old q s (get_or work.old (a + j) nan) j) work.old }
+    requires n_in_bounds { (a + design.now.specimens ≤ length work.old) × Holds s q design.now.specimens design.now.specimens (length work.old) × Apart a design.now.specimens q (design.now.specimens * s) }
+    requires lent { Lent design.now × (r ≤ places_before design.now.blocks design.now.count) × (i < design.now.specimens) }
+    ensures { work.new ≡ put_row a design.now.specimens (λ j. gained_with design.now.specimens (g_cell (lent_design design.now []) r i) work.old q s (get_or work.old (a + j) nan) j) work.old }
 {
+    let n = design.specimens;
     let mut lo = 0;
     while lo < n {
         let m = part(n, lo);
-        gain_part(
-            work, a, q, s, z, zs, n, columns, weighted, weights, blocks, count, r, i, lo, m,
-        );
+        gain_part(work, a, q, s, design, r, i, lo, m);
         lo = lo + m;
     }
 }
@@ -247,51 +178,28 @@ pub fn h_row(
     a: usize,
     q: usize,
     s: usize,
-    z: &[f64],
-    zs: usize,
-    n: usize,
-    columns: usize,
-    weighted: bool,
-    weights: &[f64],
-    blocks: [Block; 3],
-    count: usize,
+    design: &CovarianceDesign,
     r: usize,
     i: usize,
 )
-    requires n_in_bounds { (a + n ≤ length work.old) × Holds s q n n (length work.old) × Apart a n q (n * s) }
-    requires lent { Lent n zs columns z.now weighted weights.now blocks count × (r ≤ places_before blocks count) × (i < n) }
-    ensures { work.new ≡ put_row a n (gained_with n (g_cell (design n (rows_at zs 0 n columns z.now) weighted weights.now blocks count []) r i) work.old q s plus_zero) work.old }
+    requires n_in_bounds { (a + design.now.specimens ≤ length work.old) × Holds s q design.now.specimens design.now.specimens (length work.old) × Apart a design.now.specimens q (design.now.specimens * s) }
+    requires lent { Lent design.now × (r ≤ places_before design.now.blocks design.now.count) × (i < design.now.specimens) }
+    ensures { work.new ≡ put_row a design.now.specimens (gained_with design.now.specimens (g_cell (lent_design design.now []) r i) work.old q s plus_zero) work.old }
 {
+    let n = design.specimens;
     algebra_large::rows::clear_row(work, a, n);
-    gain_g(
-        work, a, q, s, z, zs, n, columns, weighted, weights, blocks, count, r, i,
-    );
+    gain_g(work, a, q, s, design, r, i);
 }
 
 // The matrix at d becomes H_r, with S at q.
-pub fn fill_h(
-    work: &mut [f64],
-    d: usize,
-    q: usize,
-    s: usize,
-    z: &[f64],
-    zs: usize,
-    n: usize,
-    columns: usize,
-    weighted: bool,
-    weights: &[f64],
-    blocks: [Block; 3],
-    count: usize,
-    r: usize,
-)
-    requires holds { Holds s d n n (length work.old) × Holds s q n n (length work.old) × Apart d (n * s) q (n * s) }
-    requires lent { Lent n zs columns z.now weighted weights.now blocks count × (r ≤ places_before blocks count) }
-    ensures { work.new ≡ put_rows s d n n (h_rows n (g_rows (design n (rows_at zs 0 n columns z.now) weighted weights.now blocks count []) r) (rows_at s q n n work.old)) work.old }
+pub fn fill_h(work: &mut [f64], d: usize, q: usize, s: usize, design: &CovarianceDesign, r: usize)
+    requires holds { Holds s d design.now.specimens design.now.specimens (length work.old) × Holds s q design.now.specimens design.now.specimens (length work.old) × Apart d (design.now.specimens * s) q (design.now.specimens * s) }
+    requires lent { Lent design.now × (r ≤ places_before design.now.blocks design.now.count) }
+    ensures { work.new ≡ put_rows s d design.now.specimens design.now.specimens (h_rows design.now.specimens (g_rows (lent_design design.now []) r) (rows_at s q design.now.specimens design.now.specimens work.old)) work.old }
 {
+    let n = design.specimens;
     for i in 0..n {
         let a = algebra_large::rows::start(d, s, i, n, n, work.len());
-        h_row(
-            work, a, q, s, z, zs, n, columns, weighted, weights, blocks, count, r, i,
-        );
+        h_row(work, a, q, s, design, r, i);
     }
 }

@@ -2,11 +2,10 @@
 use Prim.Native.Nat.{ℕ, ◌+◌, ◌*◌, ◌<◌, ◌≤◌}
 use native.Mathlib.Omega.{arith}
 use native.Mathlib.Decide.{dec_lt}
-use mathlib.Core.Path.{◌≡◌, refl, sym, ap, ◌∙◌}
+use mathlib.Core.Path.{◌≡◌, refl, ap, ◌∙◌}
 use mathlib.Core.List.{List}
-use lib.ListN.{get_or, length, set}
-use lib.Ieee.{Float, nan}
-use Rattle.algebra.specs.Fold.{fold}
+use lib.ListN.{length}
+use lib.Ieee.{Float}
 use Rattle.algebra.proofs.FoldLaws.{fold_start, fold_next, fold_end, fold-keeps, fold-steps}
 use Rattle.algebra_large.specs.joints.Slab.{rows_at, put_rows, Holds, Apart}
 use Rattle.algebra_large.proofs.SlabLaws.{Shape, length-put_rows, read_back, frame}

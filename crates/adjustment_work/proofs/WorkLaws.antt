@@ -2,16 +2,16 @@
 use Prim.Native.Nat.{ℕ, zero, suc, ◌+◌, ◌-◌, ◌*◌, ◌<◌, ◌≤◌}
 use native.Mathlib.Omega.{arith}
 use native.Mathlib.Decide.{dec_lt}
-use native.Mathlib.Nat.{mul-le-mul_right, mul-le-mul_left, suc-mul, mul_comm}
-use mathlib.Core.Path.{◌≡◌, refl, sym, ap, ◌∙◌}
+use native.Mathlib.Nat.{mul-le-mul_right, suc-mul}
+use mathlib.Core.Path.{◌≡◌, sym, ap, ◌∙◌}
 use mathlib.Core.List.{List}
-use mathlib.Core.Logic.{◌⊎◌, inl, inr}
-use lib.ListN.{get_or, length, replicate, length-replicate, get_or-replicate}
+use mathlib.Core.Logic.{inl, inr}
+use lib.ListN.{get_or, length, length-replicate, get_or-replicate}
 use lib.Seq.{ext_get_or}
 use lib.Ieee.{Float, nan}
 use Rattle.arithmetic.specs.Numbers.{plus_zero}
-use Rattle.algebra_large.specs.joints.Slab.{rows_at, put_row, put_rows, Holds, Apart}
-use Rattle.algebra_large.proofs.SlabLaws.{put_row-at, put_row-other, length-put_row, put_rows-other, length-put_rows, InRow, within, beyond, in_row}
+use Rattle.algebra_large.specs.joints.Slab.{put_row, Holds, Apart}
+use Rattle.algebra_large.proofs.SlabLaws.{put_row-at, length-put_row}
 use Rattle.adjustment_work.specs.joints.Work.{square, part, zeros}
 
 -- block k of six blocks of b elements ends in the list

@@ -5,6 +5,7 @@ use Rattle.algebra.specs.Kind.{floats}
 use Rattle.algebra.specs.Jacobi.{State, jacobi}
 use Rattle.arithmetic_cutoffs.specs.declared.Cutoffs.{Cutoffs}
 use Rattle.algebra.specs.Small.{Rows}
+use Rattle.adjustment.specs.declared.AdjustedPhi.{AdjustedPhi}
 use Rattle.adjustment.specs.Information.{inverted, w_rows, w_refused}
 use Rattle.adjustment.specs.Adjusted.{Stack, Adjustment, u_rows, phi_a_rows, output_not_finite}
 
@@ -22,6 +23,10 @@ from_information c p N phi ps qs ie =
 unfoldable pub information_refusal : Cutoffs → ℕ → ℕ → Rows → Float → Stack → Stack → Rows → ℕ
 information_refusal c p N phi sigma2 ps qs ie =
     cond (w_refused N (inverted_of c N ie)) 10 (cond (output_not_finite p N phi sigma2 (from_information c p N phi ps qs ie)) 4 0)
+
+-- an adjustment without its Ps, as the code returns it
+abbrev pub phi_side : Adjustment → AdjustedPhi
+phi_side a = record { phi_a = a.phi_a; w = a.w; rotations = a.rotations }
 
 -- what is lent for an answer: the new contents where the number says accepted, 0, and the other where it says refused
 unfoldable pub accepted : {A : Type 0} → ℕ → A → A → A

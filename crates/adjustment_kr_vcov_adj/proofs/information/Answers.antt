@@ -1,9 +1,8 @@
 -- `adjustment_kr_vcov_adj::information` meets its contract.
 use Rattle.adjustment_kr_vcov_adj.proofs.CallLaws.{work-is, ps-call, qs-call, ie-call}
 use Rattle.adjustment_work.specs.joints.Work.{zeros}
-use mathlib.Core.Path.{◌≡◌, refl, ap, ◌∙◌}
+use mathlib.Core.Path.{ap, ◌∙◌}
 use native.Mathlib.Omega.{arith}
-use borrow.Author.Rules.{rules}
 use Rattle.adjustment_kr_vcov_adj.proofs.information.Goals as goal
 
 pub ps_of-all_p-requires : goal.ps_of-all_p-requires
@@ -40,4 +39,4 @@ returns c =
     let ps = c.ps_of-all_p.ensures in
     let qs = c.qs_of-all_q.ensures in
     let hn = g.sized.0.high in
-    let hN = g.lent.0.sound.thetas in record { work_after = work-is a.s a.n a.p a.k a.x.now a.xs a.z.now a.zs a.columns a.weighted a.weights.now a.blocks a.count a.work.now _ hn hN g.sized.0.squares g.lent.1 hs; narrow_after = c.clear_all.ensures ∙ ap zeros (c.qs_of-all_q.auto.narrow ∙ c.fill_os.auto.narrow ∙ c.fill_sx.auto.narrow); ps_after = ps-call a.s a.n a.p a.k a.x.now a.xs a.z.now a.zs a.columns a.weighted a.weights.now a.blocks a.count a.work.now _ hn hN g.sized.0.squares g.lent.1 hs a.narrow.now _ _ g.sized.0.few g.sized.0.parts sx os _ ps; qs_after = qs-call a.s a.n a.p a.k a.x.now a.xs a.z.now a.zs a.columns a.weighted a.weights.now a.blocks a.count a.work.now _ hn hN g.sized.0.squares g.lent.1 hs a.narrow.now _ _ g.sized.0.few g.sized.0.parts sx os _ qs.value; value = ie-call a.s a.n a.p a.k a.x.now a.xs a.z.now a.zs a.columns a.weighted a.weights.now a.blocks a.count a.work.now _ hn hN g.sized.0.squares g.lent.1 hs a.narrow.now _ _ g.sized.0.few g.sized.0.parts sx os _ _ _ _ ps qs.value c.ie_of.ensures }
+    let hN = g.lent.0.sound.thetas in record { work_after = work-is a.s _ _ a.k _ _ _ _ _ _ _ _ _ a.work.now _ hn hN g.sized.0.squares g.lent.1 hs; narrow_after = c.clear_all.ensures ∙ ap zeros (c.qs_of-all_q.auto.narrow ∙ c.fill_os.auto.narrow ∙ c.fill_sx.auto.narrow); ps_after = ps-call a.s _ _ a.k _ _ _ _ _ _ _ _ _ a.work.now _ hn hN g.sized.0.squares g.lent.1 hs a.narrow.now _ _ g.sized.0.few g.sized.0.parts sx os _ ps; qs_after = qs-call a.s _ _ a.k _ _ _ _ _ _ _ _ _ a.work.now _ hn hN g.sized.0.squares g.lent.1 hs a.narrow.now _ _ g.sized.0.few g.sized.0.parts sx os _ qs.value; value = ie-call a.s _ _ a.k _ _ _ _ _ _ _ _ _ a.work.now _ hn hN g.sized.0.squares g.lent.1 hs a.narrow.now _ _ g.sized.0.few g.sized.0.parts sx os _ _ _ _ ps qs.value c.ie_of.ensures }

@@ -1,12 +1,8 @@
 -- `adjustment_sigma::build_sigma_g` meets its contract.
-use Prim.Native.Nat.{◌≤◌, ◌-◌}
-use mathlib.Core.Path.{◌≡◌, refl, sym, ◌∙◌}
-use lib.ListN.{length}
+use mathlib.Core.Path.{refl, sym, ◌∙◌}
 use Rattle.algebra.proofs.FoldLaws.{fold_start, fold_end}
-use Rattle.algebra_large.specs.joints.Slab.{rows_at, put_rows}
+use Rattle.algebra_large.specs.joints.Slab.{put_rows}
 use Rattle.algebra_large.proofs.SlabLaws.{fill_more}
-use Rattle.adjustment.specs.Covariance.{sigma_rows}
-use Rattle.adjustment_covariance.specs.joints.Lent.{design}
 use Rattle.adjustment_covariance.proofs.DesignLaws.{sigma-at}
 use native.Mathlib.Omega.{arith}
 use Rattle.adjustment_sigma.proofs.build_sigma_g.Goals as goal

@@ -6,7 +6,6 @@ use lib.Ieee.{of_bits}
 use borrow.Author.Tests.{eq-eqb}
 use Rattle.adjustment.specs.Covariance.{factor}
 use Rattle.adjustment_covariance.proofs.DesignLaws.{factor-own}
-use borrow.Author.Rules.{rules}
 use Rattle.adjustment_sigma.proofs.factor.Goals as goal
 
 pub returns-then-r-last : goal.returns-then-r-last

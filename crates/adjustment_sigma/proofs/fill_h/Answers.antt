@@ -1,15 +1,9 @@
 -- `adjustment_sigma::fill_h` meets its contract.
-use Prim.Native.Nat.{◌≤◌, ◌-◌}
-use mathlib.Core.Path.{◌≡◌, refl, ◌∙◌}
-use mathlib.Core.List.{[]}
-use lib.ListN.{length}
+use mathlib.Core.Path.{refl, ◌∙◌}
 use Rattle.algebra.proofs.FoldLaws.{fold_start, fold_end}
-use Rattle.algebra_large.specs.joints.Slab.{rows_at, put_rows}
+use Rattle.algebra_large.specs.joints.Slab.{put_rows}
 use Rattle.algebra_large.proofs.SlabLaws.{fill_more}
 use Rattle.algebra_large.proofs.ProductLaws.{row-apart-whole}
-use Rattle.adjustment.specs.Covariance.{g_rows}
-use Rattle.adjustment.specs.Information.{h_rows}
-use Rattle.adjustment_covariance.specs.joints.Lent.{design}
 use Rattle.adjustment_covariance.proofs.GainLaws.{h-cells}
 use native.Mathlib.Omega.{arith}
 use Rattle.adjustment_sigma.proofs.fill_h.Goals as goal

@@ -1,11 +1,9 @@
 -- `adjustment_sigma::gain_cells` meets its contract.
-use Prim.Native.Nat.{ℕ, ◌≤◌, ◌-◌, ◌+◌}
-use mathlib.Core.Path.{◌≡◌, refl, ap, ◌∙◌}
-use lib.ListN.{length, get_or}
+use Prim.Native.Nat.{ℕ, ◌+◌}
+use mathlib.Core.Path.{refl, ap, ◌∙◌}
+use lib.ListN.{get_or}
 use lib.Ieee.{nan}
-use Rattle.algebra_large.specs.joints.Slab.{put_row}
 use Rattle.algebra_large.proofs.ProductLaws.{apart-cell, row-apart-of}
-use Rattle.adjustment_covariance.specs.joints.Lent.{gained_with}
 use Rattle.adjustment_covariance.proofs.GainLaws.{with_none, with-more, with-end}
 use native.Mathlib.Omega.{arith}
 use Rattle.adjustment_sigma.proofs.gain_cells.Goals as goal

@@ -1,12 +1,9 @@
-use Prim.Native.Nat.{ℕ, ◌≤◌, ◌-◌, ◌+◌}
-use mathlib.Core.Path.{◌≡◌, refl, ap, ◌∙◌}
+use Prim.Native.Nat.{◌≤◌, ◌-◌, ◌+◌}
+use mathlib.Core.Path.{◌≡◌}
 use lib.ListN.{length, get_or}
 use lib.Ieee.{nan}
 use Rattle.algebra_large.specs.joints.Slab.{put_row}
-use Rattle.algebra_large.proofs.ProductLaws.{apart-cell, row-apart-of}
 use Rattle.adjustment_covariance.specs.joints.Lent.{gained_with}
-use Rattle.adjustment_covariance.proofs.GainLaws.{with_none, with-more, with-end}
-use native.Mathlib.Omega.{arith}
 use Rattle.adjustment_sigma.proofs.gain_cells.Given as goal
 
 abbrev pub invariant-loop-k : goal.invariant-loop-k

@@ -1,12 +1,5 @@
 -- `adjustment_sigma::gain_g` meets its contract.
-use Prim.Native.Nat.{◌≤◌, ◌-◌, ◌+◌}
-use mathlib.Core.Path.{◌≡◌, refl, ◌∙◌}
-use mathlib.Core.List.{[]}
-use lib.ListN.{length, get_or}
-use lib.Ieee.{nan}
-use Rattle.algebra_large.specs.joints.Slab.{rows_at, put_row}
-use Rattle.adjustment.specs.Covariance.{g_cell}
-use Rattle.adjustment_covariance.specs.joints.Lent.{design, gained_with}
+use mathlib.Core.Path.{refl, ◌∙◌}
 use Rattle.adjustment_covariance.proofs.GainLaws.{with_none, with-end}
 use Rattle.adjustment_sigma.proofs.PartLaws.{with-join}
 use native.Mathlib.Omega.{arith}

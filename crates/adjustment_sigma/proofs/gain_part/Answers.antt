@@ -1,7 +1,6 @@
 -- `adjustment_sigma::gain_part` meets its contract.
 use Rattle.adjustment_sigma.proofs.PartLaws.{part-holds, part_apart, with-made}
 use native.Mathlib.Omega.{arith}
-use borrow.Author.Rules.{rules}
 use Rattle.adjustment_sigma.proofs.gain_part.Goals as goal
 
 pub gain_cells-requires : goal.gain_cells-requires

@@ -1,15 +1,10 @@
 -- `adjustment_sigma::gain_sigma` meets its contract.
-use Prim.Native.Nat.{◌≤◌, ◌-◌, ◌+◌}
-use mathlib.Core.Path.{◌≡◌, refl, ◌∙◌}
-use lib.ListN.{length, get_or}
+use Prim.Native.Nat.{◌+◌}
+use mathlib.Core.Path.{refl, ◌∙◌}
+use lib.ListN.{get_or}
 use lib.Ieee.{nan}
-use Rattle.algebra.specs.Kind.{floats}
-use Rattle.algebra_large.specs.joints.Slab.{rows_at, put_row}
 use Rattle.algebra_large.proofs.ProductLaws.{terms-more}
-use Rattle.adjustment.specs.Blocks.{places_before}
-use Rattle.adjustment.specs.Covariance.{factor, g_cell}
-use Rattle.adjustment_covariance.specs.joints.Lent.{design}
-use Rattle.adjustment_covariance_rows.proofs.RowLaws.{gained_terms, terms-none, terms-end}
+use Rattle.adjustment_covariance_rows.proofs.RowLaws.{terms-none, terms-end}
 use Rattle.adjustment_sigma.proofs.PartLaws.{sigma-turn}
 use native.Mathlib.Omega.{arith}
 use Rattle.adjustment_sigma.proofs.gain_sigma.Goals as goal

@@ -3,7 +3,6 @@ use mathlib.Core.Path.{refl}
 use Rattle.algebra_large.proofs.ProductLaws.{apart-cell}
 use Rattle.adjustment_covariance.proofs.GainLaws.{with-cleared}
 use native.Mathlib.Omega.{arith}
-use borrow.Author.Rules.{rules}
 use Rattle.adjustment_sigma.proofs.h_row.Goals as goal
 
 pub gain_g-requires : goal.gain_g-requires

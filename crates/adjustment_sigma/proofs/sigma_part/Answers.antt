@@ -2,7 +2,6 @@
 use Rattle.adjustment.specs.Covariance.{sigma_cell}
 use Rattle.adjustment_covariance_rows.proofs.RowLaws.{terms-cleared}
 use native.Mathlib.Omega.{arith}
-use borrow.Author.Rules.{rules}
 use Rattle.adjustment_sigma.proofs.sigma_part.Goals as goal
 
 pub gain_sigma-requires : goal.gain_sigma-requires

@@ -1,11 +1,7 @@
 -- `adjustment_sigma::sigma_row` meets its contract.
-use Prim.Native.Nat.{◌≤◌, ◌-◌}
-use mathlib.Core.Path.{◌≡◌, refl, ◌∙◌}
-use lib.ListN.{length}
+use mathlib.Core.Path.{refl, ◌∙◌}
 use Rattle.algebra.proofs.FoldLaws.{fold_start, fold_end}
-use Rattle.algebra_large.specs.joints.Slab.{rows_at, put_row}
-use Rattle.adjustment.specs.Covariance.{sigma_cell}
-use Rattle.adjustment_covariance.specs.joints.Lent.{design}
+use Rattle.algebra_large.specs.joints.Slab.{put_row}
 use Rattle.adjustment_sigma.proofs.PartLaws.{row-join}
 use native.Mathlib.Omega.{arith}
 use Rattle.adjustment_sigma.proofs.sigma_row.Goals as goal

@@ -1,6 +1,5 @@
 -- `adjustment_covariance_rows::cells::cell_of` meets its contract.
 use Rattle.algebra_large.proofs.InPlace.{read_at}
-use borrow.Author.Rules.{rules}
 use Rattle.adjustment_covariance_rows.proofs.cells.cell_of.Goals as goal
 
 pub returns : goal.returns

@@ -1,13 +1,7 @@
 -- `adjustment_covariance_rows::cells::directed_cell` meets its contract.
-use Prim.Native.Nat.{◌≤◌, ◌-◌}
-use mathlib.Core.Path.{◌≡◌}
-use lib.Ieee.{of_bits, binary64, mul}
-use borrow.Author.Rules.{rules}
+use lib.Ieee.{of_bits}
 use Rattle.algebra.specs.Kind.{floats}
-use Rattle.algebra.specs.Product.{at, sum}
-use Rattle.algebra_large.specs.joints.Slab.{rows_at}
-use Rattle.adjustment.specs.Blocks.{direction}
-use Rattle.adjustment.specs.Covariance.{group_column, directed_cell}
+use Rattle.adjustment.specs.Covariance.{directed_cell}
 use Rattle.algebra_products.proofs.LoopLaws.{sum-none, sum_more, sum-end}
 use native.Mathlib.Omega.{arith}
 use Rattle.adjustment_covariance_rows.proofs.cells.directed_cell.Goals as goal

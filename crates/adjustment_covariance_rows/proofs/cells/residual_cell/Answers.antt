@@ -9,16 +9,13 @@ pub returns-then-i-j : goal.returns-then-i-j
 unfolding residual_cell of_bits
 returns-then-i-j c = rw (ne_eqb _ _ c.if-i-j.true)
 
-pub offset_bounds-weights-i : goal.offset_bounds-weights-i
-offset_bounds-weights-i c = omega (arith, c.requires c.if-weighted.true)
+pub inverse_weight-requires : goal.inverse_weight-requires
+inverse_weight-requires c = grind (arith, c.in-Some.is, c.requires)
 
-pub bounds-weights-i : goal.bounds-weights-i
-bounds-weights-i c = c.requires c.if-weighted.true
-
-pub returns-then-weighted : goal.returns-then-weighted
+pub returns-in-Some : goal.returns-in-Some
 unfolding residual_cell of_bits
-returns-then-weighted c = rw (eq-eqb _ _ c.if-i-j.false, c.if-weighted.true)
+returns-in-Some c = rw (c.inverse_weight.ensures, eq-eqb _ _ c.if-i-j.false, c.in-Some.is)
 
-pub returns : goal.returns
+pub returns-in-None : goal.returns-in-None
 unfolding residual_cell of_bits
-returns c = rw (eq-eqb _ _ c.if-i-j.false, c.if-weighted.false)
+returns-in-None c = rw (eq-eqb _ _ c.if-i-j.false, c.in-None.is)

@@ -1,7 +1,6 @@
 -- `adjustment_covariance_rows::rows::block_row` meets its contract.
-use Rattle.adjustment.specs.Covariance.{group_cell, block_cell}
+use Rattle.adjustment.specs.Covariance.{block_cell}
 use Rattle.adjustment_covariance_rows.proofs.RowLaws.{terms-cleared}
-use borrow.Author.Rules.{rules}
 use Rattle.adjustment_covariance_rows.proofs.rows.block_row.Goals as goal
 
 pub returns : goal.returns

@@ -2,7 +2,6 @@
 use mathlib.Core.Path.{sym, ◌∙◌}
 use Rattle.adjustment_covariance_rows.proofs.RowLaws.{row_last, row-own}
 use native.Mathlib.Omega.{arith}
-use borrow.Author.Rules.{rules}
 use Rattle.adjustment_covariance_rows.proofs.rows.g_row.Goals as goal
 
 pub residual_row-requires : goal.residual_row-requires

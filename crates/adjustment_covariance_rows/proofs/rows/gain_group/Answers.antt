@@ -1,7 +1,6 @@
 -- `adjustment_covariance_rows::rows::gain_group` meets its contract.
 use Rattle.adjustment_covariance_rows.proofs.RowLaws.{gained-one, gained-two}
 use native.Mathlib.Omega.{arith}
-use borrow.Author.Rules.{rules}
 use Rattle.adjustment_covariance_rows.proofs.rows.gain_group.Goals as goal
 
 pub returns-then-t-eq1 : goal.returns-then-t-eq1

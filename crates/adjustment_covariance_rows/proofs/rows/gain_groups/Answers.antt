@@ -1,12 +1,10 @@
 -- `adjustment_covariance_rows::rows::gain_groups` meets its contract.
-use Prim.Native.Nat.{◌≤◌, ◌-◌, ◌+◌}
-use mathlib.Core.Path.{◌≡◌, refl, ◌∙◌}
-use lib.ListN.{length, get_or}
+use Prim.Native.Nat.{◌+◌}
+use mathlib.Core.Path.{refl, ◌∙◌}
+use lib.ListN.{get_or}
 use lib.Ieee.{nan}
-use Rattle.algebra_large.specs.joints.Slab.{rows_at, put_row}
 use Rattle.algebra_large.proofs.ProductLaws.{terms-more}
-use Rattle.adjustment.specs.Covariance.{group_cell}
-use Rattle.adjustment_covariance_rows.proofs.RowLaws.{gained_terms, terms-none, terms-end}
+use Rattle.adjustment_covariance_rows.proofs.RowLaws.{terms-none, terms-end}
 use native.Mathlib.Omega.{arith}
 use Rattle.adjustment_covariance_rows.proofs.rows.gain_groups.Goals as goal
 

@@ -1,13 +1,10 @@
 -- `adjustment_covariance_rows::rows::gain_one` meets its contract.
-use Prim.Native.Nat.{◌≤◌, ◌-◌, ◌+◌}
-use mathlib.Core.Path.{◌≡◌, refl}
-use lib.ListN.{length, get_or, length-set}
-use lib.Ieee.{nan, of_bits}
-use Rattle.arithmetic.specs.Numbers.{plus_zero}
-use Rattle.algebra.specs.Kind.{floats}
-use Rattle.algebra.specs.Product.{at}
+use Prim.Native.Nat.{◌+◌}
+use mathlib.Core.Path.{refl}
+use lib.ListN.{length-set}
+use lib.Ieee.{of_bits}
 use Rattle.algebra.proofs.FoldLaws.{fold_start, fold_end}
-use Rattle.algebra_large.specs.joints.Slab.{rows_at, put_row}
+use Rattle.algebra_large.specs.joints.Slab.{put_row}
 use Rattle.algebra_large.proofs.SlabLaws.{row_more, row-ahead}
 use native.Mathlib.Omega.{arith}
 use Rattle.adjustment_covariance_rows.proofs.rows.gain_one.Goals as goal

@@ -1,11 +1,9 @@
 -- `adjustment_covariance_rows::rows::residual_row` meets its contract.
-use Prim.Native.Nat.{◌≤◌, ◌-◌, ◌+◌}
-use mathlib.Core.Path.{◌≡◌, refl}
-use lib.ListN.{length, length-set}
+use mathlib.Core.Path.{refl}
+use lib.ListN.{length-set}
 use Rattle.algebra.proofs.FoldLaws.{fold_start, fold_end}
 use Rattle.algebra_large.specs.joints.Slab.{put_row}
 use Rattle.algebra_large.proofs.SlabLaws.{row_more}
-use Rattle.adjustment.specs.Covariance.{residual_cell}
 use native.Mathlib.Omega.{arith}
 use Rattle.adjustment_covariance_rows.proofs.rows.residual_row.Goals as goal
 

@@ -1,8 +1,7 @@
 -- `adjustment_kr_vcov_adj::precision::fill_inverse` meets its contract.
 use Rattle.adjustment_kr_vcov_adj.proofs.PrecisionLaws.{inverse-is, refused-is}
-use Rattle.adjustment_work.proofs.WorkLaws.{square-held, squares-apart, side-in, wide-held, wide-apart-at, wide-apart-from}
+use Rattle.adjustment_work.proofs.WorkLaws.{square-held, side-in, wide-held, wide-apart-at, wide-apart-from}
 use native.Mathlib.Omega.{arith}
-use borrow.Author.Rules.{rules}
 use Rattle.adjustment_kr_vcov_adj.proofs.precision.fill_inverse.Goals as goal
 
 pub overflow_add-s : goal.overflow_add-s

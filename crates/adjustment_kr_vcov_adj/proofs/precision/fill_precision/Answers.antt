@@ -2,7 +2,6 @@
 use Rattle.adjustment_kr_vcov_adj.proofs.PrecisionLaws.{precision-is}
 use Rattle.adjustment_work.proofs.WorkLaws.{square-held, squares-apart}
 use native.Mathlib.Omega.{arith}
-use borrow.Author.Rules.{rules}
 use Rattle.adjustment_kr_vcov_adj.proofs.precision.fill_precision.Goals as goal
 
 pub precision_at-requires : goal.precision_at-requires

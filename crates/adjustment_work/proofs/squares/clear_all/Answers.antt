@@ -1,6 +1,5 @@
 -- `adjustment_work::squares::clear_all` meets its contract.
 use Rattle.adjustment_work.proofs.WorkLaws.{all-cleared}
-use borrow.Author.Rules.{rules}
 use Rattle.adjustment_work.proofs.squares.clear_all.Goals as goal
 
 pub returns : goal.returns

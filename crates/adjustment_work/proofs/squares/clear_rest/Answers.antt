@@ -1,7 +1,5 @@
 -- `adjustment_work::squares::clear_rest` meets its contract.
 use Rattle.adjustment_work.proofs.WorkLaws.{rest-cleared}
-use mathlib.Core.Path.{◌≡◌, ap, ◌∙◌}
-use borrow.Author.Rules.{rules}
 use Rattle.adjustment_work.proofs.squares.clear_rest.Goals as goal
 
 pub returns : goal.returns

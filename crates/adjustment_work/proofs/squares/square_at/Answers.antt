@@ -3,7 +3,6 @@ use Prim.Native.Nat.{◌*◌}
 use Rattle.adjustment_work.proofs.WorkLaws.{block_in}
 use mathlib.Core.Path.{refl}
 use native.Mathlib.Omega.{arith}
-use borrow.Author.Rules.{rules}
 use Rattle.adjustment_work.proofs.squares.square_at.Goals as goal
 
 pub overflow_mul-result-2 : goal.overflow_mul-result-2

@@ -2,17 +2,9 @@
 use Rattle.adjustment_work.proofs.FillLaws.{h-more}
 use Rattle.adjustment_work.proofs.StackLaws.{stack-none, stack-end}
 use Rattle.adjustment_work.proofs.WorkLaws.{square-held, squares-apart}
-use Rattle.adjustment_work.specs.joints.Steps.{s_at}
-use Rattle.adjustment_work.specs.joints.Work.{put_stack}
-use Rattle.adjustment_covariance.specs.joints.Lent.{design}
-use Rattle.adjustment.specs.Information.{h_rows}
-use Rattle.adjustment.specs.Covariance.{g_rows}
-use Rattle.algebra_large.specs.joints.Slab.{rows_at}
 use native.Mathlib.Omega.{arith}
-use lib.ListN.{length}
-use mathlib.Core.List.{[]}
-use mathlib.Core.Path.{◌≡◌, refl, ◌∙◌}
-use Prim.Native.Nat.{◌+◌, ◌≤◌, ◌-◌, ◌*◌}
+use mathlib.Core.Path.{refl, ◌∙◌}
+use Prim.Native.Nat.{◌+◌}
 use Rattle.adjustment_work.proofs.stacks.fill_hs.Goals as goal
 
 pub loop-r-init : goal.loop-r-init

@@ -2,14 +2,9 @@
 use Rattle.adjustment_work.proofs.FillLaws.{o-more}
 use Rattle.adjustment_work.proofs.StackLaws.{stack-none, stack-end}
 use Rattle.adjustment_work.proofs.WorkLaws.{square-held, part_held}
-use Rattle.adjustment_work.specs.joints.Steps.{h_at}
-use Rattle.adjustment_work.specs.joints.Work.{put_stack}
-use Rattle.adjustment.specs.Information.{o_rows}
-use Rattle.algebra_large.specs.joints.Slab.{rows_at}
 use native.Mathlib.Omega.{arith}
-use lib.ListN.{length}
-use mathlib.Core.Path.{◌≡◌, refl, ◌∙◌}
-use Prim.Native.Nat.{◌+◌, ◌≤◌, ◌-◌, ◌*◌}
+use mathlib.Core.Path.{refl, ◌∙◌}
+use Prim.Native.Nat.{◌+◌}
 use Rattle.adjustment_work.proofs.stacks.fill_os.Goals as goal
 
 pub loop-r-init : goal.loop-r-init

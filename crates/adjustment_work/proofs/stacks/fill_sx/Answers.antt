@@ -2,8 +2,6 @@
 use Rattle.adjustment_work.proofs.FillLaws.{sx-is}
 use Rattle.adjustment_work.proofs.WorkLaws.{square-found, part_held}
 use native.Mathlib.Omega.{arith}
-use mathlib.Core.Path.{◌≡◌, ap, ◌∙◌}
-use borrow.Author.Rules.{rules}
 use Rattle.adjustment_work.proofs.stacks.fill_sx.Goals as goal
 
 pub fill_o-requires : goal.fill_o-requires
