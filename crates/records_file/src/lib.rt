@@ -50,6 +50,7 @@ pub fn count_at(s: &[u8], i: usize) -> usize
     ensures { (result ≡ count_of s.now i) × (result < 4294967296) }
 {
     let at = 16 * i + 4;
+    // a cast: the library has no `From` between u64 and usize
     records_little_endian::word_at(s, at) as usize
 }
 

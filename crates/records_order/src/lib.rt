@@ -26,7 +26,7 @@ fn matrix_at(s: &[u8], i: usize) -> usize
     0
 }
 
-// A number as a key's part.
+// A number as a key's part: a cast, since the library has no `From` between usize and u64.
 fn key_part(x: usize) -> u64
     ensures { result ≡ x }
 {

@@ -1,20 +1,8 @@
 -- `records_cutoffs::bad_cutoff` meets its contract.
 use mathlib.Core.Bool.{not}
 use mathlib.Core.Path.{ap, sym, ◌∙◌}
-use borrow.Author.Rules.{rules}
-use borrow.Author.Tests.{not-false}
 use Rattle.arithmetic.specs.Numbers.{is_finite}
-use Rattle.records_cutoffs.proofs.CutoffChecks.{wrong-kind, wrong_row, wrong-column, wrong-padding, wrong-count, not_finite, Found, value-decides}
-use Rattle.records_cutoffs.proofs.bad_cutoff.Reads as reads
-use Rattle.records_cutoffs.proofs.bad_cutoff.Lts as lts
-use Rattle.arithmetic.proofs.plain.is_finite.Reads as is-finite-reads
-use Rattle.records_cutoffs.proofs.floor_of.Reads as floor-of-reads
-use Rattle.records_file.proofs.column_at.Reads as column-at-reads
-use Rattle.records_file.proofs.count_at.Reads as count-at-reads
-use Rattle.records_file.proofs.kind_of.Reads as kind-of-reads
-use Rattle.records_file.proofs.padding_at.Reads as padding-at-reads
-use Rattle.records_file.proofs.row_at.Reads as row-at-reads
-use Rattle.records_file.proofs.value_at.Reads as value-at-reads
+use Rattle.records_cutoffs.proofs.CutoffChecks.{wrong-kind, wrong_row, wrong-column, wrong-padding, wrong-count, not_finite, value-decides}
 use Rattle.records_cutoffs.proofs.bad_cutoff.Goals as goal
 
 pub returns-then-kind_of-ne20 : goal.returns-then-kind_of-ne20

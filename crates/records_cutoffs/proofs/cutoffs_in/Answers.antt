@@ -1,9 +1,5 @@
 -- `records_cutoffs::cutoffs_in` meets its contract.
-use borrow.Author.Rules.{rules}
 use Rattle.records.specs.readers.CutoffTable.{cutoffs_in}
-use Rattle.records_cutoffs.proofs.cutoffs_in.Reads as reads
-use Rattle.records_cutoffs.proofs.cutoffs_in.Lts as lts
-use Rattle.records_file.proofs.value_at.Reads as value-at-reads
 use Rattle.records_cutoffs.proofs.cutoffs_in.Goals as goal
 
 pub returns : goal.returns

@@ -2,8 +2,6 @@
 use lib.Ieee.{of_bits}
 use borrow.Author.Tests.{eq-eqb, ne_eqb}
 use Rattle.records.specs.readers.CutoffTable.{floor_of}
-use Rattle.records_cutoffs.proofs.floor_of.Reads as reads
-use Rattle.records_cutoffs.proofs.floor_of.Lts as lts
 use Rattle.records_cutoffs.proofs.floor_of.Goals as goal
 
 pub returns-then-i-eq8 : goal.returns-then-i-eq8
