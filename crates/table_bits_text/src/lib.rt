@@ -9,12 +9,12 @@ pub fn digit(b: u8) -> u64
 {
     if 48 <= b {
         if b <= 57 {
-            return (b - 48) as u64;
+            return u64::from(b - 48);
         }
     }
     if 97 <= b {
         if b <= 102 {
-            return (b - 87) as u64;
+            return u64::from(b - 87);
         }
     }
     0
@@ -73,12 +73,5 @@ pub fn comma_in(digits: &[u8], n: usize) -> usize
     requires { n ≤ length digits.now }
     ensures { result ≤ n }
 {
-    let mut i = 0;
-    while i < n {
-        if digits[i] == 44 {
-            return i;
-        }
-        i += 1;
-    }
-    n
+    digits[..n].iter().position(|b| *b == 44).unwrap_or(n)
 }
