@@ -54,7 +54,7 @@ impl Call {
     // How many commas stand between its files: a table and a second file bring one each.
     pub fn commas(self) -> usize {
         let second = matches!(self.task, Task::ArchiveTest);
-        self.with_table as usize + second as usize
+        usize::from(self.with_table) + usize::from(second)
     }
 
     // Its place among the eight.

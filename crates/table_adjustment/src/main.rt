@@ -77,12 +77,12 @@ fn run_line(digits: &[u8]) {
     print_case(&file[..n]);
 }
 
-// The lines of a table, each ended by a newline.
+// The lines of a table. What no newline ends is none.
 fn run_table(table: &[u8]) {
-    let mut rest = table;
-    while let Some(end) = rest.iter().position(|b| *b == b'\n') {
-        run_line(&rest[..end]);
-        rest = &rest[end + 1..];
+    for line in table.split_inclusive(|b| *b == b'\n') {
+        if let [digits @ .., b'\n'] = line {
+            run_line(digits);
+        }
     }
 }
 

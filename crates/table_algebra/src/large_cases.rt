@@ -44,8 +44,8 @@ impl Squares {
 
     // The diagonal of the square at 576 gains 1000, so that it is positive definite.
     fn make_heavier(&mut self) {
-        for i in 0..self.n {
-            self.cells[576 + i * 25] += 1000.0;
+        for x in self.cells[576..].iter_mut().step_by(25).take(self.n) {
+            *x += 1000.0;
         }
     }
 
