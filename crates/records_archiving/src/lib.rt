@@ -124,9 +124,8 @@ pub fn archive_series(
     ensures value { result ≡ cond (eqb (series_refusal limit c s.now) 0) (length (archive_bytes (series_archive c s.now))) (series_refusal limit c s.now) }
     ensures archive_after { archive.new ≡ cond (eqb (series_refusal limit c s.now) 0) (sets archive.old 0 (archive_bytes (series_archive c s.now))) archive.old }
 {
-    let early = records_refusals::refusal(limit, s, flags, sheet);
-    if early != 0 {
-        return early;
+    if let Err(refusal) = records_refusals::refusal(limit, s, flags, sheet) {
+        return u32::from(refusal);
     }
     adjust_and_put(limit, c, s, sheet, work, narrow, archive)
 }

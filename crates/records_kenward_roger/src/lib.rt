@@ -229,9 +229,8 @@ pub fn judge(
     requires { Room limit flags.old sheet.old × (6 * (limit * limit) ≤ length work.old) × (36 * limit ≤ length narrow.old) }
     ensures { Judges limit c s.now result told.new made.new pulled.new }
 {
-    let early = records_refusals::refusal(limit, s, flags, sheet);
-    if early != 0 {
-        *told = early;
+    if let Err(refusal) = records_refusals::refusal(limit, s, flags, sheet) {
+        *told = u32::from(refusal);
         *made = 0;
         *pulled = 0;
         return [no_entry(); 7];

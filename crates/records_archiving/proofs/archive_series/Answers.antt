@@ -1,18 +1,12 @@
 -- `records_archiving::archive_series` meets its contract.
-use Rattle.records_refusals.proofs.RoomLaws.{series-read}
+use mathlib.Core.Path.{◌∙◌}
+use Rattle.records.proofs.format.RefusalNumbers.{no-zero}
 use Rattle.records_archiving.proofs.ArchivingLaws.{reader-refuses}
 use borrow.Author.Rules.{rules}
 use Rattle.records_archiving.proofs.archive_series.Goals as goal
 
-pub returns-then-early-ne0 : goal.returns-then-early-ne0
-returns-then-early-ne0 c =
+pub returns-in-Err : goal.returns-in-Err
+returns-in-Err c =
     let a = c.args in
-    let both = reader-refuses a.limit a.c a.s.now a.archive.now _ c.refusal-early.ensures.value c.if-early-ne0.true in
-    record { value = both.0; archive_after = both.1 }
-
-pub adjust_and_put-requires : goal.adjust_and_put-requires
-adjust_and_put-requires c =
-    let a = c.args in
-    let g = c.requires in
-    let q = c.refusal-early.ensures in
-    record { series_read = (series-read a.limit a.s.now a.flags.now a.sheet.now _ _ g.0 q.value c.if-early-ne0.false q.sheet_after, g.3); limit_in_bounds = (g.1, g.2) }
+    let both = reader-refuses a.limit a.c a.s.now a.archive.now _ c.in-Err.ensures.value (no-zero _) in
+    record { value = c.from.ensures ∙ both.0; archive_after = both.1 }
