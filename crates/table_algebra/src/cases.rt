@@ -2,6 +2,10 @@
 ghost use Rattle.std.specs.Prelude.{◌≤◌};
 
 use crate::print;
+use crate::print::Printed;
+use algebra::Matrix;
+use algebra::scalar::Scalar;
+use algebra_products::MatrixProduct;
 use arithmetic::Marked;
 
 // 2^-100, the factor of the rotation test.
@@ -17,7 +21,7 @@ fn row_at(text: &[u8; 1241], at: usize) -> [f64; 6]
     out
 }
 
-fn matrix_at(text: &[u8; 1241], at: usize) -> [[f64; 6]; 6]
+fn matrix_at(text: &[u8; 1241], at: usize) -> Matrix<f64>
     requires { at ≤ 629 }
 {
     let mut out = [[0.0; 6]; 6];
@@ -34,46 +38,43 @@ fn size_of(word: u64) -> usize
     (word % 7) as usize
 }
 
-fn products(a: [[f64; 6]; 6], b: [[f64; 6]; 6], r: usize, n: usize, c: usize)
-    requires { (r ≤ 6) × (n ≤ 6) × (c ≤ 6) }
+fn chained<T: MatrixProduct + Printed>(a: Matrix<T>, b: Matrix<T>, r: usize, n: usize)
+    requires { (r ≤ 6) × (n ≤ 6) }
 {
-    print::matrix(algebra_products::product(a, b, r, n, c));
-    print::matrix(algebra_products::transpose(a, r, n));
     print::matrix(algebra_products::sandwich(a, b, r, n));
-    print::number(algebra_products::like_cells(a, b, r, n));
-    print::number(algebra_products::trace(a, r));
+    algebra_products::like_cells(a, b, r, n).print();
+    algebra_products::trace(a, r).print();
 }
 
-fn cellwise(a: [[f64; 6]; 6], b: [[f64; 6]; 6], r: usize, n: usize, c: usize)
-    requires { (r ≤ 6) × (n ≤ 6) × (c ≤ 6) }
+fn cellwise<T: Scalar + Printed>(a: Matrix<T>, b: Matrix<T>, r: usize, n: usize)
+    requires { (r ≤ 6) × (n ≤ 6) }
 {
     print::matrix(algebra_products::plus_cells(a, b, r, n));
     print::matrix(algebra_products::minus_cells(a, b, r, n));
     print::matrix(algebra_products::times_number(a, b[0][0], r, n));
     print::matrix(algebra_products::over_number(a, b[0][0], r, n));
-    print::matrix(algebra_products::identity(c));
 }
 
-fn marked_products(a: [[Marked; 6]; 6], b: [[Marked; 6]; 6], r: usize, n: usize, c: usize)
+fn products(a: Matrix<f64>, b: Matrix<f64>, r: usize, n: usize, c: usize)
     requires { (r ≤ 6) × (n ≤ 6) × (c ≤ 6) }
 {
-    print::marked_matrix(algebra_products::product(a, b, r, n, c));
-    print::marked_matrix(algebra_products::sandwich(a, b, r, n));
-    print::marked_number(algebra_products::like_cells(a, b, r, n));
-    print::marked_number(algebra_products::trace(a, r));
-    print::marked_number(algebra_products::cells::all_marks(a, r, n, a[0][0]));
+    print::matrix(algebra_products::product(a, b, r, n, c));
+    print::matrix(algebra_products::transpose(a, r, n));
+    chained(a, b, r, n);
+    cellwise(a, b, r, n);
+    print::matrix(algebra_products::identity::<f64>(c));
 }
 
-fn marked_cellwise(a: [[Marked; 6]; 6], b: [[Marked; 6]; 6], r: usize, n: usize)
-    requires { (r ≤ 6) × (n ≤ 6) }
+fn marked_products(a: Matrix<Marked>, b: Matrix<Marked>, r: usize, n: usize, c: usize)
+    requires { (r ≤ 6) × (n ≤ 6) × (c ≤ 6) }
 {
-    print::marked_matrix(algebra_products::plus_cells(a, b, r, n));
-    print::marked_matrix(algebra_products::minus_cells(a, b, r, n));
-    print::marked_matrix(algebra_products::times_number(a, b[0][0], r, n));
-    print::marked_matrix(algebra_products::over_number(a, b[0][0], r, n));
+    print::matrix(algebra_products::product(a, b, r, n, c));
+    chained(a, b, r, n);
+    algebra_products::cells::all_marks(a, r, n, a[0][0]).print();
+    cellwise(a, b, r, n);
 }
 
-fn solutions(a: [[f64; 6]; 6], b: [[f64; 6]; 6], n: usize, c: usize)
+fn solutions(a: Matrix<f64>, b: Matrix<f64>, n: usize, c: usize)
     requires { (n ≤ 6) × (c ≤ 6) }
 {
     let mut zero = false;
@@ -85,19 +86,19 @@ fn solutions(a: [[f64; 6]; 6], b: [[f64; 6]; 6], n: usize, c: usize)
     print::matrix(y);
 }
 
-fn marked_solutions(a: [[Marked; 6]; 6], b: [[Marked; 6]; 6], n: usize, c: usize)
+fn marked_solutions(a: Matrix<Marked>, b: Matrix<Marked>, n: usize, c: usize)
     requires { (n ≤ 6) × (c ≤ 6) }
 {
     let mut zero = false;
     let x = algebra_elimination_marked::solve(a, b, n, c, &mut zero);
     print::flag(zero);
-    print::marked_matrix(x);
+    print::matrix(x);
     let y = algebra_elimination_marked::inverse(a, n, &mut zero);
     print::flag(zero);
-    print::marked_matrix(y);
+    print::matrix(y);
 }
 
-fn rotations(m: [[f64; 6]; 6], n: usize)
+fn rotations(m: Matrix<f64>, n: usize)
     requires { n ≤ 6 }
 {
     let mut k: usize = 0;
@@ -107,7 +108,7 @@ fn rotations(m: [[f64; 6]; 6], n: usize)
     print::matrix(both[1]);
 }
 
-fn marked_rotations(m: [[Marked; 6]; 6], n: usize)
+fn marked_rotations(m: Matrix<Marked>, n: usize)
     requires { n ≤ 6 }
 {
     let mut k: usize = 0;
@@ -115,8 +116,8 @@ fn marked_rotations(m: [[Marked; 6]; 6], n: usize)
     let both = algebra_jacobi_marked::jacobi(m, n, LIMIT, &mut k, &mut inside);
     print::count(k);
     print::flag(!inside);
-    print::marked_matrix(both[0]);
-    print::marked_matrix(both[1]);
+    print::matrix(both[0]);
+    print::matrix(both[1]);
 }
 
 // The algorithm's number stands above three sizes, a byte each.
@@ -132,16 +133,14 @@ pub fn run(text: &[u8; 1241]) {
     choose(head / 16777216 % 256, a, b, r, n, c);
 }
 
-fn choose(which: u64, a: [[f64; 6]; 6], b: [[f64; 6]; 6], r: usize, n: usize, c: usize)
+fn choose(which: u64, a: Matrix<f64>, b: Matrix<f64>, r: usize, n: usize, c: usize)
     requires { (r ≤ 6) × (n ≤ 6) × (c ≤ 6) }
 {
     let ma = algebra_products::cells::given_cells(a, 6, 6);
     let mb = algebra_products::cells::given_cells(b, 6, 6);
     if which == 1 {
         products(a, b, r, n, c);
-        cellwise(a, b, r, n, c);
         marked_products(ma, mb, r, n, c);
-        marked_cellwise(ma, mb, r, n);
     }
     if which == 2 {
         solutions(a, b, n, c);

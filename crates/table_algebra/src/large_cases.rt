@@ -3,6 +3,7 @@
 ghost use Rattle.std.specs.Prelude.{◌+◌, ◌*◌, ◌≤◌, ◌<◌, ◌≡◌, length};
 
 use crate::print;
+use crate::print::Printed;
 
 // The next number of the sequence s -> 1664525 s + 1013904223 modulo 2^32.
 fn drawn(s: u64) -> u64
@@ -179,7 +180,7 @@ fn products(work: &mut [f64], n: usize)
     square(work, 2880, n);
     multiplied(work, n);
     square(work, 1728, n);
-    print::number(algebra_large_products::narrow::cross_sum(work, 576, 24, 2880, 24, n));
+    algebra_large_products::narrow::cross_sum(work, 576, 24, 2880, 24, n).print();
     narrowed(work, n);
 }
 

@@ -1,18 +1,28 @@
 // What the program prints: words of bits, marks, and whole matrices of six rows.
 ghost use Rattle.std.specs.Prelude.{◌+◌, ◌*◌, ◌≤◌, length};
 
+use algebra::Matrix;
 use arithmetic::Marked;
 
-pub fn number(x: f64) {
-    table_bits_text::print_word(arithmetic::plain::to_bits(x));
+// A kind of number, as it is printed: its bits, and + or - after them where it has a mark.
+pub trait Printed: Copy {
+    fn print(self);
 }
 
-pub fn marked_number(x: Marked) {
-    number(x.value);
-    if arithmetic_steps::is_inside(x) {
-        io::write_all(1, b"+");
-    } else {
-        io::write_all(1, b"-");
+impl Printed for f64 {
+    fn print(self) {
+        table_bits_text::print_word(arithmetic::plain::to_bits(self));
+    }
+}
+
+impl Printed for Marked {
+    fn print(self) {
+        self.value.print();
+        if arithmetic_steps::is_inside(self) {
+            io::write_all(1, b"+");
+        } else {
+            io::write_all(1, b"-");
+        }
     }
 }
 
@@ -29,31 +39,17 @@ pub fn count(n: usize) {
     io::write_all(1, b"\n");
 }
 
-fn row(r: [f64; 6]) {
-    for j in 0..6usize {
-        number(r[j]);
+fn row<T: Printed>(r: [T; 6]) {
+    for x in r {
+        x.print();
         io::write_all(1, b" ");
     }
     io::write_all(1, b"\n");
 }
 
-pub fn matrix(m: [[f64; 6]; 6]) {
-    for i in 0..6usize {
-        row(m[i]);
-    }
-}
-
-fn marked_row(r: [Marked; 6]) {
-    for j in 0..6usize {
-        marked_number(r[j]);
-        io::write_all(1, b" ");
-    }
-    io::write_all(1, b"\n");
-}
-
-pub fn marked_matrix(m: [[Marked; 6]; 6]) {
-    for i in 0..6usize {
-        marked_row(m[i]);
+pub fn matrix<T: Printed>(m: Matrix<T>) {
+    for r in m {
+        row(r);
     }
 }
 
@@ -62,7 +58,7 @@ pub fn cells(work: &[f64], at: usize, n: usize)
     requires { at + n ≤ length work.now }
 {
     for j in 0..n {
-        number(work[at + j]);
+        work[at + j].print();
         io::write_all(1, b" ");
     }
     io::write_all(1, b"\n");
