@@ -2,6 +2,9 @@
 ghost use Rattle.std.specs.Prelude.{◌≤◌};
 
 use crate::print::{self, Printed};
+use algebra::Matrix;
+use algebra::scalar::Scalar;
+use algebra_products::MatrixProduct;
 use arithmetic::Marked;
 
 // 2^-100, the factor of the rotation test.
@@ -39,7 +42,7 @@ impl TryFrom<u8> for Algorithm {
 }
 
 // A matrix out of the text of its cells, row by row.
-fn matrix_of(text: &[u8]) -> [[f64; 6]; 6] {
+fn matrix_of(text: &[u8]) -> Matrix<f64> {
     let mut out = [[0.0; 6]; 6];
     let (words, _) = text.as_chunks::<17>();
     for (row, six) in out.iter_mut().zip(words.chunks_exact(6)) {
@@ -57,73 +60,50 @@ fn size_of(byte: u8) -> usize
     usize::from(byte % 7)
 }
 
-fn products(a: [[f64; 6]; 6], b: [[f64; 6]; 6], e: Extents) {
+// What needs more than like cells: the products, and what is summed.
+fn chained<T: MatrixProduct + Printed>(a: Matrix<T>, b: Matrix<T>, e: Extents) {
+    print::matrix(algebra_products::sandwich(a, b, e.rows, e.inner));
+    algebra_products::like_cells(a, b, e.rows, e.inner).print();
+    algebra_products::trace(a, e.rows).print();
+}
+
+fn cellwise<T: Scalar + Printed>(a: Matrix<T>, b: Matrix<T>, e: Extents) {
+    print::matrix(algebra_products::plus_cells(a, b, e.rows, e.inner));
+    print::matrix(algebra_products::minus_cells(a, b, e.rows, e.inner));
+    print::matrix(algebra_products::times_number(a, b[0][0], e.rows, e.inner));
+    print::matrix(algebra_products::over_number(a, b[0][0], e.rows, e.inner));
+}
+
+fn products(a: Matrix<f64>, b: Matrix<f64>, e: Extents) {
     print::matrix(algebra_products::product(a, b, e.rows, e.inner, e.columns));
     print::matrix(algebra_products::transpose(a, e.rows, e.inner));
-    print::matrix(algebra_products::sandwich(a, b, e.rows, e.inner));
-    algebra_products::like_cells(a, b, e.rows, e.inner).print();
-    algebra_products::trace(a, e.rows).print();
+    chained(a, b, e);
+    cellwise(a, b, e);
+    print::matrix(algebra_products::identity::<f64>(e.columns));
 }
 
-fn cellwise(a: [[f64; 6]; 6], b: [[f64; 6]; 6], e: Extents) {
-    print::matrix(algebra_products::plus_cells(a, b, e.rows, e.inner));
-    print::matrix(algebra_products::minus_cells(a, b, e.rows, e.inner));
-    print::matrix(algebra_products::times_number(a, b[0][0], e.rows, e.inner));
-    print::matrix(algebra_products::over_number(a, b[0][0], e.rows, e.inner));
-    print::matrix(algebra_products::identity(e.columns));
-}
-
-fn marked_products(a: [[Marked; 6]; 6], b: [[Marked; 6]; 6], e: Extents) {
+fn marked_products(a: Matrix<Marked>, b: Matrix<Marked>, e: Extents) {
     print::matrix(algebra_products::product(a, b, e.rows, e.inner, e.columns));
-    print::matrix(algebra_products::sandwich(a, b, e.rows, e.inner));
-    algebra_products::like_cells(a, b, e.rows, e.inner).print();
-    algebra_products::trace(a, e.rows).print();
+    chained(a, b, e);
     algebra_products::cells::all_marks(a, e.rows, e.inner, a[0][0]).print();
+    cellwise(a, b, e);
 }
 
-fn marked_cellwise(a: [[Marked; 6]; 6], b: [[Marked; 6]; 6], e: Extents) {
-    print::matrix(algebra_products::plus_cells(a, b, e.rows, e.inner));
-    print::matrix(algebra_products::minus_cells(a, b, e.rows, e.inner));
-    print::matrix(algebra_products::times_number(a, b[0][0], e.rows, e.inner));
-    print::matrix(algebra_products::over_number(a, b[0][0], e.rows, e.inner));
+fn solutions<T: Scalar + Printed>(a: Matrix<T>, b: Matrix<T>, e: Extents) {
+    let x = algebra_elimination::solve(a, b, e.inner, e.columns);
+    print::flag(x.refused);
+    print::matrix(x.cells);
+    let y = algebra_elimination::inverse(a, e.inner);
+    print::flag(y.refused);
+    print::matrix(y.cells);
 }
 
-fn solutions(a: [[f64; 6]; 6], b: [[f64; 6]; 6], e: Extents) {
-    let mut zero = false;
-    let x = algebra_elimination::solve(a, b, e.inner, e.columns, &mut zero);
-    print::flag(zero);
-    print::matrix(x);
-    let y = algebra_elimination::inverse(a, e.inner, &mut zero);
-    print::flag(zero);
-    print::matrix(y);
-}
-
-fn marked_solutions(a: [[Marked; 6]; 6], b: [[Marked; 6]; 6], e: Extents) {
-    let mut zero = false;
-    let x = algebra_elimination_marked::solve(a, b, e.inner, e.columns, &mut zero);
-    print::flag(zero);
-    print::matrix(x);
-    let y = algebra_elimination_marked::inverse(a, e.inner, &mut zero);
-    print::flag(zero);
-    print::matrix(y);
-}
-
-fn rotations(m: [[f64; 6]; 6], e: Extents) {
-    let mut k: usize = 0;
-    let both = algebra_jacobi::jacobi(m, e.inner, LIMIT, &mut k);
-    print::count(k);
-    print::matrix(both[0]);
-    print::matrix(both[1]);
-}
-
-fn marked_rotations(m: [[Marked; 6]; 6], e: Extents) {
-    let mut k: usize = 0;
-    let mut inside = false;
-    let both = algebra_jacobi_marked::jacobi(m, e.inner, LIMIT, &mut k, &mut inside);
-    print::count(k);
-    print::flag(!inside);
-    print::matrix(both[0]);
-    print::matrix(both[1]);
+fn rotations<T: Scalar + Printed>(m: Matrix<T>, e: Extents) {
+    let turned = algebra_jacobi::jacobi(m, e.inner, LIMIT);
+    print::count(turned.count);
+    turned.seen.print_mark();
+    print::matrix(turned.matrix);
+    print::matrix(turned.vectors);
 }
 
 // The algorithm's number stands above three sizes, a byte each, in the low half of the first word.
@@ -145,23 +125,21 @@ pub fn run(text: &[u8; 1241]) {
     }
 }
 
-fn apply(algorithm: Algorithm, a: [[f64; 6]; 6], b: [[f64; 6]; 6], e: Extents) {
+fn apply(algorithm: Algorithm, a: Matrix<f64>, b: Matrix<f64>, e: Extents) {
     let ma = algebra_products::cells::given_cells(a, 6, 6);
     let mb = algebra_products::cells::given_cells(b, 6, 6);
     match algorithm {
         Algorithm::Products => {
             products(a, b, e);
-            cellwise(a, b, e);
             marked_products(ma, mb, e);
-            marked_cellwise(ma, mb, e);
         }
         Algorithm::Solutions => {
             solutions(a, b, e);
-            marked_solutions(ma, mb, e);
+            solutions(ma, mb, e);
         }
         Algorithm::Rotations => {
             rotations(a, e);
-            marked_rotations(ma, e);
+            rotations(ma, e);
         }
     }
 }

@@ -1,15 +1,21 @@
 // What the program prints: words of bits, marks, and whole matrices of six rows.
+use algebra::Matrix;
 use arithmetic::Marked;
 
 // A plain number is printed in its bits, a marked one with its mark behind them.
 pub trait Printed: Copy {
     fn print(self);
+
+    // Whether its mark is outside, as a line; a plain number has no mark.
+    fn print_mark(self);
 }
 
 impl Printed for f64 {
     fn print(self) {
         table_bits_text::print_word(arithmetic::plain::to_bits(self));
     }
+
+    fn print_mark(self) {}
 }
 
 impl Printed for Marked {
@@ -23,6 +29,10 @@ impl Printed for Marked {
                 b"-"
             },
         );
+    }
+
+    fn print_mark(self) {
+        flag(!arithmetic_steps::is_inside(self));
     }
 }
 
@@ -48,7 +58,7 @@ pub fn cells<T: Printed>(row: &[T]) {
     io::write_all(1, b"\n");
 }
 
-pub fn matrix<T: Printed>(m: [[T; 6]; 6]) {
+pub fn matrix<T: Printed>(m: Matrix<T>) {
     for row in &m {
         cells(row);
     }

@@ -9,17 +9,6 @@ use Rattle.records_refusals.proofs.RoomLaws.{at-hand, accepted-small, can-shorte
 use Rattle.adjustment_kr_vcov_adj.proofs.CallLaws.{accepted-yes}
 use Rattle.records_kenward_roger.proofs.Numbers.{late-number, judged-refused, run-answer, run-rotations, run-specimens}
 use borrow.Author.Rules.{rules}
-use Rattle.records_kenward_roger.proofs.run_of.Reads as reads
-use Rattle.records_kenward_roger.proofs.run_of.Lts as lts
-use Rattle.algebra_products.proofs.zeros.Reads as zeros-reads
-use Rattle.records_kenward_roger.proofs.counted.Reads as counted-reads
-use Rattle.records_kenward_roger.proofs.kenward_roger_modcomp_data.Reads as kenward-roger-modcomp-data-reads
-use Rattle.records_kenward_roger.proofs.tests_of.Reads as tests-of-reads
-use Rattle.records_sheet.proofs.first_slots.Reads as first-slots-reads
-use Rattle.records_sizes.proofs.series_sizes.Reads as series-sizes-reads
-use Rattle.records_torn.proofs.shorten.Reads as shorten-reads
-use Rattle.tests_entries.proofs.answer_of.Reads as answer-of-reads
-use Rattle.tests_entries.proofs.no_entry.Reads as no-entry-reads
 use Rattle.records_kenward_roger.proofs.run_of.Goals as goal
 
 pub first_slots-firsts-requires : goal.first_slots-firsts-requires
