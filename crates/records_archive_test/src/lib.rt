@@ -101,17 +101,16 @@ pub fn judge(c: Cutoffs, s: &[u8], t: &[u8], told: &mut u32) -> [Entry; 7]
 {
     let mut flags = [false; 512];
     let mut sheet = [0.0; 512];
-    let first = records_archive_reader::refusal(s, &mut flags, &mut sheet);
-    if first != 0 {
-        *told = first;
+    if let Err(refusal) = records_archive_reader::refusal(s, &mut flags, &mut sheet) {
+        *told = u32::from(refusal);
         return [no_entry(); 7];
     }
     let z = records_sizes::archive_sizes(s);
     let mut marks = [false; 64];
     let mut numbers = [0.0; 64];
     let second = records_second_file::refusal(z.coefficients, t, &mut marks, &mut numbers);
-    if second != 0 {
-        *told = second;
+    if let Err(refusal) = second {
+        *told = u32::from(refusal);
         return [no_entry(); 7];
     }
     let mut refused = false;
