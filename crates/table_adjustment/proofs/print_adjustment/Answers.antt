@@ -8,18 +8,6 @@ use Rattle.records_torn.proofs.ShortSheet.{length-short}
 use Rattle.records_refusals.specs.joints.Room.{SeriesRead, SeriesShort}
 use Rattle.records_refusals.proofs.RoomLaws.{at-hand, accepted-small, can-shorten, kept_run, series-short}
 use borrow.Author.Rules.{rules}
-use Rattle.table_adjustment.proofs.print_adjustment.Reads as reads
-use Rattle.table_adjustment.proofs.print_adjustment.Lts as lts
-use Rattle.algebra_products.proofs.zeros.Reads as zeros-reads
-use Rattle.arithmetic_cutoffs.proofs.document_cutoffs.Reads as document-cutoffs-reads
-use Rattle.records_kenward_roger.proofs.kenward_roger_modcomp_data.Reads as kenward-roger-modcomp-data-reads
-use Rattle.records_sheet.proofs.first_slots.Reads as first-slots-reads
-use Rattle.records_sizes.proofs.series_sizes.Reads as series-sizes-reads
-use Rattle.records_torn.proofs.shorten.Reads as shorten-reads
-use Rattle.table_adjustment.proofs.at_most.Reads as at-most-reads
-use Rattle.table_adjustment.proofs.print.matrix.Reads as matrix-reads
-use Rattle.table_adjustment.proofs.print.numbered.Reads as numbered-reads
-use Rattle.table_adjustment.proofs.print.rotations.Reads as rotations-reads
 use Rattle.table_adjustment.proofs.print_adjustment.Goals as goal
 
 pub first_slots-firsts-requires : goal.first_slots-firsts-requires
