@@ -1,9 +1,8 @@
 -- `algebra_rotation::ratio` meets its contract.
-use mathlib.Core.Path.{refl}
 use lib.Ieee.{of_bits}
 use Rattle.algebra.specs.Jacobi.{ratio}
 use Rattle.algebra_rotation.proofs.ratio.Goals as goal
 
 pub returns : goal.returns
 unfolding ratio of_bits
-returns c = refl
+returns g c = rw (c.over.ensures, c.times.ensures, c.of.ensures, c.minus.ensures)

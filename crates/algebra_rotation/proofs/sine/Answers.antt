@@ -1,8 +1,7 @@
 -- `algebra_rotation::sine` meets its contract.
-use mathlib.Core.Path.{refl}
 use Rattle.algebra.specs.Jacobi.{sine}
 use Rattle.algebra_rotation.proofs.sine.Goals as goal
 
 pub returns : goal.returns
 unfolding sine
-returns c = refl
+returns g c = c.times.ensures

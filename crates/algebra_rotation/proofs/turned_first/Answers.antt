@@ -1,8 +1,7 @@
 -- `algebra_rotation::turned_first` meets its contract.
-use mathlib.Core.Path.{refl}
 use Rattle.algebra.specs.Jacobi.{turned_first}
 use Rattle.algebra_rotation.proofs.turned_first.Goals as goal
 
 pub returns : goal.returns
 unfolding turned_first
-returns c = refl
+returns g c = rw (c.minus.ensures, c.times-2.ensures, c.times.ensures)
