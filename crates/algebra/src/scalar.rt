@@ -1,5 +1,7 @@
 // The kinds of number that an algorithm runs on: plain f64 numbers, and marked ones. Each algorithm is written once, and is proved for every kind by what this trait says.
-ghost use Rattle.std.specs.Prelude.{◌≡◌};
+ghost use Rattle.std.specs.Prelude.{◌≡◌, ◌≤◌};
+ghost use Rattle.std.specs.Mem.{type_size};
+ghost use Rattle.std.proofs.Common.{rules};
 ghost use Rattle.algebra.specs.Kind.{Arith, floats, marks};
 
 use arithmetic::Marked;
@@ -42,10 +44,15 @@ pub trait Scalar: Copy {
     // The mark that an entry shows.
     fn inside(self) -> bool
         ensures { result ≡ arith.inside self };
+
+    // A number takes few bytes, so that every small matrix of them fits in memory.
+    ghost few_bytes: { type_size Self.row ≤ 64 };
 }
 
 impl Scalar for f64 {
     ghost arith = { floats };
+
+    ghost few_bytes = { Prim.search rules };
 
     fn of(x: f64) -> f64 {
         x
@@ -90,6 +97,8 @@ impl Scalar for f64 {
 
 impl Scalar for Marked {
     ghost arith = { marks };
+
+    ghost few_bytes = { Prim.search rules };
 
     fn of(x: f64) -> Marked {
         arithmetic_steps::given(x)
