@@ -1,14 +1,10 @@
 use Prim.Native.Nat.{◌≤◌, ◌-◌, ◌+◌}
 use mathlib.Core.Path.{◌≡◌}
-use native.Mathlib.Omega.{arith}
-use Rattle.algebra.specs.Kind.{floats}
-use Rattle.algebra.specs.Elimination.{larger, pivot_row}
-use Rattle.algebra.proofs.FoldLaws.{fold_start, fold_next, fold_end}
-use Rattle.algebra_elimination.proofs.pivoting.Steps.{pivot-below}
+use Rattle.algebra.specs.Elimination.{pivot_row}
 use Rattle.algebra_elimination.proofs.pivoting.pivot_row.Given as goal
 
 abbrev pub invariant-loop-r : goal.invariant-loop-r
-invariant-loop-r l = (l.c + 1 ≤ l.r) × (l.r ≤ l.n) × (l.best ≡ pivot_row floats l.r l.c l.m)
+invariant-loop-r g l = (l.c + 1 ≤ l.r) × (l.r ≤ l.n) × (l.best ≡ pivot_row g.T.Scalar.arith l.r l.c l.m)
 
 abbrev pub decreases-loop-r : goal.decreases-loop-r
-decreases-loop-r l = l.n - l.r
+decreases-loop-r g l = l.n - l.r

@@ -1,2 +1,0 @@
--- The laws of one rotation, for any kind of number.
-pub mod Turns
