@@ -1,34 +1,38 @@
-// A pair of Jacobi's sweeps on plain numbers: its rotation test, and the two matrices rotated.
+// A pair of Jacobi's sweeps: its rotation test, and the two matrices rotated.
 ghost use Rattle.std.specs.Prelude.{◌≡◌, ◌+◌, ◌<◌, ◌≤◌};
 ghost use Rattle.algebra.specs.Table.{table};
-ghost use Rattle.algebra.specs.Kind.{floats, zero_of};
+ghost use Rattle.algebra.specs.Kind.{zero_of};
 ghost use Rattle.algebra_jacobi.specs.joints.Rotated.{chosen_cell, mirroring_cell};
-ghost use Rattle.algebra_jacobi.specs.joints.Tested.{rotates, rotated_pair};
+ghost use Rattle.algebra_jacobi.specs.joints.States.{state_of};
+ghost use Rattle.algebra_jacobi.specs.joints.Tested.{rotates, seen_after, rotated_pair};
 ghost use Rattle.algebra.specs.Jacobi.{rotated};
 
+use crate::JacobiState;
+use algebra::Matrix;
+use algebra::scalar::Scalar;
 use algebra_rotation::{cosine, ratio, sine, tangent, turn_columns};
 use arithmetic::plain::is_zero;
 
 // Cell (i, j) of the rotated matrix, from cells of w, whose columns are turned: `here` is w's own, and `by_p` and `by_q` are cells p and q of its row j, which rows p and q mirror.
-fn rotated_cell(
+fn rotated_cell<T: Scalar>(
     i: usize,
     j: usize,
     p: usize,
     q: usize,
-    first: f64,
-    second: f64,
-    by_p: f64,
-    by_q: f64,
-    here: f64,
-) -> f64
-    ensures { result ≡ chosen_cell floats p q first second i j by_p by_q here }
+    first: T,
+    second: T,
+    by_p: T,
+    by_q: T,
+    here: T,
+) -> T
+    ensures { result ≡ chosen_cell T.arith p q first second i j by_p by_q here }
 {
     if i == p {
         if j == p {
             return first;
         }
         if j == q {
-            return 0.0;
+            return T::of(0.0);
         }
         return by_p;
     }
@@ -37,7 +41,7 @@ fn rotated_cell(
             return second;
         }
         if j == p {
-            return 0.0;
+            return T::of(0.0);
         }
         return by_q;
     }
@@ -45,18 +49,18 @@ fn rotated_cell(
 }
 
 // The rotated matrix, from w, whose columns are turned, and from its two diagonal cells `first` and `second`.
-fn rotated_cells(
-    w: [[f64; 6]; 6],
+fn rotated_cells<T: Scalar>(
+    w: Matrix<T>,
     n: usize,
     p: usize,
     q: usize,
-    first: f64,
-    second: f64,
-) -> [[f64; 6]; 6]
+    first: T,
+    second: T,
+) -> Matrix<T>
     requires { (n ≤ 6) × (p < 6) × (q < 6) }
-    ensures { result ≡ table (zero_of floats) 6 6 n n (mirroring_cell floats p q first second w) }
+    ensures { result ≡ table (zero_of T.arith) 6 6 n n (mirroring_cell T.arith p q first second w) }
 {
-    let mut out = [[0.0; 6]; 6];
+    let mut out = [[T::of(0.0); 6]; 6];
     for i in 0..n {
         for j in 0..n {
             out[i][j] = rotated_cell(i, j, p, q, first, second, w[j][p], w[j][q], w[i][j]);
@@ -65,40 +69,56 @@ fn rotated_cells(
     out
 }
 
-pub fn rotated(
-    m: [[f64; 6]; 6],
-    n: usize,
-    p: usize,
-    q: usize,
-    t: f64,
-    c: f64,
-    s: f64,
-) -> [[f64; 6]; 6]
+pub fn rotated<T: Scalar>(m: Matrix<T>, n: usize, p: usize, q: usize, t: T, c: T, s: T) -> Matrix<T>
     requires { (n ≤ 6) × (p < 6) × (q < 6) }
-    ensures { result ≡ rotated floats 6 6 n p q t c s m }
+    ensures { result ≡ rotated T.arith 6 6 n p q t c s m }
 {
     let w = turn_columns(m, n, p, q, c, s);
-    let moved = t * m[p][q];
-    rotated_cells(w, n, p, q, m[p][p] - moved, m[q][q] + moved)
+    let moved = t.times(m[p][q]);
+    let first = m[p][p].minus(moved);
+    let second = m[q][q].plus(moved);
+    rotated_cells(w, n, p, q, first, second)
 }
 
-// Whether a pair rotates, from its three cells: document 01's "Where A_ab ≠ 0, rotate if A_ab² > 2^-100 × (A_aa × A_bb)".
-pub fn rotates(pp: f64, qq: f64, pq: f64, limit: f64) -> bool
-    ensures { result ≡ rotates floats limit pp qq pq }
+// Whether a pair rotates, from its three cells: document 01's "Where A_ab ≠ 0, rotate if A_ab² > 2^-100 × (A_aa × A_bb)". The values alone decide.
+pub fn rotates<T: Scalar>(pp: T, qq: T, pq: T, limit: f64) -> bool
+    ensures { result ≡ rotates T.arith limit pp qq pq }
 {
-    !is_zero(pq) & (limit * (pp * qq) < pq * pq)
+    let left = pq.times(pq);
+    let right = T::of(limit).times(pp.times(qq));
+    !is_zero(pq.value()) & (right.value() < left.value())
+}
+
+// `seen`, with the products of a pair's test counted, whether or not the pair rotates. Where the cell is zero no test is made, and `seen` stays.
+pub fn tested_mark<T: Scalar>(pp: T, qq: T, pq: T, limit: f64, seen: T) -> T
+    ensures { result ≡ seen_after T.arith limit pp qq pq seen }
+{
+    if is_zero(pq.value()) {
+        return seen;
+    }
+    let left = pq.times(pq);
+    let right = T::of(limit).times(pp.times(qq));
+    seen.also(left.also(right))
 }
 
 // The matrix and the vectors rotated at the pair (p, q).
-pub fn rotated_pair(both: [[[f64; 6]; 6]; 2], n: usize, p: usize, q: usize) -> [[[f64; 6]; 6]; 2]
+pub fn rotated_pair<T: Scalar>(
+    state: JacobiState<T>,
+    n: usize,
+    p: usize,
+    q: usize,
+) -> JacobiState<T>
     requires { (n ≤ 6) × (p < 6) × (q < 6) }
-    ensures { result ≡ rotated_pair floats 6 6 n p q both }
+    ensures { state_of result ≡ rotated_pair T.arith 6 6 n p q (state_of state) }
 {
-    let m = both[0];
+    let m = state.matrix;
     let t = tangent(ratio(m[p][p], m[q][q], m[p][q]));
     let c = cosine(t);
     let s = sine(t, c);
-    let a = rotated(m, n, p, q, t, c, s);
-    let v = turn_columns(both[1], n, p, q, c, s);
-    [a, v]
+    JacobiState {
+        matrix: rotated(m, n, p, q, t, c, s),
+        vectors: turn_columns(state.vectors, n, p, q, c, s),
+        count: state.count,
+        seen: state.seen,
+    }
 }

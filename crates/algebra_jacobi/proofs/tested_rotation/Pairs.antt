@@ -2,52 +2,44 @@
 use Prim.Native.Nat.{ℕ, ◌+◌}
 use mathlib.Core.Path.{◌≡◌, refl}
 use mathlib.Core.Bool.{Bool, true, false, cond}
-use mathlib.Core.List.{List, []}
-use lib.ListN.{get_or}
 use lib.Ieee.{Float}
-use Rattle.arithmetic.specs.Numbers.{plus_zero, is_zero}
-use Rattle.algebra.specs.Kind.{Arith, floats}
+use Rattle.arithmetic.specs.Numbers.{is_zero}
+use Rattle.algebra.specs.Kind.{Arith}
 use Rattle.algebra.specs.Product.{at}
-use Rattle.algebra.specs.Jacobi.{rotate, rotate_tested, squared, bound}
-use Rattle.algebra_jacobi.specs.joints.States.{state_of}
+use Rattle.algebra.specs.Jacobi.{State, rotate, rotate_tested, squared, bound}
 use Rattle.algebra_jacobi.specs.joints.Tested.{rotates, seen_after, rotated_pair}
 
--- plain numbers have no mark to count
-pub seen_plain : (limit pp qq pq : Float) → plus_zero ≡ seen_after floats limit pp qq pq plus_zero
-unfolding seen_after
-seen_plain limit pp qq pq = go (is_zero pq)
-  where
-    go : (z : Bool) → plus_zero ≡ cond z plus_zero plus_zero
-    go true = refl
-    go false = refl
-
-module _ {A : Type 0} (N : Arith A) (limit : Float) (R C n p q : ℕ) (both : List (List (List A))) (count : ℕ) (seen : A) where
+module _ {A : Type 0} (N : Arith A) (limit : Float) (R C n p q : ℕ) (x : State A) where
   abbrev pp : A
-  pp = at N (get_or both 0 []) p p
+  pp = at N x.a p p
 
   abbrev qq : A
-  qq = at N (get_or both 0 []) q q
+  qq = at N x.a q q
 
   abbrev pq : A
-  pq = at N (get_or both 0 []) p q
+  pq = at N x.a p q
 
-  pub rotate-is : rotate N limit R C n p q (state_of both count seen)
-      ≡ cond (rotates N limit pp qq pq) (state_of (rotated_pair N R C n p q both) (count + 1) (seen_after N limit pp qq pq seen))
-      (state_of both count (seen_after N limit pp qq pq seen))
+  -- the state with another count and another `seen`
+  abbrev counted : ℕ → A → State A
+  counted count seen = record { a = x.a; v = x.v; count = count; seen = seen }
+
+  pub rotate-is : rotate N limit R C n p q x
+      ≡ cond (rotates N limit pp qq pq) (rotated_pair N R C n p q (counted (x.count + 1) (seen_after N limit pp qq pq x.seen)))
+      (counted x.count (seen_after N limit pp qq pq x.seen))
   unfolding rotate rotate_tested squared bound rotates seen_after rotated_pair
   rotate-is = go (is_zero (N.value pq)) refl
     where
-      go : (z : Bool) → is_zero (N.value pq) ≡ z → rotate N limit R C n p q (state_of both count seen)
-          ≡ cond (rotates N limit pp qq pq) (state_of (rotated_pair N R C n p q both) (count + 1) (seen_after N limit pp qq pq seen))
-          (state_of both count (seen_after N limit pp qq pq seen))
+      go : (z : Bool) → is_zero (N.value pq) ≡ z → rotate N limit R C n p q x
+          ≡ cond (rotates N limit pp qq pq) (rotated_pair N R C n p q (counted (x.count + 1) (seen_after N limit pp qq pq x.seen)))
+          (counted x.count (seen_after N limit pp qq pq x.seen))
       go true e = rw e
       go false e = rw e
 
-  module _ (b : Bool) (after : A) (eb : b ≡ rotates N limit pp qq pq) (es : after ≡ seen_after N limit pp qq pq seen) where
+  module _ (b : Bool) (after : A) (eb : b ≡ rotates N limit pp qq pq) (es : after ≡ seen_after N limit pp qq pq x.seen) where
     -- where the test says yes
-    pub pair-rotated : (next : List (List (List A))) → b ≡ true → next ≡ rotated_pair N R C n p q both → state_of next (count + 1) after ≡ rotate N limit R C n p q (state_of both count seen)
+    pub pair-rotated : (next : State A) → b ≡ true → next ≡ rotated_pair N R C n p q (counted (x.count + 1) after) → next ≡ rotate N limit R C n p q x
     pair-rotated next e en = rw (rotate-is, ← eb, e, en, es)
 
     -- where it says no
-    pub pair_left : b ≡ false → state_of both count after ≡ rotate N limit R C n p q (state_of both count seen)
+    pub pair_left : b ≡ false → counted x.count after ≡ rotate N limit R C n p q x
     pair_left e = rw (rotate-is, ← eb, e, es)

@@ -1,11 +1,11 @@
 -- Not needed to check document 01: names that join the code to its definitions.
 -- A pair of Jacobi's sweeps as the code goes about it: the rotation test on three cells, and the two matrices rotated.
-use Rattle.std.specs.Prelude.{ℕ, Bool, not, cond, ◌&&◌, List, [], ◌∷◌, get_or, Float}
+use Rattle.std.specs.Prelude.{ℕ, Bool, not, cond, ◌&&◌, Float}
 use Rattle.std.specs.Float.Ieee.{lt}
 use Rattle.arithmetic.specs.Numbers.{is_zero}
 use Rattle.algebra.specs.Kind.{Arith}
 use Rattle.algebra.specs.Product.{at}
-use Rattle.algebra.specs.Jacobi.{ratio, tangent, cosine, sine, turn_columns, rotated}
+use Rattle.algebra.specs.Jacobi.{State, ratio, tangent, cosine, sine, turn_columns, rotated}
 
 module _ {A : Type 0} (N : Arith A) where
   -- the two sides of the rotation test
@@ -24,10 +24,9 @@ module _ {A : Type 0} (N : Arith A) where
   seen_after limit pp qq pq seen = cond (is_zero (N.value pq)) seen (N.also seen (N.also (left pq) (right limit pp qq)))
 
   -- the matrix and the vectors rotated at the pair (p, q)
-  unfoldable pub rotated_pair : ℕ → ℕ → ℕ → ℕ → ℕ → List (List (List A)) → List (List (List A))
-  rotated_pair R C n p q both =
-      let m : List (List A) = get_or both 0 [] in
-      let t : A = tangent N (ratio N (at N m p p) (at N m q q) (at N m p q)) in
+  unfoldable pub rotated_pair : ℕ → ℕ → ℕ → ℕ → ℕ → State A → State A
+  rotated_pair R C n p q x =
+      let t : A = tangent N (ratio N (at N x.a p p) (at N x.a q q) (at N x.a p q)) in
       let c : A = cosine N t in
       let s : A = sine N t c in
-      rotated N R C n p q t c s m ∷ turn_columns N n p q c s (get_or both 1 []) ∷ []
+      record { a = rotated N R C n p q t c s x.a; v = turn_columns N n p q c s x.v; count = x.count; seen = x.seen }

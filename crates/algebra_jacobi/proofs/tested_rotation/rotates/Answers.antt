@@ -1,8 +1,9 @@
 -- `algebra_jacobi::tested_rotation::rotates` meets its contract.
 use Rattle.algebra_jacobi.specs.joints.Tested.{rotates}
-use borrow.Author.Rules.{rules}
+use Rattle.std.proofs.Common.{rules}
+use Rattle.std.proofs.lemmas.Grind.{common_steps}
 use Rattle.algebra_jacobi.proofs.tested_rotation.rotates.Goals as goal
 
 pub returns : goal.returns
 unfolding rotates
-returns c = rw c.is_zero.ensures
+returns g c = search (rules, common_steps)

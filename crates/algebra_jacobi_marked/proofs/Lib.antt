@@ -1,2 +1,0 @@
--- What the sweeps on marked numbers hand out.
-pub mod Seen
