@@ -2,12 +2,9 @@
 use Prim.Native.Nat.{ℕ}
 use mathlib.Core.Path.{◌≡◌, refl, sym, ap, ◌∙◌}
 use mathlib.Core.Bool.{Bool, true, false, cond}
-use mathlib.Core.List.{List, []}
-use lib.ListN.{get_or}
 use lib.Ieee.{Float}
 use Rattle.algebra.specs.Kind.{floats}
 use Rattle.algebra.specs.Jacobi.{State, jacobi}
-use Rattle.algebra_jacobi.specs.joints.States.{plain_state}
 use Rattle.arithmetic_cutoffs.specs.declared.Cutoffs.{Cutoffs}
 use Rattle.algebra.specs.Small.{Rows}
 use Rattle.adjustment.specs.Information.{inverted, w_rows, w_refused}
@@ -15,12 +12,12 @@ use Rattle.adjustment.specs.Adjusted.{Stack, Adjustment, u_rows, phi_a_rows, out
 use Rattle.adjustment_adjusted.specs.joints.FromInformation.{inverted_of, from_information, information_refusal}
 
 -- the matrix that is inverted, and the rotations
-module _ (c : Cutoffs) (N : ℕ) (ie : Rows) (both : List Rows) (made : ℕ) (e : plain_state both made ≡ jacobi floats c.rotation 6 6 N ie) where
-  pub inverted-of-is : (m : Rows) → m ≡ inverted c N ie (get_or both 0 []) → m ≡ inverted_of c N ie
+module _ (c : Cutoffs) (N : ℕ) (ie : Rows) (x : State Float) (e : x ≡ jacobi floats c.rotation 6 6 N ie) where
+  pub inverted-of-is : (m : Rows) → m ≡ inverted c N ie x.a → m ≡ inverted_of c N ie
   unfolding inverted_of
   inverted-of-is m em = em ∙ ap (λ (t : State Float). inverted c N ie t.a) e
 
-  pub made-is : made ≡ (jacobi floats c.rotation 6 6 N ie).count
+  pub made-is : x.count ≡ (jacobi floats c.rotation 6 6 N ie).count
   made-is = ap (λ (t : State Float). t.count) e
 
 -- from IE on, by its results: the matrix that is inverted, the rotations, whether a pivot was zero, and W

@@ -51,6 +51,7 @@ pub fn w_of(n: usize, m: [[f64; 6]; 6], zero_pivot: &mut bool) -> [[f64; 6]; 6]
     ensures value { result ≡ w_rows n m }
     ensures zero_pivot_after { zero_pivot.new ≡ w_refused n m }
 {
-    let v = inverse(m, n, zero_pivot);
-    doubled(n, v)
+    let v = inverse(m, n);
+    *zero_pivot = v.refused;
+    doubled(n, v.cells)
 }

@@ -22,9 +22,9 @@ pub fn inverted_of(c: Cutoffs, n: usize, ie: [[f64; 6]; 6], made: &mut usize) ->
     ensures value { result ≡ inverted_of c n ie }
     ensures made_after { made.new ≡ (jacobi floats c.rotation 6 6 n ie).count }
 {
-    let both = algebra_jacobi::jacobi(ie, n, c.rotation, made);
-    let eigen = both[0];
-    crate::ridge::inverted(c, n, ie, eigen)
+    let rotated = algebra_jacobi::jacobi(ie, n, c.rotation);
+    *made = rotated.count;
+    crate::ridge::inverted(c, n, ie, rotated.matrix)
 }
 
 // Φ_A, from W.

@@ -6,4 +6,4 @@ use Rattle.adjustment_adjusted.proofs.information.w_of.Goals as goal
 
 pub returns : goal.returns
 unfolding w_refused
-returns c = record { value = w_rows-is _ _ _ _ c.inverse-v.ensures.value c.doubled.ensures; zero_pivot_after = c.inverse-v.ensures.zero_pivot_after }
+returns c = record { value = w_rows-is _ _ _ _ c.inverse-v.ensures.cells c.doubled.ensures; zero_pivot_after = c.inverse-v.ensures.refused }
