@@ -2,17 +2,14 @@
 use Prim.Native.Nat.{ℕ}
 use mathlib.Core.Path.{◌≡◌, refl}
 use mathlib.Core.Bool.{Bool, true, false, cond}
-use mathlib.Core.List.{List, []}
+use mathlib.Core.List.{List}
 use lib.Dec.{eqb}
-use lib.ListN.{get_or}
 use lib.Ieee.{Float}
 use Rattle.arithmetic.specs.declared.Marked.{Marked}
-use Rattle.arithmetic.specs.Numbers.{plus_zero}
-use Rattle.arithmetic.specs.Marks.{marked, also}
+use Rattle.arithmetic.specs.Marks.{also}
 use Rattle.algebra.specs.Kind.{marks}
 use Rattle.algebra.specs.Product.{at}
-use Rattle.algebra.specs.Jacobi.{jacobi}
-use Rattle.algebra_jacobi.specs.joints.States.{marked_state}
+use Rattle.algebra.specs.Jacobi.{State, jacobi}
 use Rattle.algebra.specs.Small.{MarkedRows, Rows, given_cells}
 use Rattle.arithmetic_cutoffs.specs.declared.Cutoffs.{Cutoffs}
 use Rattle.std.specs.Prelude.{Option}
@@ -38,16 +35,15 @@ pub several-entry-from : (c : Cutoffs) (n q : ℕ) (a : Rows) (ld : MarkedRows) 
 unfolding several_entry_of
 several-entry-from c n q a ld js d v seen order es x jx r e1 e2 e3 e4 e5 = rw (← e1, ← e2, ← e3, ← e4) e5
 
--- several rows, from Jacobi's two matrices
-module _ (c : Cutoffs) (n q : ℕ) (a : Rows) (ld v : MarkedRows) (js : List MarkedRows) (both : List MarkedRows) (count : ℕ) (tests : Bool)
-    (e : marked_state both count tests ≡ jacobi marks c.rotation 6 6 q v) where
+-- several rows, from where Jacobi's sweeps end
+module _ (c : Cutoffs) (n q : ℕ) (a : Rows) (ld v : MarkedRows) (js : List MarkedRows) (t : State Marked) (e : t ≡ jacobi marks c.rotation 6 6 q v) where
   pub several-entry-is : (start seen : Marked) (r : Entry) → start ≡ start_seen_of n q ld v js
-      → seen ≡ rotations_seen_of q (get_or both 0 []) (get_or both 1 []) (marked plus_zero tests) start → r ≡ several_entry_of c n q a ld js (get_or both 0 []) (get_or both 1 []) seen
+      → seen ≡ rotations_seen_of q t.a t.v t.seen start → r ≡ several_entry_of c n q a ld js t.a t.v seen
       → r ≡ (several_outcome_of c n q a ld v js).entry
   unfolding several_outcome_of
   several-entry-is start seen r e1 e2 e3 = rw (← e, ← e1, ← e2) e3
 
-  pub several-refused-is : (es : List Float) (z : Bool) → es ≡ eigenvalues marks q (get_or both 0 []) → z ≡ not_positive q es → z ≡ (several_outcome_of c n q a ld v js).refused
+  pub several-refused-is : (es : List Float) (z : Bool) → es ≡ eigenvalues marks q t.a → z ≡ not_positive q es → z ≡ (several_outcome_of c n q a ld v js).refused
   unfolding several_outcome_of
   several-refused-is es z e1 e2 = rw (← e, ← e1) e2
 

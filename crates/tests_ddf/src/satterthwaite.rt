@@ -11,11 +11,11 @@ use crate::components::{
 };
 use crate::starts::{contrast_of, start_seen, transform_contrast, transformed};
 use crate::variance::{gradient_seen, no_marks, variance_df};
-use algebra_jacobi_marked::jacobi;
+use algebra_jacobi::jacobi;
 use algebra_products::cells::{all_marks, given_cells};
 use arithmetic::Marked;
 use arithmetic_cutoffs::Cutoffs;
-use arithmetic_steps::{also, is_inside, seen_of};
+use arithmetic_steps::{also, is_inside};
 use tests::both::square_one;
 use tests::{Entry, number_of};
 
@@ -137,15 +137,12 @@ pub fn several_rows(
     ensures value { result ≡ (several_outcome_of c n q a ld v js).entry }
     ensures refused_after { refused.new ≡ (several_outcome_of c n q a ld v js).refused }
 {
-    let mut count = 0;
-    let mut inside = true;
-    let both = jacobi(v, q, c.rotation, &mut count, &mut inside);
-    let tests = seen_of(inside);
-    let d = both[0];
-    let x = both[1];
+    let rotated = jacobi(v, q, c.rotation);
+    let d = rotated.matrix;
+    let x = rotated.vectors;
     *refused = not_positive(eigenvalues(d, q), q);
     let start = start_seen(ld, v, js, n, q);
-    let seen = rotations_seen(d, x, q, tests, start);
+    let seen = rotations_seen(d, x, q, rotated.seen, start);
     several_entry(c, a, ld, js, d, x, n, q, seen)
 }
 

@@ -9,7 +9,7 @@ ghost use Rattle.tests_kr_modcomp.specs.joints.Parts.{scaled_of, basis_of, scali
 ghost use Rattle.tests.specs.Both.{stack_seen};
 
 use adjustment_response_units::scaled_down;
-use algebra_elimination_marked::solve;
+use algebra_elimination::solve;
 use algebra_products::cells::{all_marks, given_cells, values};
 use algebra_products::{product, sandwich, transpose, zeros};
 use arithmetic::Marked;
@@ -283,7 +283,9 @@ pub fn theta_entry(
     ensures zero_pivot_after { zero_pivot.new ≡ refused marks 6 12 q p (sandwich marks 6 6 q p l phi) l }
 {
     let a = sandwich(l, phi, q, p);
-    let x = solve(a, l, q, p, zero_pivot);
+    let solved = solve(a, l, q, p);
+    *zero_pivot = solved.refused;
+    let x = solved.cells;
     let tp = theta_phi(l, x, phi, p, q);
     let before = theta_seen(d, a, x, tp, p, q, seen);
     let mut plain = [[[0.0; 6]; 6]; 4];
@@ -315,13 +317,14 @@ pub fn kr_modcomp_full_rank(
     let d = difference(beta, beta_h, p);
     let ld = product(l, d, q, p, 1);
     let v = sandwich(l, phi_a, q, p);
-    let mut of_v = false;
-    let y = solve(v, ld, q, 1, &mut of_v);
+    let of_v = solve(v, ld, q, 1);
     let scaling = scaling_seen(phi, phi_a, ps, n, p, seen);
     let mut of_a = false;
-    let entry = theta_entry(c, phi, ps, w, l, d, ld, v, y, n, p, q, scaling, &mut of_a);
+    let entry = theta_entry(
+        c, phi, ps, w, l, d, ld, v, of_v.cells, n, p, q, scaling, &mut of_a,
+    );
     let several = q != 1;
-    *zero_pivot = of_a | (several & of_v);
+    *zero_pivot = of_a | (several & of_v.refused);
     entry
 }
 

@@ -10,4 +10,4 @@ returns c =
     let d = c.difference-d.ensures in
     let l = c.given_cells-l.ensures in
     let all = c.scaling_seen-scaling.ensures in
-    let entry = c.theta_entry-entry.ensures in record { value = tested-is _ _ _ _ _ _ _ _ _ _ _ _ _ _ _ _ l d ld v _ _ _ c.solve-y.ensures.value all entry.value; zero_pivot_after = refused-is _ _ _ _ _ _ _ _ _ _ _ _ _ _ _ _ l d ld v _ _ entry.zero_pivot_after c.solve-y.ensures.zero_pivot_after }
+    let entry = c.theta_entry-entry.ensures in record { value = tested-is _ _ _ _ _ _ _ _ _ _ _ _ _ _ _ _ l d ld v _ _ _ c.solve-of_v.ensures.cells all entry.value; zero_pivot_after = refused-is _ _ _ _ _ _ _ _ _ _ _ _ _ _ _ _ l d ld v _ _ entry.zero_pivot_after c.solve-of_v.ensures.refused }
