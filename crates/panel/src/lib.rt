@@ -8,6 +8,8 @@ ghost use Rattle.records.specs.calls.KenwardRogerCall as series;
 ghost use Rattle.records.specs.calls.SatterthwaiteCall as parameters;
 ghost use Rattle.records.specs.calls.ArchiveCall as archives;
 
+use records::refusal::result_number;
+
 // The Kenward–Roger call, of at most 24 specimens: seven entries in 168 bytes, coefficients 0–5 and the contrast. The answer keeps its contents where the number is not 0.
 #[unsafe(no_mangle)]
 pub extern "C" fn pull_kenward_roger_with(table: &[u8], records: &[u8], answer: &mut [u8]) -> u32
@@ -31,7 +33,7 @@ pub extern "C" fn pull_satterthwaite_with(table: &[u8], records: &[u8], answer: 
     ensures value { result ≡ parameters.returned table.now records.now answer.old }
     ensures answer_after { answer.new ≡ parameters.written table.now records.now answer.old }
 {
-    records_ddf::call_with(table, records, answer)
+    result_number(records_ddf::call_with(table, records, answer))
 }
 
 #[unsafe(no_mangle)]
@@ -39,7 +41,7 @@ pub extern "C" fn pull_satterthwaite(records: &[u8], answer: &mut [u8]) -> u32
     ensures value { result ≡ parameters.returned built_in_table records.now answer.old }
     ensures answer_after { answer.new ≡ parameters.written built_in_table records.now answer.old }
 {
-    records_ddf::call(records, answer)
+    result_number(records_ddf::call(records, answer))
 }
 
 // The archive of a Kenward–Roger series of at most 24 specimens, at the front of 7,184 lent bytes: returns its length, at least 128, or the number that refuses, and then the bytes keep their contents.

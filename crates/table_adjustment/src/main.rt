@@ -65,7 +65,7 @@ fn print_case(file: &[u8]) {
     }
     let mut flags = [false; PANEL_CELLS];
     let mut sheet = [0.0; PANEL_CELLS];
-    if records_refusals::refusal(24, file, &mut flags, &mut sheet) == 0 {
+    if let Ok(()) = records_refusals::refusal(24, file, &mut flags, &mut sheet) {
         print_adjustment(file, &mut sheet);
     }
 }

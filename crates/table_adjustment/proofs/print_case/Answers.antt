@@ -1,6 +1,6 @@
 -- `table_adjustment::print_case` meets its contract.
 use native.Mathlib.Omega.{arith}
-use mathlib.Core.Path.{refl}
+use mathlib.Core.Path.{refl, sym}
 use lib.Ieee.{of_bits, binary64}
 use lib.ListN.{replicate}
 use mathlib.Core.Bool.{false}
@@ -20,8 +20,8 @@ pub print_adjustment-requires : goal.print_adjustment-requires
 unfolding of_bits
 print_adjustment-requires c =
     let a = c.args in
-    let r = c.refusal.ensures in
+    let r = c.in-Ok.ensures in
     let e = slot-count 24 Series in
     let room : Room 24 (replicate 835 false) (replicate 835 (of_bits binary64 0)) =
     record { some = omega arith; most = omega arith; clear = refl; blank = refl; flagged = omega arith; written = omega arith } in
-    series-read 24 a.file.now _ _ _ _ room r.value c.if-refusal-eq0.true r.sheet_after
+    series-read 24 a.file.now _ _ _ room (sym r.value) r.sheet_after
