@@ -1,5 +1,6 @@
 // Answers by a lab's table: the number that the call returns and, where it accepts, a blank and the bytes that it writes, in digits.
 use crate::calls::{Answer, Answers, SHORTEST};
+use records::refusal::result_number;
 use records::{ANSWER_LENGTH, ARCHIVE_LENGTH, ENTRY_LENGTH};
 
 #[derive(Clone, Copy)]
@@ -32,7 +33,7 @@ impl<'a> Answers for WithTable<'a> {
 
     fn put_satterthwaite(&self, file: &[u8], own: &mut Answer) {
         let mut answer = [0u8; ENTRY_LENGTH];
-        let number = records_ddf::call_with(self.table, file, &mut answer);
+        let number = result_number(records_ddf::call_with(self.table, file, &mut answer));
         put_filled(number, &answer, own);
     }
 

@@ -2,7 +2,7 @@
 use crate::buffer::{BAR, Buffer};
 use crate::calls::{Answer, Answers, SHORTEST};
 use arithmetic_cutoffs::document_cutoffs;
-use records::ARCHIVE_LENGTH;
+use records::{ARCHIVE_LENGTH, RecordKind};
 use records_answer_text::{TEXT_ROOM, put_run};
 use tests::Entry;
 use tests_entries::no_entry;
@@ -11,9 +11,9 @@ use tests_entries::no_entry;
 const CONTRAST: usize = 6;
 
 // The first and the last kind of the records that ask for tests: β, the contrast and β_H.
-const BETA: u8 = 8;
+const FIRST_KIND: u8 = RecordKind::Beta as u8;
 
-const HYPOTHESIS: u8 = 10;
+const LAST_KIND: u8 = RecordKind::BetaH as u8;
 
 // Room for these records, 64 of 16 bytes: a series within the panel's limits has 48.
 type Tests = Buffer<1024>;
@@ -41,7 +41,7 @@ fn own_tests(file: &[u8]) -> Tests {
     let (records, _) = file.as_chunks::<16>();
     for (i, record) in records.iter().enumerate() {
         let kind = records_file::kind_of(file, i);
-        if BETA <= kind && kind <= HYPOTHESIS {
+        if FIRST_KIND <= kind && kind <= LAST_KIND {
             tests.put(record);
         }
     }
@@ -57,11 +57,14 @@ impl Answers for WithoutTable {
 
     // The one entry of this call stands where a contrast's does.
     fn put_satterthwaite(&self, file: &[u8], own: &mut Answer) {
-        let mut number: u32 = 0;
-        let e = records_ddf::judge(document_cutoffs(), file, &mut number);
-        let mut es = [no_entry(); 7];
-        es[CONTRAST] = e;
-        put_entries(number, es, own);
+        match records_ddf::judge(document_cutoffs(), file) {
+            Ok(e) => {
+                let mut es = [no_entry(); 7];
+                es[CONTRAST] = e;
+                put_entries(0, es, own);
+            }
+            Err(refusal) => put_entries(u32::from(refusal), [no_entry(); 7], own),
+        }
     }
 
     // An archive in digits, and the tests from it that the series' own records ask for.
