@@ -8,12 +8,14 @@ ghost use Rattle.records.specs.format.Scan.{any};
 ghost use Rattle.records.specs.format.File.{count, is_cell};
 ghost use Rattle.records.specs.readers.Series.{kinds, block_of, miscounted};
 
+use records::RecordKind;
+
 // Record i is of block b.
 fn is_block(s: &[u8], b: usize, i: usize) -> bool
     requires { i < count s.now }
     ensures { result ≡ is_cell (kinds s.now) s.now 3 0 b 0 i }
 {
-    if records_file::kind_of(s, i) != 3 {
+    if records_file::kind_of(s, i) != RecordKind::Block as u8 {
         return false;
     }
     records_file::row_at(s, i) == b
@@ -58,7 +60,7 @@ fn miscounted(s: &[u8], i: usize) -> bool
     requires { i < count s.now }
     ensures { result ≡ miscounted s.now i }
 {
-    if records_file::kind_of(s, i) != 3 {
+    if records_file::kind_of(s, i) != RecordKind::Block as u8 {
         return false;
     }
     let k = records_file::column_at(s, i);
