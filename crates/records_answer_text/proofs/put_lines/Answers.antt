@@ -3,7 +3,6 @@ use native.Mathlib.Omega.{arith}
 use mathlib.Core.Path.{refl}
 use Rattle.records.specs.text.Text.{lines_text}
 use Rattle.records_answer_text.proofs.CursorLaws.{then, named}
-use Rattle.records_answer_text.proofs.TextLaws.{past, get_d_any}
 use borrow.Author.Rules.{rules}
 use Rattle.records_answer_text.proofs.put_lines.Goals as goal
 

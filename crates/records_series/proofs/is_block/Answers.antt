@@ -16,9 +16,9 @@ block-cell : (s : List ℕ) (b i : ℕ) → kind_of s i ≡ 3 → is_cell (kinds
 unfolding is_cell kind_at kenward_roger_kinds index_of
 block-cell s b i e = rw e (and-true (eqb (row_of s i) b && true) ∙ and-true (eqb (row_of s i) b))
 
-pub returns-then-kind_of-ne3 : goal.returns-then-kind_of-ne3
+pub returns-then-kind_of : goal.returns-then-kind_of
 unfolding is_cell
-returns-then-kind_of-ne3 c = rw (← c.kind_of.ensures, ne_eqb _ _ c.if-kind_of-ne3.true)
+returns-then-kind_of c = rw (← c.kind_of.ensures, ne_eqb _ _ c.if-kind_of.true)
 
 pub returns : goal.returns
-returns c = rw (block-cell _ _ _ (sym c.kind_of.ensures ∙ c.if-kind_of-ne3.false), ← c.row_at.ensures.0)
+returns c = rw (block-cell _ _ _ (sym c.kind_of.ensures ∙ c.if-kind_of.false), ← c.row_at.ensures.0)

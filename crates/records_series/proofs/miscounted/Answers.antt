@@ -17,12 +17,12 @@ block-miscounted : (s : List ℕ) (i k n : ℕ) → kind_of s i ≡ 3 → k ≡ 
 unfolding miscounted
 block-miscounted s i k n q ek en = rw (eq-eqb (kind_of s i) 3 q, ek, en)
 
-pub returns-then-kind_of-ne3 : goal.returns-then-kind_of-ne3
+pub returns-then-kind_of : goal.returns-then-kind_of
 unfolding miscounted
-returns-then-kind_of-ne3 c = rw (← c.kind_of.ensures, ne_eqb _ _ c.if-kind_of-ne3.true)
+returns-then-kind_of c = rw (← c.kind_of.ensures, ne_eqb _ _ c.if-kind_of.true)
 
 pub overflow_mul-result : goal.overflow_mul-result
 overflow_mul-result c = let b = c.column_at-k.ensures.1 in omega (arith, twice-small c.column_at-k.result (omega arith))
 
 pub returns : goal.returns
-returns c = block-miscounted _ _ _ _ (sym c.kind_of.ensures ∙ c.if-kind_of-ne3.false) c.column_at-k.ensures.0 c.first_value_at.ensures.0
+returns c = block-miscounted _ _ _ _ (sym c.kind_of.ensures ∙ c.if-kind_of.false) c.column_at-k.ensures.0 c.first_value_at.ensures.0
