@@ -1,7 +1,6 @@
 -- `records_kenward_roger::judge` meets its contract.
 use Rattle.records_refusals.proofs.RoomLaws.{series-read}
 use Rattle.records_kenward_roger.proofs.Numbers.{early-number, judged-refused}
-use borrow.Author.Rules.{rules}
 use Rattle.records_kenward_roger.proofs.judge.Goals as goal
 
 pub returns-then-early-ne0 : goal.returns-then-early-ne0
