@@ -72,12 +72,8 @@ fn adjust_and_put(
     let z = records_sizes::series_sizes(s);
     let firsts = records_sheet::first_slots(Shape::Series, z);
     let n = records_torn::shorten(z, &firsts, sheet);
-    let blank = algebra_products::zeros();
-    let mut phi_a = blank;
-    let mut ps = [blank; 4];
-    let mut w = blank;
-    let mut count: usize = 0;
-    let late = records_kenward_roger::kenward_roger_modcomp_data(
+    let mut ps = [algebra_products::zeros(); 4];
+    let adjusted = match records_kenward_roger::kenward_roger_modcomp_data(
         limit,
         c,
         s,
@@ -87,14 +83,11 @@ fn adjust_and_put(
         &sheet[..],
         work,
         narrow,
-        &mut phi_a,
         &mut ps,
-        &mut w,
-        &mut count,
-    );
-    if late != 0 {
-        return late;
-    }
+    ) {
+        Ok(adjusted) => adjusted,
+        Err(refusal) => return u32::from(refusal),
+    };
     put_series(
         limit,
         c,
@@ -102,9 +95,9 @@ fn adjust_and_put(
         z,
         &firsts,
         &sheet[..],
-        &phi_a,
+        &adjusted.phi_a,
         &ps,
-        &w,
+        &adjusted.w,
         archive,
     )
 }

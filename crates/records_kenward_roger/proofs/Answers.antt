@@ -10,7 +10,6 @@ use lib.ListN.{length, get_or, replicate, set, length-set}
 use lib.Seq.{ext_get_or}
 use lib.Ieee.{Float, binary64, add, sub, mul, div, lt}
 use lib.Ieee.Fits.{add-fits, mul-fits, div-fits}
-use borrow.Author.Tests.{eq-eqb}
 use Rattle.arithmetic.specs.declared.Marked.{Marked}
 use Rattle.arithmetic.specs.Numbers.{plus_zero, one, magnitude, of_count}
 use Rattle.arithmetic_cutoffs.specs.declared.Cutoffs.{Cutoffs}

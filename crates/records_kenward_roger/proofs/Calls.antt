@@ -18,18 +18,17 @@ use Rattle.algebra_large.specs.joints.Slab.{rows_at, Holds}
 use Rattle.adjustment.specs.declared.Block.{Block}
 use Rattle.adjustment.specs.Blocks.{no_block, columns_before, places_before}
 use Rattle.adjustment.specs.Covariance.{Design, matrices}
-use Rattle.adjustment.specs.Adjusted.{Adjustment, adjustment, adjustment_refusal}
+use Rattle.adjustment.specs.Adjusted.{adjustment, adjustment_refusal}
 use Rattle.adjustment_covariance.specs.joints.Bounds.{Sound}
-use Rattle.adjustment_covariance.specs.joints.Lent.{Lent}
+use Rattle.adjustment_covariance.specs.joints.Lent.{LentParts}
 use Rattle.adjustment_work.specs.joints.Work.{design_of}
-use Rattle.adjustment_adjusted.specs.joints.FromInformation.{accepted as kept}
 use Rattle.tests.specs.KenwardRoger.{Scaled, run_of}
 use Rattle.tests_run.specs.joints.Units.{response_units}
 use Rattle.tests_run.proofs.RunLaws.{response-units-is}
 use Rattle.records.specs.declared.Sizes.{Sizes}
-use Rattle.records.specs.format.Kinds.{width, kind_at, kinds_of, kind_numbers, kenward_roger_kinds, limits}
+use Rattle.records.specs.format.Kinds.{width, kind_at, kind_numbers, kenward_roger_kinds, limits}
 use Rattle.records.specs.format.Cells.{first_slot, slot_count}
-use Rattle.records.specs.format.File.{count, present}
+use Rattle.records.specs.format.File.{present}
 use Rattle.records.specs.readers.Shortened.{kept_specimens, shortened}
 use Rattle.records.specs.readers.Series.{specimens, coefficients, z_columns, block_count, thetas, contrast_rows, weight_count, sizes, kinds, block_of, as_sent, design, phi, sigma2, beta, beta_h, contrast}
 use Rattle.records.specs.calls.KenwardRogerCall.{adjusted, scaled, run}
@@ -230,7 +229,7 @@ module _ (w : ℕ) (s : List ℕ) (fs : List ℕ) (xs : List Float) (h : SeriesS
   own-few = let b = (sound-blocks w h.some s facts).thetas in omega arith
 
   -- what the adjustment asks of the lent design: X and Z have a row for each specimen that was sent
-  own-lent : Lent left (z_columns s) (z_columns s) (part_of fs xs 2) (present s 5) (weights_of fs xs (weights_kept s)) (row no_block 3 (block_count s) (block_of s)) (block_count s)
+  own-lent : LentParts left (z_columns s) (z_columns s) (part_of fs xs 2) (present s 5) (weights_of fs xs (weights_kept s)) (row no_block 3 (block_count s) (block_of s)) (block_count s)
   own-lent = record {
     sound = own-sound;
     within = let e = own-columns in omega arith;
@@ -376,19 +375,19 @@ module _ (w : ℕ) (s : List ℕ) (z : Sizes) (fs : List ℕ) (xs : List Float) 
       unfolding sizes
       weighed-ends = rw (em, h.sized, en ∙ short_n s) (weights-within w s fs xs read)
 
-      module _ (blocks : List Block) (eb : blocks ≡ row no_block 3 z.blocks (block_of s)) where
-        pub lent_is : Lent n z.columns z.columns (part_of fs xs 2) z.weighted (weights_of fs xs m) blocks z.blocks
+      module _ (blocks : List Block) (eb : blocks ≡ row no_block 3 z.blocks (block_of s)) (weighted : Bool) (ws : List Float) (eg : weighted ≡ z.weighted) (ew : ws ≡ weights_of fs xs m) where
+        pub lent_is : LentParts n z.columns z.columns (part_of fs xs 2) weighted ws blocks z.blocks
         unfolding sizes
-        lent_is = rw (em, eb, h.sized, en ∙ short_n s) (own-lent w s fs xs read)
+        lent_is = rw (eg, ew, em, eb, h.sized, en ∙ short_n s) (own-lent w s fs xs read)
 
         -- the adjustment is the file's
         module _ (c : Cutoffs) (theta : List Float) (q : Rows) (et : theta ≡ numbers_at xs 3 (get_or fs 4 0) z.thetas) (eq : q ≡ cells_at xs (get_or fs 6 0) z.coefficients z.coefficients) where
           abbrev lent : Design
-          lent = design_of n z.coefficients (part_of fs xs 1) z.coefficients (part_of fs xs 2) z.columns z.columns z.weighted (weights_of fs xs m) blocks z.blocks theta
+          lent = design_of n z.coefficients (part_of fs xs 1) z.coefficients (part_of fs xs 2) z.columns z.columns weighted ws blocks z.blocks theta
 
           design-is : lent ≡ design s
           unfolding sizes
-          design-is = rw (em, eb, et, h.sized, en ∙ short_n s) (own w s fs xs read)
+          design-is = rw (eg, ew, em, eb, et, h.sized, en ∙ short_n s) (own w s fs xs read)
 
           phi-is : q ≡ phi s
           phi-is = eq ∙ phi-read
@@ -410,7 +409,3 @@ module _ (w : ℕ) (s : List ℕ) (z : Sizes) (fs : List ℕ) (xs : List Float) 
       → run_of marks c (response_units z.coefficients N m phi_a ps v x) b bh z.contrasts l ≡ run c s
   unfolding sizes
   run_is c N m phi_a v l ps b bh x n eN em eb en eh el ex e1 e2 e3 = rw (eN, em, eb, eh, en, el, ex, e1, e2, e3, h.sized) (own-run w s fs xs read c)
-
--- what is lent for an answer, where the adjustment is given in another way
-pub answer-same : {A : Type 0} (f : Adjustment → A) (k : ℕ) (a b : Adjustment) (x y : A) → x ≡ kept k (f a) y → a ≡ b → x ≡ kept k (f b) y
-answer-same f k a b x y e ea = e ∙ ap (λ (q : Adjustment). kept k (f q) y) ea

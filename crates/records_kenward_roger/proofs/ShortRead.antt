@@ -16,7 +16,7 @@ use Rattle.algebra.proofs.TableLaws.{row_at, table_at, table-ext}
 use Rattle.algebra_large.specs.joints.Slab.{rows_at}
 use Rattle.algebra_large.proofs.SlabLaws.{rows_at-at, shape-table, shape-rows_at, shape-ext}
 use Rattle.records.specs.format.Scan.{any}
-use Rattle.records.specs.format.Kinds.{width, Table, kind_at, kinds_of, kenward_roger_kinds}
+use Rattle.records.specs.format.Kinds.{width, Table, kind_at, kenward_roger_kinds}
 use Rattle.records.specs.format.Cells.{slots, first_slot, slot_count}
 use Rattle.records.specs.format.File.{count, beyond, present}
 use Rattle.records.specs.readers.Shortened.{torn, kept_specimens}

@@ -1,7 +1,8 @@
 // The whole Kenward–Roger call: the bytes of a file in, a number and seven entries out (kenward_roger).
 #![tactic(auto)]
 
-ghost use Rattle.std.specs.Prelude.{◌≡◌, cond, ◌*◌, ◌≤◌, length, eqb};
+ghost use Rattle.std.specs.Prelude.{◌≡◌, false, [], cond, ◌-◌, ◌*◌, ◌≤◌, length, eqb, is_some, take, drop};
+ghost use Rattle.std.specs.Option.{option_copied, unwrap_or};
 ghost use Rattle.arithmetic_cutoffs.specs.Cutoffs.{document_cutoffs};
 ghost use Rattle.records.specs.format.Layout.{answer_bytes, answer_length};
 ghost use Rattle.records.specs.readers.CutoffTable.{built_in_table};
@@ -14,6 +15,7 @@ ghost use Rattle.records.specs.format.Kinds.{panel_limit};
 ghost use Rattle.records_kenward_roger.specs.joints.Left.{Adjusts, Judges};
 ghost use Rattle.records_answer_text.specs.joints.Cursor.{Put, text_room};
 
+use adjustment::{AdjustedPhi, AdjustmentRefusal, CovarianceDesign, LentDesign};
 use adjustment_kr_vcov_adj::vcov_adj16_with_pw;
 use arithmetic_cutoffs::{Cutoffs, document_cutoffs};
 use records::{ANSWER_LENGTH, PANEL_LIMIT, RecordKind, Shape, Sizes};
@@ -30,8 +32,19 @@ pub const PANEL_WORK: usize = 3456;
 
 pub const PANEL_NARROW: usize = 864;
 
+// The weights on a sheet, from `first` up to `end`, where there are any.
+fn weights_on(sheet: &[f64], weighted: bool, first: usize, end: usize) -> Option<&[f64]>
+    requires { (first ≤ end) × (end ≤ length sheet.now) × (weighted ≡ false → end ≡ first) }
+    ensures { (is_some result ≡ weighted) × (unwrap_or (option_copied result) [] ≡ take (end - first) (drop first sheet.now)) }
+{
+    if weighted {
+        return Some(&sheet[first..end]);
+    }
+    None
+}
+
 // The adjustment of a series that the reader takes, from its sheet, on which n specimens are left that are not torn, in lent slices with room for six squares of as many rows, and for six parts of so
-// many rows of 6: no more is cleared than the series uses. Returns 0, or 9, 10 or 4: then what is lent for answers stays as it is.
+// many rows of 6: no more is cleared than the series uses. Where there is no adjustment the Ps stay as they are.
 pub fn kenward_roger_modcomp_data(
     limit: usize,
     c: Cutoffs,
@@ -42,14 +55,10 @@ pub fn kenward_roger_modcomp_data(
     sheet: &[f64],
     work: &mut [f64],
     narrow: &mut [f64],
-    phi_a: &mut [[f64; 6]; 6],
     ps: &mut [[[f64; 6]; 6]; 4],
-    w: &mut [[f64; 6]; 6],
-    rotations: &mut usize,
-) -> u32
+) -> Result<AdjustedPhi, AdjustmentRefusal>
     requires { SeriesShort limit s.now z firsts.now sheet.now × (n ≡ (design s.now).n) × (6 * (limit * limit) ≤ length work.old) × (36 * limit ≤ length narrow.old) }
-    ensures { Adjusts c s.now result phi_a.old phi_a.new ps.old ps.new
-        w.old w.new rotations.old rotations.new }
+    ensures { Adjusts c s.now result ps.old ps.new }
 {
     let p = z.coefficients;
     let squares = 6 * (n * n);
@@ -63,32 +72,32 @@ pub fn kenward_roger_modcomp_data(
     let square = firsts[RecordKind::Phi as usize];
     let variance = firsts[RecordKind::Sigma2 as usize];
     let weighed = weights + records_kinds::given(z.weighted, n);
-    let blocks = records_series::blocks_of(s, z.blocks);
-    let theta = records_sheet_parts::three_at(sheet, thetas, z.thetas);
+    let covariance = CovarianceDesign {
+        specimens: n,
+        z: &sheet[random..block],
+        stride: z.columns,
+        columns: z.columns,
+        weights: weights_on(sheet, z.weighted, weights, weighed),
+        blocks: records_series::blocks_of(s, z.blocks),
+        count: z.blocks,
+    };
+    let design = LentDesign {
+        covariance,
+        x: &sheet[x..random],
+        x_stride: p,
+        coefficients: p,
+        theta: records_sheet_parts::three_at(sheet, thetas, z.thetas),
+    };
     let phi = cells_at(sheet, square, p, p);
     vcov_adj16_with_pw(
         &mut work[..squares],
         n,
         &mut narrow[..parts],
-        &sheet[x..random],
-        p,
-        &sheet[random..block],
-        z.columns,
-        z.columns,
-        z.weighted,
-        &sheet[weights..weighed],
-        blocks,
-        z.blocks,
-        theta,
-        n,
-        p,
+        &design,
         phi,
         sheet[variance],
         c,
-        phi_a,
         ps,
-        w,
-        rotations,
     )
 }
 
@@ -168,12 +177,8 @@ fn run_of(
     let z = records_sizes::series_sizes(s);
     let firsts = records_sheet::first_slots(Shape::Series, z);
     let n = records_torn::shorten(z, &firsts, sheet);
-    let blank = algebra_products::zeros();
-    let mut phi_a = blank;
-    let mut ps = [blank; 4];
-    let mut w = blank;
-    let mut count: usize = 0;
-    let late = kenward_roger_modcomp_data(
+    let mut ps = [algebra_products::zeros(); 4];
+    let adjusted = match kenward_roger_modcomp_data(
         limit,
         c,
         s,
@@ -183,17 +188,16 @@ fn run_of(
         &sheet[..],
         work,
         narrow,
-        &mut phi_a,
         &mut ps,
-        &mut w,
-        &mut count,
-    );
-    if late != 0 {
-        *told = late;
-        *made = 0;
-        *pulled = 0;
-        return [no_entry(); 7];
-    }
+    ) {
+        Ok(adjusted) => adjusted,
+        Err(refusal) => {
+            *told = u32::from(refusal);
+            *made = 0;
+            *pulled = 0;
+            return [no_entry(); 7];
+        }
+    };
     let mut refused = false;
     let es = tests_of(
         limit,
@@ -202,12 +206,12 @@ fn run_of(
         z,
         &firsts,
         &sheet[..],
-        phi_a,
+        adjusted.phi_a,
         ps,
-        w,
+        adjusted.w,
         &mut refused,
     );
-    *made = counted(refused, count);
+    *made = counted(refused, adjusted.rotations);
     *pulled = counted(refused, n);
     answer_of(refused, es, told)
 }

@@ -13,7 +13,7 @@ use records::Shape;
 use records_answer_text::TEXT_ROOM;
 use records_kenward_roger::{PANEL_CELLS, PANEL_NARROW, PANEL_WORK};
 
-// The adjustment of a file that the reader takes, from its sheet. An accepted series has one place for each theta, and one G more.
+// The adjustment of a file that the reader takes and whose tests were printed, from its sheet: such a file has one. An accepted series has one place for each theta, and one G more.
 fn print_adjustment(file: &[u8], sheet: &mut [f64])
     requires { SeriesRead 24 file.now (sizes file.now) (first_slots (kinds file.now)) sheet.old }
 {
@@ -23,14 +23,10 @@ fn print_adjustment(file: &[u8], sheet: &mut [f64])
     // No series has more.
     let p = z.coefficients.min(6);
     let n = z.thetas.min(3) + 1;
-    let blank = algebra_products::zeros();
     let mut work = [0.0; PANEL_WORK];
     let mut narrow = [0.0; PANEL_NARROW];
-    let mut phi_a = blank;
-    let mut ps = [blank; 4];
-    let mut w = blank;
-    let mut turns: usize = 0;
-    records_kenward_roger::kenward_roger_modcomp_data(
+    let mut ps = [algebra_products::zeros(); 4];
+    let Ok(adjusted) = records_kenward_roger::kenward_roger_modcomp_data(
         24,
         document_cutoffs(),
         file,
@@ -40,15 +36,14 @@ fn print_adjustment(file: &[u8], sheet: &mut [f64])
         &sheet[..],
         &mut work,
         &mut narrow,
-        &mut phi_a,
         &mut ps,
-        &mut w,
-        &mut turns,
-    );
-    print::matrix(b"PhiA", &phi_a[..p], p);
+    ) else {
+        return;
+    };
+    print::matrix(b"PhiA", &adjusted.phi_a[..p], p);
     print::numbered(&ps[..n], p);
-    print::matrix(b"W", &w[..n], n);
-    print::rotations(turns);
+    print::matrix(b"W", &adjusted.w[..n], n);
+    print::rotations(adjusted.rotations);
 }
 
 // What `pulltest` prints, and whether that is a refusal: no other line begins with an r.

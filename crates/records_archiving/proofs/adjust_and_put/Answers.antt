@@ -1,10 +1,11 @@
 -- `records_archiving::adjust_and_put` meets its contract.
-use mathlib.Core.Path.{◌≡◌, sym, ◌∙◌, subst}
+use mathlib.Core.Path.{◌≡◌, refl, sym, ap, ◌∙◌, subst}
+use Rattle.adjustment.specs.declared.AdjustedPhi.{AdjustedPhi}
 use Rattle.records.specs.readers.Series.{design}
 use Rattle.records_sheet.specs.joints.Sheet.{Small}
 use Rattle.records_refusals.specs.joints.Room.{SeriesRead, SeriesShort}
 use Rattle.records_refusals.proofs.RoomLaws.{at-hand, accepted-small, can-shorten, kept_run, series-short}
-use Rattle.adjustment_kr_vcov_adj.proofs.CallLaws.{accepted-yes}
+use Rattle.adjustment_kr_vcov_adj.proofs.CallLaws.{accepted-yes, refusal-above}
 use Rattle.records_archiving.proofs.ArchivingLaws.{adjustment-refuses, archives}
 use borrow.Author.Rules.{rules}
 use Rattle.records_archiving.proofs.adjust_and_put.Goals as goal
@@ -21,18 +22,18 @@ shorten-n-requires c =
     at-hand a.limit a.s.now _ _ a.sheet.now c.requires.series_read.0 c.series_sizes-z.ensures c.first_slots-firsts.ensures in
     can-shorten _ _ _ _ _ as_read
 
-pub kenward_roger_modcomp_data-late-requires : goal.kenward_roger_modcomp_data-late-requires
-kenward_roger_modcomp_data-late-requires c =
+pub kenward_roger_modcomp_data-requires : goal.kenward_roger_modcomp_data-requires
+kenward_roger_modcomp_data-requires c =
     let as_read : let a = c.args in SeriesRead a.limit a.s.now c.series_sizes-z.result c.first_slots-firsts.result a.sheet.now = let a = c.args in
     at-hand a.limit a.s.now _ _ a.sheet.now c.requires.series_read.0 c.series_sizes-z.ensures c.first_slots-firsts.ensures in
     let as_short : let a = c.args in SeriesShort a.limit a.s.now c.series_sizes-z.result c.first_slots-firsts.result c.shorten-n.new.sheet = series-short _ _ _ _ _ as_read _ c.shorten-n.ensures.sheet_after in
     let left-run : c.shorten-n.result ≡ (design c.args.s.now).n = kept_run _ _ _ _ _ as_read _ c.shorten-n.ensures.value.0 in
     let g = c.requires in (as_short, left-run, g.limit_in_bounds.0, g.limit_in_bounds.1)
 
-pub returns-then-late-ne0 : goal.returns-then-late-ne0
-returns-then-late-ne0 c =
+pub returns-in-Err : goal.returns-in-Err
+returns-in-Err c =
     let a = c.args in
-    let both = adjustment-refuses a.limit a.c a.s.now a.archive.now c.requires.series_read.0.taken _ c.kenward_roger_modcomp_data-late.ensures.number c.if-late-ne0.true in
+    let both = adjustment-refuses a.limit a.c a.s.now a.archive.now c.requires.series_read.0.taken _ (c.from.ensures ∙ c.in-Err.ensures.number) (λ z. refusal-above c.in-Err.refusal (sym c.from.ensures ∙ z)) in
     record { value = both.0; archive_after = both.1 }
 
 pub put_series-requires : goal.put_series-requires
@@ -40,14 +41,13 @@ put_series-requires c =
     let as_read : let a = c.args in SeriesRead a.limit a.s.now c.series_sizes-z.result c.first_slots-firsts.result a.sheet.now = let a = c.args in
     at-hand a.limit a.s.now _ _ a.sheet.now c.requires.series_read.0 c.series_sizes-z.ensures c.first_slots-firsts.ensures in
     let as_short : let a = c.args in SeriesShort a.limit a.s.now c.series_sizes-z.result c.first_slots-firsts.result c.shorten-n.new.sheet = series-short _ _ _ _ _ as_read _ c.shorten-n.ensures.sheet_after in
-    let q = c.kenward_roger_modcomp_data-late.ensures in
-    let h = c.if-late-ne0.false in
-    record { series_short = (as_short, c.requires.series_read.1); phi_a_value = (q.phi_a ∙ accepted-yes _ _ _ h, q.ps ∙ accepted-yes _ _ _ h, q.w ∙ accepted-yes _ _ _ h) }
+    let q = c.in-Ok.ensures in
+    record { series_short = (as_short, c.requires.series_read.1); phi_a_value = (ap (λ (t : AdjustedPhi). t.phi_a) q.value, q.ps ∙ accepted-yes _ _ _ refl, ap (λ (t : AdjustedPhi). t.w) q.value) }
 
 pub returns : goal.returns
 returns c =
     let a = c.args in
-    let z = sym c.kenward_roger_modcomp_data-late.ensures.number ∙ c.if-late-ne0.false in
+    let z = sym c.in-Ok.ensures.number in
     let q = c.put_series.ensures in
     let both = archives a.limit a.c a.s.now a.archive.now c.requires.series_read.0.taken _ _ z q.value q.archive_after in
     record { value = both.0; archive_after = both.1 }

@@ -4,7 +4,6 @@ use Rattle.records.specs.readers.CutoffTable.{built_in_table}
 use Rattle.records.proofs.readers.CutoffLaws.{built-in-accepted, built-in-numbers}
 use Rattle.records.specs.calls.KenwardRogerCall.{number, series_call}
 use Rattle.records.proofs.calls.CallLaws.{other_length, own-answer}
-use borrow.Author.Rules.{rules}
 use Rattle.records_kenward_roger.proofs.call.Goals as goal
 
 pub returns-then-answer-ne-ANSWER_LENGTH : goal.returns-then-answer-ne-ANSWER_LENGTH

@@ -3,7 +3,6 @@ use mathlib.Core.Path.{refl, sym, ◌∙◌}
 use Rattle.records.proofs.readers.CutoffLaws.{table-length}
 use Rattle.records.specs.calls.KenwardRogerCall.{number, series_call}
 use Rattle.records.proofs.calls.CallLaws.{other_length, other-table, own-answer}
-use borrow.Author.Rules.{rules}
 use Rattle.records_kenward_roger.proofs.call_with.Goals as goal
 
 pub returns-then-answer-ne-ANSWER_LENGTH : goal.returns-then-answer-ne-ANSWER_LENGTH

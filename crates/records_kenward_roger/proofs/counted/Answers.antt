@@ -1,6 +1,4 @@
 -- `records_kenward_roger::counted` meets its contract.
-use Rattle.records_kenward_roger.proofs.counted.Reads as reads
-use Rattle.records_kenward_roger.proofs.counted.Lts as lts
 use Rattle.records_kenward_roger.proofs.counted.Goals as goal
 
 pub returns-then-refused : goal.returns-then-refused

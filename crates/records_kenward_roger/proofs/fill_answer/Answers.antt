@@ -3,7 +3,6 @@ use mathlib.Core.Path.{ap, ◌∙◌}
 use Rattle.records.specs.format.Layout.{answer_bytes}
 use Rattle.records.specs.calls.KenwardRogerCall.{number, entries}
 use Rattle.records.proofs.calls.CallLaws.{kept-bytes, filled-bytes}
-use borrow.Author.Rules.{rules}
 use Rattle.records_kenward_roger.proofs.fill_answer.Goals as goal
 
 pub returns-then-number-ne0 : goal.returns-then-number-ne0

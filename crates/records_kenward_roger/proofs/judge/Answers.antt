@@ -1,7 +1,6 @@
 -- `records_kenward_roger::judge` meets its contract.
 use Rattle.records.proofs.format.RefusalNumbers.{no-zero}
 use Rattle.records_kenward_roger.proofs.Numbers.{early-number, judged-refused}
-use borrow.Author.Rules.{rules}
 use Rattle.records_kenward_roger.proofs.judge.Goals as goal
 
 pub returns-in-Err : goal.returns-in-Err

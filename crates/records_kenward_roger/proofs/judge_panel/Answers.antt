@@ -4,10 +4,6 @@ use native.Mathlib.Omega.{arith}
 use lib.Ieee.{of_bits}
 use Rattle.records.specs.declared.Shape.TheVariants.{Series}
 use Rattle.records.proofs.readers.Limits.{slot-count}
-use borrow.Author.Rules.{rules}
-use Rattle.records_kenward_roger.proofs.judge_panel.Reads as reads
-use Rattle.records_kenward_roger.proofs.judge_panel.Lts as lts
-use Rattle.records_kenward_roger.proofs.judge.Reads as judge-reads
 use Rattle.records_kenward_roger.proofs.judge_panel.Goals as goal
 
 pub judge-requires : goal.judge-requires

@@ -2,14 +2,16 @@
 use Prim.Native.Nat.{ℕ, ◌*◌, ◌≤◌}
 use native.Mathlib.Nat.{mul-le-mul}
 use native.Mathlib.Omega.{arith}
-use mathlib.Core.Path.{◌≡◌, refl, sym, ◌∙◌}
+use mathlib.Core.Path.{◌≡◌, refl, sym, ap, ◌∙◌}
 use lib.ListN.{length, take}
 use lib.Seq.{length-take-le}
 use Rattle.adjustment.specs.Adjusted.{Adjustment}
 use Rattle.records_refusals.specs.joints.Room.{SeriesShort}
 use Rattle.records_kenward_roger.proofs.Calls.{few-blocks, few-thetas, few-coefficients, run-within, few-weights, weighed-ends, in_order, start-within, sigma2-place, theta-ends, phi-ends}
-use Rattle.records_kenward_roger.proofs.Calls.{holds-is, lent_is, number-is-own, adjusted-is, answer-same}
-use borrow.Author.Rules.{rules}
+use Rattle.records_kenward_roger.proofs.Calls.{holds-is, lent_is, number-is-own, adjusted-is}
+use Rattle.adjustment_kr_vcov_adj.proofs.CallLaws.{value-is, answer-is}
+use Rattle.adjustment_adjusted.specs.joints.FromInformation.{phi_side}
+use mathlib.Core.Bool.{Bool, cond}
 use Rattle.records_kenward_roger.proofs.kenward_roger_modcomp_data.Goals as goal
 
 square-small : (n : ℕ) → n ≤ 256 → n * n ≤ 65536
@@ -51,13 +53,13 @@ overflow_add-weighed c =
     let l = lent.most in
     omega arith
 
-pub blocks_of-blocks-requires : goal.blocks_of-blocks-requires
-blocks_of-blocks-requires c =
+pub blocks_of-requires : goal.blocks_of-requires
+blocks_of-requires c =
     let lent : SeriesShort c.args.limit c.args.s.now c.args.z c.args.firsts.now c.args.sheet.now = c.requires.0 in
     few-blocks _ _ _ _ _ lent
 
-pub three_at-theta-requires : goal.three_at-theta-requires
-three_at-theta-requires c =
+pub three_at-requires : goal.three_at-requires
+three_at-requires c =
     let lent : SeriesShort c.args.limit c.args.s.now c.args.z c.args.firsts.now c.args.sheet.now = c.requires.0 in
     let h = lent in (theta-ends _ _ _ _ _ h, few-thetas _ _ _ _ _ h)
 
@@ -104,20 +106,20 @@ offset_bounds-sheet-x c =
     let lent_at : let a = c.args in SeriesShort a.limit a.s.now a.z a.firsts.now a.sheet.now = lent in
     let x = start-within _ _ _ _ _ lent_at 1 (omega arith) in let y = x.1 in omega arith
 
-pub slice_bounds-vcov_adj16_with_pw-count : goal.slice_bounds-vcov_adj16_with_pw-count
-slice_bounds-vcov_adj16_with_pw-count c =
+pub slice_bounds-design-count : goal.slice_bounds-design-count
+slice_bounds-design-count c =
     let lent : SeriesShort c.args.limit c.args.s.now c.args.z c.args.firsts.now c.args.sheet.now = c.requires.0 in
     let lent_at : let a = c.args in SeriesShort a.limit a.s.now a.z a.firsts.now a.sheet.now = lent in
     in_order _ _ _ _ _ lent_at 1 (omega arith)
 
-pub slice_bounds-vcov_adj16_with_pw-start : goal.slice_bounds-vcov_adj16_with_pw-start
-slice_bounds-vcov_adj16_with_pw-start c =
+pub slice_bounds-design-start : goal.slice_bounds-design-start
+slice_bounds-design-start c =
     let lent : SeriesShort c.args.limit c.args.s.now c.args.z c.args.firsts.now c.args.sheet.now = c.requires.0 in
     let lent_at : let a = c.args in SeriesShort a.limit a.s.now a.z a.firsts.now a.sheet.now = lent in
     in_order _ _ _ _ _ lent_at 1 (omega arith)
 
-pub slice_bounds-vcov_adj16_with_pw-end-5 : goal.slice_bounds-vcov_adj16_with_pw-end-5
-slice_bounds-vcov_adj16_with_pw-end-5 c =
+pub slice_bounds-design-end : goal.slice_bounds-design-end
+slice_bounds-design-end c =
     let lent : SeriesShort c.args.limit c.args.s.now c.args.z c.args.firsts.now c.args.sheet.now = c.requires.0 in
     let lent_at : let a = c.args in SeriesShort a.limit a.s.now a.z a.firsts.now a.sheet.now = lent in
     (start-within _ _ _ _ _ lent_at 2 (omega arith)).0
@@ -128,34 +130,28 @@ offset_bounds-sheet-random c =
     let lent_at : let a = c.args in SeriesShort a.limit a.s.now a.z a.firsts.now a.sheet.now = lent in
     let x = start-within _ _ _ _ _ lent_at 2 (omega arith) in let y = x.1 in omega arith
 
-pub slice_bounds-vcov_adj16_with_pw-count-2 : goal.slice_bounds-vcov_adj16_with_pw-count-2
-slice_bounds-vcov_adj16_with_pw-count-2 c =
+pub slice_bounds-covariance-count : goal.slice_bounds-covariance-count
+slice_bounds-covariance-count c =
     let lent : SeriesShort c.args.limit c.args.s.now c.args.z c.args.firsts.now c.args.sheet.now = c.requires.0 in
     let lent_at : let a = c.args in SeriesShort a.limit a.s.now a.z a.firsts.now a.sheet.now = lent in
     in_order _ _ _ _ _ lent_at 2 (omega arith)
 
-pub slice_bounds-vcov_adj16_with_pw-start-2 : goal.slice_bounds-vcov_adj16_with_pw-start-2
-slice_bounds-vcov_adj16_with_pw-start-2 c =
+pub slice_bounds-covariance-start : goal.slice_bounds-covariance-start
+slice_bounds-covariance-start c =
     let lent : SeriesShort c.args.limit c.args.s.now c.args.z c.args.firsts.now c.args.sheet.now = c.requires.0 in
     let lent_at : let a = c.args in SeriesShort a.limit a.s.now a.z a.firsts.now a.sheet.now = lent in
     in_order _ _ _ _ _ lent_at 2 (omega arith)
 
-pub slice_bounds-vcov_adj16_with_pw-end-6 : goal.slice_bounds-vcov_adj16_with_pw-end-6
-slice_bounds-vcov_adj16_with_pw-end-6 c =
+pub slice_bounds-covariance-end : goal.slice_bounds-covariance-end
+slice_bounds-covariance-end c =
     let lent : SeriesShort c.args.limit c.args.s.now c.args.z c.args.firsts.now c.args.sheet.now = c.requires.0 in
     let lent_at : let a = c.args in SeriesShort a.limit a.s.now a.z a.firsts.now a.sheet.now = lent in
     (start-within _ _ _ _ _ lent_at 3 (omega arith)).0
 
-pub offset_bounds-sheet-weights : goal.offset_bounds-sheet-weights
-offset_bounds-sheet-weights c =
+pub weights_on-requires : goal.weights_on-requires
+weights_on-requires c =
     let lent : SeriesShort c.args.limit c.args.s.now c.args.z c.args.firsts.now c.args.sheet.now = c.requires.0 in
-    let lent_at : let a = c.args in SeriesShort a.limit a.s.now a.z a.firsts.now a.sheet.now = lent in
-    let x = start-within _ _ _ _ _ lent_at 5 (omega arith) in let y = x.1 in omega arith
-
-pub slice_bounds-vcov_adj16_with_pw-end-7 : goal.slice_bounds-vcov_adj16_with_pw-end-7
-slice_bounds-vcov_adj16_with_pw-end-7 c =
-    let lent : SeriesShort c.args.limit c.args.s.now c.args.z c.args.firsts.now c.args.sheet.now = c.requires.0 in
-    weighed-ends _ _ _ _ _ lent _ c.requires.1 _ c.given.ensures
+    (omega arith, weighed-ends _ _ _ _ _ lent _ c.requires.1 _ c.given.ensures, λ e. let none = c.given.ensures ∙ ap (λ (b : Bool). cond b c.args.n 0) e in omega arith)
 
 pub offset_bounds-sheet-variance : goal.offset_bounds-sheet-variance
 offset_bounds-sheet-variance c =
@@ -178,28 +174,27 @@ vcov_adj16_with_pw-requires c =
     let q = c.requires.3 in
     let square_room : 6 * (c.args.n * c.args.n) ≤ length c.args.work.now = omega arith in
     let part_room : 36 * c.args.n ≤ length c.args.narrow.now = omega arith in
-    let eb = c.blocks_of-blocks.ensures.0 in
+    let eb = c.blocks_of.ensures.0 in
     let own : 6 * (c.args.n * c.args.n) ≤ length (take (6 * (c.args.n * c.args.n)) c.args.work.now) = same-most (sym (length-take-le _ _ square_room)) in
     let narrow : 36 * c.args.n ≤ length (take (36 * c.args.n) c.args.narrow.now) = same-most (sym (length-take-le _ _ part_room)) in (
       record { high = omega arith; few = few-coefficients _ _ _ _ _ h; squares = own; parts = omega (arith, narrow) },
       holds-is _ _ _ _ _ h _ c.requires.1,
-      lent_is _ _ _ _ _ h _ c.requires.1 _ c.given.ensures _ eb,
+      lent_is _ _ _ _ _ h _ c.requires.1 _ c.given.ensures _ eb _ _ c.weights_on.ensures.0 c.weights_on.ensures.1,
     )
 
 pub returns : goal.returns
 returns c =
     let lent : SeriesShort c.args.limit c.args.s.now c.args.z c.args.firsts.now c.args.sheet.now = c.requires.0 in
-    let eb = c.blocks_of-blocks.ensures.0 in
-    let et = c.three_at-theta.ensures in
+    let eb = c.blocks_of.ensures.0 in
+    let et = c.three_at.ensures in
     let ep = c.cells_at-phi.ensures in
     let em = c.given.ensures in
     let r = c.vcov_adj16_with_pw.ensures in
-    let en = number-is-own _ _ _ _ _ lent _ c.requires.1 _ em _ eb c.args.c _ _ et ep _ refl in
-    let ea = adjusted-is _ _ _ _ _ lent _ c.requires.1 _ em _ eb c.args.c _ _ et ep in
+    let w = c.weights_on.ensures in
+    let en = number-is-own _ _ _ _ _ lent _ c.requires.1 _ em _ eb _ _ w.0 w.1 c.args.c _ _ et ep _ refl in
+    let ea = adjusted-is _ _ _ _ _ lent _ c.requires.1 _ em _ eb _ _ w.0 w.1 c.args.c _ _ et ep in
     record {
-      number = r.value ∙ en;
-      phi_a = answer-same (λ (t : Adjustment). t.phi_a) _ _ _ _ _ r.phi_a_after ea;
-      ps = answer-same (λ (t : Adjustment). t.ps) _ _ _ _ _ r.ps_after ea;
-      w = answer-same (λ (t : Adjustment). t.w) _ _ _ _ _ r.w_after ea;
-      rotations = answer-same (λ (t : Adjustment). t.rotations) _ _ _ _ _ r.rotations_after ea;
+      number = r.told ∙ en;
+      value = value-is _ _ _ (ap phi_side ea) r.value;
+      ps = answer-is _ (λ (t : Adjustment). t.ps) _ _ _ _ ea r.ps_after;
     }

@@ -1,12 +1,13 @@
 -- `records_kenward_roger::run_of` meets its contract.
-use mathlib.Core.Path.{◌≡◌, sym, ap, ◌∙◌, subst}
+use mathlib.Core.Path.{◌≡◌, refl, sym, ap, ◌∙◌, subst}
 use lib.ListN.{length}
+use Rattle.adjustment.specs.declared.AdjustedPhi.{AdjustedPhi}
 use Rattle.records.specs.readers.Series.{design}
 use Rattle.records_sheet.specs.joints.Sheet.{Small}
 use Rattle.records_torn.proofs.ShortSheet.{length-short}
 use Rattle.records_refusals.specs.joints.Room.{SeriesRead, SeriesShort}
 use Rattle.records_refusals.proofs.RoomLaws.{at-hand, accepted-small, can-shorten, kept_run, series-short}
-use Rattle.adjustment_kr_vcov_adj.proofs.CallLaws.{accepted-yes}
+use Rattle.adjustment_kr_vcov_adj.proofs.CallLaws.{accepted-yes, refusal-above}
 use Rattle.records_kenward_roger.proofs.Numbers.{late-number, judged-refused, run-answer, run-rotations, run-specimens}
 use borrow.Author.Rules.{rules}
 use Rattle.records_kenward_roger.proofs.run_of.Goals as goal
@@ -23,19 +24,20 @@ shorten-n-requires c =
     at-hand a.limit a.s.now _ _ a.sheet.now c.requires.0 c.series_sizes-z.ensures c.first_slots-firsts.ensures in
     can-shorten _ _ _ _ _ as_read
 
-pub kenward_roger_modcomp_data-late-requires : goal.kenward_roger_modcomp_data-late-requires
-kenward_roger_modcomp_data-late-requires c =
+pub kenward_roger_modcomp_data-requires : goal.kenward_roger_modcomp_data-requires
+kenward_roger_modcomp_data-requires c =
     let as_read : let a = c.args in SeriesRead a.limit a.s.now c.series_sizes-z.result c.first_slots-firsts.result a.sheet.now = let a = c.args in
     at-hand a.limit a.s.now _ _ a.sheet.now c.requires.0 c.series_sizes-z.ensures c.first_slots-firsts.ensures in
     let as_short : let a = c.args in SeriesShort a.limit a.s.now c.series_sizes-z.result c.first_slots-firsts.result c.shorten-n.new.sheet = series-short _ _ _ _ _ as_read _ c.shorten-n.ensures.sheet_after in
     let left-run : c.shorten-n.result ≡ (design c.args.s.now).n = kept_run _ _ _ _ _ as_read _ c.shorten-n.ensures.value.0 in
     let g = c.requires in (as_short, left-run, g.1, g.2)
 
-pub returns-then-late-ne0 : goal.returns-then-late-ne0
-returns-then-late-ne0 c =
+pub returns-in-Err : goal.returns-in-Err
+returns-in-Err c =
     let a = c.args in
-    let h = c.if-late-ne0.true in
-    let e = late-number a.limit a.c a.s.now c.requires.0.taken _ c.kenward_roger_modcomp_data-late.ensures.number h in
+    let n = c.from.ensures in
+    let h : c.from.result ≡ 0 → ⊥ = λ z. refusal-above c.in-Err.refusal (sym n ∙ z) in
+    let e = late-number a.limit a.c a.s.now c.requires.0.taken _ (n ∙ c.in-Err.ensures.number) h in
     judged-refused a.limit a.c a.s.now _ e h _ c.no_entry.ensures
 
 pub tests_of-es-requires : goal.tests_of-es-requires
@@ -43,9 +45,8 @@ tests_of-es-requires c =
     let as_read : let a = c.args in SeriesRead a.limit a.s.now c.series_sizes-z.result c.first_slots-firsts.result a.sheet.now = let a = c.args in
     at-hand a.limit a.s.now _ _ a.sheet.now c.requires.0 c.series_sizes-z.ensures c.first_slots-firsts.ensures in
     let as_short : let a = c.args in SeriesShort a.limit a.s.now c.series_sizes-z.result c.first_slots-firsts.result c.shorten-n.new.sheet = series-short _ _ _ _ _ as_read _ c.shorten-n.ensures.sheet_after in
-    let q = c.kenward_roger_modcomp_data-late.ensures in
-    let h = c.if-late-ne0.false in
-    record { series_short = as_short; phi_a_value = (q.phi_a ∙ accepted-yes _ _ _ h, q.ps ∙ accepted-yes _ _ _ h, q.w ∙ accepted-yes _ _ _ h) }
+    let q = c.in-Ok.ensures in
+    record { series_short = as_short; phi_a_value = (ap (λ (t : AdjustedPhi). t.phi_a) q.value, q.ps ∙ accepted-yes _ _ _ refl, ap (λ (t : AdjustedPhi). t.w) q.value) }
 
 pub shape_of-sheet : goal.shape_of-sheet
 shape_of-sheet c = ap length c.shorten-n.ensures.sheet_after ∙ length-short _ _
@@ -57,11 +58,10 @@ returns c =
     let left-run : c.shorten-n.result ≡ (design c.args.s.now).n = kept_run _ _ _ _ _ as_read _ c.shorten-n.ensures.value.0 in
     let t = c.tests_of-es.ensures in
     let a = c.args in
-    let d = c.kenward_roger_modcomp_data-late.ensures in
-    let h = c.if-late-ne0.false in
-    let z = sym d.number ∙ h in
+    let d = c.in-Ok.ensures in
+    let z = sym d.number in
     let g = c.requires.0.taken in
     let v = run-answer a.limit a.c a.s.now g z _ _ _ _ t.refused_after t.value c.answer_of.ensures.value c.answer_of.ensures.told_after in
-    let m = run-rotations a.limit a.c a.s.now g z _ _ _ t.refused_after (d.rotations ∙ accepted-yes _ _ _ h) c.counted.ensures in
+    let m = run-rotations a.limit a.c a.s.now g z _ _ _ t.refused_after (ap (λ (t : AdjustedPhi). t.rotations) d.value) c.counted.ensures in
     let n = run-specimens a.limit a.c a.s.now g z _ _ _ t.refused_after left-run c.counted-2.ensures in
     record { listed = v.0; told = v.1; made = m; pulled = n }

@@ -6,7 +6,6 @@ use Rattle.tests.specs.KenwardRoger.{Run}
 use Rattle.records_refusals.specs.joints.Room.{SeriesShort}
 use Rattle.records_kenward_roger.proofs.Calls.{few-blocks, few-coefficients, few-contrasts, few-hypotheses, lent-sound, matrices-are, matrices-few, run_is}
 use Rattle.records_kenward_roger.proofs.Calls.{start-within, sigma2-place, phi-ends, beta-ends, contrast-ends, hypothesis-ends}
-use borrow.Author.Rules.{rules}
 use Rattle.records_kenward_roger.proofs.tests_of.Goals as goal
 
 pub blocks_of-blocks-requires : goal.blocks_of-blocks-requires

@@ -5,7 +5,6 @@ use Rattle.arithmetic_cutoffs.specs.declared.Cutoffs.{Cutoffs}
 use Rattle.records.specs.text.Text.{text_of}
 use Rattle.records.specs.calls.KenwardRogerCall.{number, entries}
 use Rattle.records_answer_text.proofs.CursorLaws.{named}
-use borrow.Author.Rules.{rules}
 use Rattle.records_kenward_roger.proofs.text.Goals as goal
 
 pub returns : goal.returns

@@ -1,21 +1,21 @@
 -- Not needed to check document 01: names that join the code to its definitions.
 -- What the adjustment of a series and what its run leave in all that is lent to them. What more a function is to say of it is one field more here.
-use Rattle.std.specs.Prelude.{ℕ, ◌≡◌, List}
+use Rattle.std.specs.Prelude.{ℕ, ◌≡◌, List, Result, IfOk}
 use Rattle.arithmetic_cutoffs.specs.declared.Cutoffs.{Cutoffs}
-use Rattle.algebra.specs.Small.{Rows}
+use Rattle.adjustment.specs.declared.AdjustedPhi.{AdjustedPhi}
+use Rattle.adjustment.specs.declared.AdjustmentRefusal.{AdjustmentRefusal}
 use Rattle.adjustment.specs.Adjusted.{Stack, adjustment_refusal}
-use Rattle.adjustment_adjusted.specs.joints.FromInformation.{accepted}
+use Rattle.adjustment.specs.Refusals.{number_told}
+use Rattle.adjustment_adjusted.specs.joints.FromInformation.{accepted, phi_side}
 use Rattle.tests.specs.declared.Entry.{Entry}
 use Rattle.records.specs.readers.Series.{design, phi, sigma2}
 use Rattle.records.specs.calls.KenwardRogerCall.{adjusted, number, entries, rotations, specimens_run}
 
--- the adjustment of the series s returns its number r, and where that is 0 what is lent for its answers, with a name that ends in ₀ before it, holds them; otherwise that stays as it is
-pub record Adjusts (c : Cutoffs) (s : List ℕ) (r : ℕ) (a₀ a : Rows) (b₀ b : Stack) (d₀ d : Rows) (m₀ m : ℕ) : Type 0 where
-  pub number : r ≡ adjustment_refusal c (design s) (phi s) (sigma2 s)
-  pub phi_a : a ≡ accepted r (adjusted c s).phi_a a₀
-  pub ps : b ≡ accepted r (adjusted c s).ps b₀
-  pub w : d ≡ accepted r (adjusted c s).w d₀
-  pub rotations : m ≡ accepted r (adjusted c s).rotations m₀
+-- the adjustment of the series s gives r, and where that is accepted what is lent for the Ps, b₀, becomes them; otherwise it stays as it is
+pub record Adjusts (c : Cutoffs) (s : List ℕ) (r : Result AdjustedPhi AdjustmentRefusal) (b₀ b : Stack) : Type 0 where
+  pub number : number_told r ≡ adjustment_refusal c (design s) (phi s) (sigma2 s)
+  pub value : IfOk r (λ a. a ≡ phi_side (adjusted c s))
+  pub ps : b ≡ accepted (number_told r) (adjusted c s).ps b₀
 
 -- the file s with the limit of specimens w gives the entries es, the number k, m rotations and a run of n specimens
 pub record Judges (w : ℕ) (c : Cutoffs) (s : List ℕ) (es : List Entry) (k m n : ℕ) : Type 0 where
