@@ -1,8 +1,8 @@
 // Program `pullseason`: reads a season's file from standard input, to its end, and prints of each series, when it is closed, its tests and the worst of the latest twenty, or the number that refuses it.
 #![tactic(auto)]
 
-ghost use Rattle.std.specs.Prelude.{◌≡◌, ◌≤◌, length, replicate, false};
-ghost use Rattle.records_season.specs.joints.SeasonCame.{season_as, SeasonArrives, piece_room};
+ghost use Rattle.std.specs.Prelude.{◌≡◌, ◌≤◌, length, replicate, None};
+ghost use Rattle.records_season.specs.joints.SeasonCame.{season_of, SeasonArrives, piece_room};
 ghost use Rattle.records.specs.text.Season.{latest_count};
 ghost use Rattle.records_arrived.specs.joints.ArrivedCall.{kept_length};
 
@@ -19,14 +19,12 @@ fn next_piece(
     a: Arrival,
     kept: &mut [u8],
     current: &mut [u8],
-    values: &mut [f64],
-    given: &mut [bool],
+    window: &mut [Option<f64>; LATEST_COUNT],
     out: &mut [u8],
     ended: &mut bool,
 ) -> Arrival
-    requires values_len { (length values.old ≡ latest_count) × (length given.old ≡ latest_count) }
-    requires season_arrives { SeasonArrives (season_as a kept.old current.old values.old given.old) × (piece_room ≤ length out.old) }
-    ensures { SeasonArrives (season_as result kept.new current.new values.new given.new) }
+    requires { SeasonArrives (season_of a kept.old current.old window.old) × (piece_room ≤ length out.old) }
+    ensures { SeasonArrives (season_of result kept.new current.new window.new) }
 {
     let mut piece = io::buffer();
     let n = match input.read(&mut piece) {
@@ -35,16 +33,7 @@ fn next_piece(
     };
     *ended = n == 0;
     let mut written: usize = 0;
-    let next = records_season::feed(
-        a,
-        &piece[..n],
-        kept,
-        current,
-        values,
-        given,
-        out,
-        &mut written,
-    );
+    let next = records_season::feed(a, &piece[..n], kept, current, window, out, &mut written);
     io::write_all(1, &out[..written]);
     next
 }
@@ -54,18 +43,17 @@ fn read_all(
     input: Stdin,
     kept: &mut [u8],
     current: &mut [u8],
-    values: &mut [f64],
-    given: &mut [bool],
+    window: &mut [Option<f64>; LATEST_COUNT],
     out: &mut [u8],
 ) -> Arrival
-    requires { (length kept.old ≡ kept_length) × (length current.old ≡ 16) × (length values.old ≡ latest_count) × (given.old ≡ replicate latest_count false) × (piece_room ≤ length out.old) }
-    ensures { SeasonArrives (season_as result kept.new current.new values.new given.new) }
+    requires { (length kept.old ≡ kept_length) × (length current.old ≡ 16) × (window.old ≡ replicate latest_count None) × (piece_room ≤ length out.old) }
+    ensures { SeasonArrives (season_of result kept.new current.new window.new) }
 {
     let mut a = records_pieces::nothing_yet();
     let mut ended = false;
     let mut pieces = u64::MAX;
     while pieces > 0 {
-        let next = next_piece(input, a, kept, current, values, given, out, &mut ended);
+        let next = next_piece(input, a, kept, current, window, out, &mut ended);
         if ended {
             return next;
         }
@@ -79,17 +67,9 @@ fn read_all(
 fn main(rt: HostRuntime) {
     let mut kept = [0u8; KEPT_LENGTH];
     let mut current = [0u8; 16];
-    let mut values = [0.0; LATEST_COUNT];
-    let mut given = [false; LATEST_COUNT];
+    let mut window = [None; LATEST_COUNT];
     let mut out = [0u8; PIECE_ROOM];
-    let a = read_all(
-        rt.stdin(),
-        &mut kept,
-        &mut current,
-        &mut values,
-        &mut given,
-        &mut out,
-    );
+    let a = read_all(rt.stdin(), &mut kept, &mut current, &mut window, &mut out);
     let m = records_season::end(a, &mut out, 0);
     io::write_all(1, &out[..m]);
 }

@@ -1,5 +1,5 @@
 -- One byte more of a season, as the code takes it: within a record, with a record that does not close, and with one that does; and bytes after bytes.
-use Prim.Native.Nat.{ℕ, zero, suc, ◌+◌, ◌-◌, ◌*◌, ◌/◌, ◌%◌, ◌≤◌, ◌<◌}
+use Prim.Native.Nat.{ℕ, zero, suc, ◌+◌, ◌*◌, ◌/◌, ◌%◌, ◌≤◌, ◌<◌}
 use native.Mathlib.Omega.{arith}
 use native.Mathlib.Decide.{ℕ_discrete}
 use mathlib.Core.Path.{◌≡◌, refl, sym, ap, ◌∙◌, subst}
@@ -12,7 +12,7 @@ use borrow.Author.Tests.{eqb-true, eq-eqb, ne_eqb, not-false}
 use lib.Seq.{set-set, get_or-set_same, get_or-set_other, get_or-append-add, take-suc, take-length}
 use native.Mathlib.Numerals.{add-one}
 use Rattle.arithmetic_cutoffs.specs.Cutoffs.{document_cutoffs}
-use Rattle.std.specs.Prelude.{Option}
+use Rattle.std.specs.Prelude.{Option, None}
 use Rattle.tests.specs.declared.Entry.{Entry}
 use Rattle.tests.specs.Answer.{no_entry}
 use Rattle.records.specs.format.Bytes.{byte}
@@ -20,7 +20,7 @@ use Rattle.records.specs.format.Scan.{last}
 use Rattle.records.specs.format.File.{count}
 use Rattle.records.specs.calls.KenwardRogerCall.{number, entries}
 use Rattle.records.specs.text.Text.{refusal_text, text_of}
-use Rattle.records.specs.text.Season.{closes, begins, series_before, series_to, series_in, left_over, worst, latest, series_lines, contrast_f, fs_of, worst_line, closed_text, texts_to, closed_texts, left_text, season_text, printed, added}
+use Rattle.records.specs.text.Season.{closes, begins, series_before, series_to, series_in, left_over, worst, latest, series_lines, contrast_f, fs_of, worst_line, closed_text, texts_to, closed_texts, left_text, season_text, printed, added, latest_count}
 use Rattle.records.proofs.format.ScanLaws.{or-false}
 use Rattle.records.proofs.text.SeasonLaws.{closes-same, part-series, part_left, whole-series, whole-left, closed-series, closed-left, left-whole, left-length, left-byte, series-byte}
 use Rattle.records.proofs.text.SeasonTexts.{fs-are, texts-more, printed-grows, added_is, added-both, added-nothing}
@@ -33,8 +33,7 @@ use Rattle.records_pieces.proofs.PieceLaws.{byte-length}
 use Rattle.records_pieces.proofs.CameLaws.{byte-came, wholes-came, nothing-came, joined_bytes}
 use Rattle.records_arrived.specs.joints.ArrivedCall.{arrived_number, arrived_entries, kept_length}
 use Rattle.records_arrived.proofs.ArrivedLaws.{arrived-number, arrived-entries}
-use Rattle.records_season.specs.joints.SeasonCame.{SeasonState, season_of, season_as, last_twenty, with_latest, worst_text, arrived_f, arrived_text, SeasonCame, SeasonArrives, Fed, added_by, closed_room}
-use Rattle.records_season.proofs.WindowCode.{window-empty}
+use Rattle.records_season.specs.joints.SeasonCame.{SeasonState, season_of, last_twenty, with_latest, worst_text, arrived_f, arrived_text, SeasonCame, SeasonArrives, Fed, added_by, closed_room}
 use Rattle.records_season.proofs.WindowLaws.{window-start, window_more, window-worst, map_more}
 
 byte-alone : (b : ℕ) → b < 256 → (i : ℕ) → byte (b ∷ []) i < 256
@@ -213,9 +212,9 @@ pub fed-all : (piece : List ℕ) (i p : ℕ) {A B : SeasonState} {o o' : List �
 fed-all piece i p e f = rw (e, take-length piece) at f
 
 -- ---- some bytes came
-pub start-arrives : (a : Arrival) (kept current : List ℕ) (values : List Float) (given : List Bool) → a ≡ nothing_yet → length kept ≡ kept_length → length current ≡ 16 → length values ≡ 20 → given ≡ replicate 20 false → SeasonArrives (season_as a kept current values given)
+pub start-arrives : (a : Arrival) (kept current : List ℕ) → a ≡ nothing_yet → length kept ≡ kept_length → length current ≡ 16 → SeasonArrives (season_of a kept current (replicate latest_count None))
 unfolding series_in left_over series_to begins last
-start-arrives a kept current values given z h l v g = rw (z, g) (record { file = []; came = record { bytes = λ i. omega arith; room = h; unclosed = nothing-came kept current l; window = window-empty values 20 v ∙ window-start } })
+start-arrives a kept current z h l = rw z (record { file = []; came = record { bytes = λ i. omega arith; room = h; unclosed = nothing-came kept current l; window = window-start } })
 
 pub fed-arrives : {t : List ℕ} {m : ℕ} {A B : SeasonState} {o o' : List ℕ} {at at' : ℕ} → Fed t m A o at B o' at' → SeasonArrives A → SeasonArrives B
 fed-arrives {t} p r = record { file = r.file ++ t; came = p.state r.file r.came }

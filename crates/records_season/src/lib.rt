@@ -1,23 +1,21 @@
 // A season's file that arrives in pieces of any lengths: each series is judged when the record comes that closes it, and its lines are put at a cursor, then the worst of twenty. What is kept does not grow with the
-// season or with a series: of the open series what records_pieces keeps of a file, and twenty F's, each with whether it is given.
+// season or with a series: of the open series what records_pieces keeps of a file, and twenty F's, each where it is given.
 #![tactic(auto)]
 
-ghost use Rattle.std.specs.Prelude.{◌≡◌, Bool, not, List, [], ◌∷◌, ◌++◌, ℕ, ◌+◌, ◌*◌, ◌/◌, ◌%◌, ◌≤◌, ◌<◌, eqb, length, replicate, Float};
+ghost use Rattle.std.specs.Prelude.{◌≡◌, not, List, Option, [], ◌∷◌, ℕ, ◌+◌, ◌*◌, ◌/◌, ◌≤◌, eqb, length, Float};
 ghost use Rattle.arithmetic_cutoffs.specs.Cutoffs.{document_cutoffs};
 ghost use Rattle.records.specs.format.Bytes.{byte};
 ghost use Rattle.records.specs.format.Scan.{any};
-ghost use Rattle.records.specs.text.Season.{closes, worse, worst, left_over, left_text, added, latest_count};
+ghost use Rattle.records.specs.text.Season.{closes, worse, worst, left_over, left_text};
 ghost use Rattle.records_answer_text.specs.joints.Cursor.{Put};
-ghost use Rattle.records_season.specs.joints.SeasonCame.{season_as, given_number, window_of, with_latest, worst_text, arrived_f, arrived_text, SeasonCame, SeasonArrives, Fed, closed_room};
+ghost use Rattle.records_season.specs.joints.SeasonCame.{season_of, with_latest, worst_text, arrived_f, arrived_text, SeasonCame, SeasonArrives, Fed, closed_room};
 
 use records_answer_text::{put_number, put_refusal, put_run, put_text};
 use records_arrived::judge_arrived;
 use records_pieces::{Arrival, nothing_yet};
 
-// The latest series whose F's are kept, and all of them but the last; and what a piece of 4,096 bytes can add to the text, which closes 256 series at most.
+// The latest series whose F's are kept; and what a piece of 4,096 bytes can add to the text, which closes 256 series at most.
 pub const LATEST_COUNT: usize = 20;
-
-const EARLIER_COUNT: usize = 19;
 
 pub const PIECE_ROOM: usize = 118272;
 
@@ -46,64 +44,30 @@ fn closes(bytes: &[u8]) -> bool
 fn worse(w: Option<f64>, f: Option<f64>) -> Option<f64>
     ensures { result ≡ worse w f }
 {
-    match w {
-        Some(x) => match f {
-            Some(y) => {
-                if x < y {
-                    return Some(y);
-                }
-                Some(x)
-            }
-            None => Some(x),
-        },
-        None => f,
+    match (w, f) {
+        (Some(x), Some(y)) => { if x < y { f } else { w } }
+        (_, None) => w,
+        (None, _) => f,
     }
 }
 
-// A number where it is given.
-fn given_number(x: f64, given: bool) -> Option<f64>
-    ensures { result ≡ given_number x given }
-{
-    if given { Some(x) } else { None }
-}
-
 // The worst of twenty, the oldest first.
-fn worst_of(values: &[f64], given: &[bool]) -> Option<f64>
-    requires { (length values.now ≡ latest_count) × (length given.now ≡ latest_count) }
-    ensures { result ≡ worst (window_of values.now given.now) }
+fn worst_of(window: &[Option<f64>; LATEST_COUNT]) -> Option<f64>
+    ensures { result ≡ worst window.now }
 {
     let mut w = None;
-    for i in 0..LATEST_COUNT {
-        let f = given_number(values[i], given[i]);
-        let next = worse(w, f);
-        w = next;
+    for f in window {
+        w = worse(w, *f);
     }
     w
 }
 
-// One more after twenty: the oldest goes.
-fn shift(values: &mut [f64], given: &mut [bool], x: f64, is_given: bool)
-    requires { (length values.old ≡ latest_count) × (length given.old ≡ latest_count) }
-    ensures values_after { values.new ≡ with_latest x values.old }
-    ensures given_after { given.new ≡ with_latest is_given given.old }
+// One more F after twenty: the oldest goes.
+fn keep_latest(window: &mut [Option<f64>; LATEST_COUNT], f: Option<f64>)
+    ensures { window.new ≡ with_latest f window.old }
 {
-    for i in 0..EARLIER_COUNT {
-        values[i] = values[i + 1];
-        given[i] = given[i + 1];
-    }
-    values[EARLIER_COUNT] = x;
-    given[EARLIER_COUNT] = is_given;
-}
-
-// One more F.
-fn keep_latest(values: &mut [f64], given: &mut [bool], f: Option<f64>)
-    requires { (length values.old ≡ latest_count) × (length given.old ≡ latest_count) }
-    ensures { window_of values.new given.new ≡ with_latest f (window_of values.old given.old) }
-{
-    match f {
-        Some(x) => shift(values, given, x, true),
-        None => shift(values, given, 0.0, false),
-    }
+    window.rotate_left(1);
+    window[LATEST_COUNT - 1] = f;
 }
 
 // The `worst` line.
@@ -120,26 +84,24 @@ fn put_worst(out: &mut [u8], at: usize, w: Option<f64>) -> usize
 fn close_series(
     a: Arrival,
     kept: &[u8],
-    values: &mut [f64],
-    given: &mut [bool],
+    window: &mut [Option<f64>; LATEST_COUNT],
     out: &mut [u8],
     at: usize,
 ) -> usize
-    requires values_len { (length values.old ≡ latest_count) × (length given.old ≡ latest_count) }
-    requires records_in_bounds { (16 * a.records ≤ length kept.now) × (at + closed_room ≤ length out.old) }
-    ensures given_after { window_of values.new given.new ≡ with_latest (arrived_f a kept.now) (window_of values.old given.old) }
-    ensures put { Put closed_room out.old at (arrived_text a kept.now (window_of values.old given.old)) out.new result }
+    requires { (16 * a.records ≤ length kept.now) × (at + closed_room ≤ length out.old) }
+    ensures window_after { window.new ≡ with_latest (arrived_f a kept.now) window.old }
+    ensures put { Put closed_room out.old at (arrived_text a kept.now window.old) out.new result }
 {
     let mut number: u32 = 0;
     let es = judge_arrived(a, kept, &mut number);
     let contrast = es[6];
     let f = contrast.f;
-    keep_latest(values, given, f);
+    keep_latest(window, f);
     let next = put_run(out, at, number, es);
     if number != 0 {
         return next;
     }
-    let w = worst_of(values, given);
+    let w = worst_of(window);
     put_worst(out, next, w)
 }
 
@@ -149,14 +111,12 @@ fn take_last_byte(
     b: u8,
     kept: &mut [u8],
     current: &mut [u8],
-    values: &mut [f64],
-    given: &mut [bool],
+    window: &mut [Option<f64>; LATEST_COUNT],
     out: &mut [u8],
     at: &mut usize,
 ) -> Arrival
-    requires values_len { (length values.old ≡ latest_count) × (length given.old ≡ latest_count) }
-    requires season_arrives { SeasonArrives (season_as a kept.old current.old values.old given.old) × (a.part ≡ 15) × (at.old + closed_room ≤ length out.old) }
-    ensures { Fed (b ∷ []) closed_room (season_as a kept.old current.old values.old given.old) out.old at.old (season_as result kept.new current.new values.new given.new) out.new at.new }
+    requires { SeasonArrives (season_of a kept.old current.old window.old) × (a.part ≡ 15) × (at.old + closed_room ≤ length out.old) }
+    ensures { Fed (b ∷ []) closed_room (season_of a kept.old current.old window.old) out.old at.old (season_of result kept.new current.new window.new) out.new at.new }
 {
     current[15] = b;
     if closes(&current[..]) {
@@ -167,7 +127,7 @@ fn take_last_byte(
             fell: a.fell,
             longer: a.longer,
         };
-        let next = close_series(whole, &kept[..], values, given, out, *at);
+        let next = close_series(whole, &kept[..], window, out, *at);
         *at = next;
         return nothing_yet();
     }
@@ -180,17 +140,15 @@ fn take_byte(
     b: u8,
     kept: &mut [u8],
     current: &mut [u8],
-    values: &mut [f64],
-    given: &mut [bool],
+    window: &mut [Option<f64>; LATEST_COUNT],
     out: &mut [u8],
     at: &mut usize,
 ) -> Arrival
-    requires values_len { (length values.old ≡ latest_count) × (length given.old ≡ latest_count) }
-    requires season_arrives { SeasonArrives (season_as a kept.old current.old values.old given.old) × (at.old + closed_room * ((a.part + 1) / 16) ≤ length out.old) }
-    ensures { Fed (b ∷ []) (closed_room * ((a.part + 1) / 16)) (season_as a kept.old current.old values.old given.old) out.old at.old (season_as result kept.new current.new values.new given.new) out.new at.new }
+    requires { SeasonArrives (season_of a kept.old current.old window.old) × (at.old + closed_room * ((a.part + 1) / 16) ≤ length out.old) }
+    ensures { Fed (b ∷ []) (closed_room * ((a.part + 1) / 16)) (season_of a kept.old current.old window.old) out.old at.old (season_of result kept.new current.new window.new) out.new at.new }
 {
     if a.part == 15 {
-        return take_last_byte(a, b, kept, current, values, given, out, at);
+        return take_last_byte(a, b, kept, current, window, out, at);
     }
     records_pieces::take_byte(a, b, kept, current)
 }
@@ -202,20 +160,18 @@ pub fn feed(
     piece: &[u8],
     kept: &mut [u8],
     current: &mut [u8],
-    values: &mut [f64],
-    given: &mut [bool],
+    window: &mut [Option<f64>; LATEST_COUNT],
     out: &mut [u8],
     written: &mut usize,
 ) -> Arrival
-    requires values_len { (length values.old ≡ latest_count) × (length given.old ≡ latest_count) }
-    requires season_arrives { SeasonArrives (season_as a kept.old current.old values.old given.old) × (closed_room * ((a.part + length piece.now) / 16) ≤ length out.old) }
-    ensures fed { Fed piece.now (closed_room * ((a.part + length piece.now) / 16)) (season_as a kept.old current.old values.old given.old) out.old 0 (season_as result kept.new current.new values.new given.new) out.new written.new }
+    requires { SeasonArrives (season_of a kept.old current.old window.old) × (closed_room * ((a.part + length piece.now) / 16) ≤ length out.old) }
+    ensures fed { Fed piece.now (closed_room * ((a.part + length piece.now) / 16)) (season_of a kept.old current.old window.old) out.old 0 (season_of result kept.new current.new window.new) out.new written.new }
     ensures written_in_bounds { written.new ≤ length out.old }
 {
     *written = 0;
     let mut so_far = a;
     for i in 0..piece.len() {
-        let next = take_byte(so_far, piece[i], kept, current, values, given, out, written);
+        let next = take_byte(so_far, piece[i], kept, current, window, out, written);
         so_far = next;
     }
     so_far
@@ -224,7 +180,7 @@ pub fn feed(
 // The file has ended: bytes after the last record that closes are refused, whatever they are.
 pub fn end(a: Arrival, out: &mut [u8], at: usize) -> usize
     requires { at + 19 ≤ length out.old }
-    ensures by_index { (s kept current : List ℕ) (values : List Float) (given : List Bool) → SeasonCame s (season_as a kept current values given) → Put 19 out.old at (left_text (left_over s)) out.new result }
+    ensures by_index { (s kept current : List ℕ) (window : List (Option Float)) → SeasonCame s (season_of a kept current window) → Put 19 out.old at (left_text (left_over s)) out.new result }
     ensures upper_bound { result ≤ at + 19 }
 {
     if (a.part != 0) | (a.records != 0) {

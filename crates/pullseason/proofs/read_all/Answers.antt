@@ -7,7 +7,5 @@ pub loop-pieces-init : goal.loop-pieces-init
 loop-pieces-init c =
     let kept = c.args.kept.now in
     let current = c.args.current.now in
-    let values = c.args.values.now in
-    let given = c.args.given.now in
     let pre = c.requires in
-    (refl, refl, refl, refl, refl, start-arrives c.nothing_yet-a.result kept current values given c.nothing_yet-a.ensures pre.0 pre.1 pre.2 pre.3)
+    (refl, refl, refl, rw pre.2 (start-arrives c.nothing_yet-a.result kept current c.nothing_yet-a.ensures pre.0 pre.1))

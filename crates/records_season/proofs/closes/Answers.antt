@@ -4,7 +4,6 @@ use mathlib.Core.Bool.{Bool, not, ◌&&◌}
 use lib.Dec.{eqb}
 use Rattle.records.specs.format.Bytes.{byte}
 use Rattle.records.specs.text.Season.{closes}
-use borrow.Author.Rules.{rules}
 use Rattle.records_season.proofs.closes.Goals as goal
 
 pub returns : goal.returns

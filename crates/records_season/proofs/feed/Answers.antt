@@ -1,28 +1,25 @@
 -- `records_season::feed` meets its contract: after i turns the first i bytes of the piece were fed.
-use Prim.Native.Nat.{◌+◌, ◌-◌, ◌*◌, ◌/◌, ◌%◌, ◌≤◌}
 use native.Mathlib.Omega.{arith}
-use mathlib.Core.Path.{◌≡◌, refl, ◌∙◌}
-use lib.ListN.{length, take}
-use Rattle.records_season.specs.joints.SeasonCame.{season_as, SeasonArrives, Fed, closed_room}
+use mathlib.Core.Path.{refl, ◌∙◌}
 use Rattle.records_season.proofs.FedLaws.{fed-none, fed-more, fed-all, fed-arrives, fed-part, fed-wider}
 use Rattle.records_season.proofs.feed.Goals as goal
 
 pub loop-i-init : goal.loop-i-init
 loop-i-init c =
-    let few = c.requires.season_arrives.0.came.unclosed.ready.part in
-    (refl, omega arith, refl, refl, refl, refl, refl, c.requires.season_arrives.0, omega arith, fed-wider (fed-none _ _ _) (omega arith))
+    let few = c.requires.0.came.unclosed.ready.part in
+    (refl, omega arith, refl, refl, refl, c.requires.0, omega arith, fed-wider (fed-none _ _ _) (omega arith))
 
 pub take_byte-next-requires : goal.take_byte-next-requires
 take_byte-next-requires c =
     let l = c.loop-i in
-    let first = c.requires.season_arrives.0 in
-    let wrote = l.invariant.9.wrote first.file first.came in
+    let first = c.requires.0 in
+    let wrote = l.invariant.7.wrote first.file first.came in
     let m = wrote.moved in
     let n = wrote.short in
-    let part = l.invariant.8 in
-    let same = l.invariant.6 in
-    let room = c.requires.season_arrives.1 in
-    record { values_len = (l.invariant.4 ∙ c.requires.values_len.0, l.invariant.5 ∙ c.requires.values_len.1); season_arrives = (l.invariant.7, omega arith) }
+    let part = l.invariant.6 in
+    let same = l.invariant.4 in
+    let room = c.requires.1 in
+    (l.invariant.5, omega arith)
 
 pub loop-i-preserved : goal.loop-i-preserved
 loop-i-preserved c =
@@ -30,18 +27,16 @@ loop-i-preserved c =
     let more = c.loop-i-test.true in
     let taken = c.take_byte-next in
     let piece = c.args.piece.now in
-    let part = l.invariant.8 in
-    let next = fed-part taken.ensures l.invariant.7 in (
+    let part = l.invariant.6 in
+    let next = fed-part taken.ensures l.invariant.5 in (
       refl,
       omega arith,
       taken.auto.kept ∙ l.invariant.2,
       taken.auto.current ∙ l.invariant.3,
-      taken.auto.values ∙ l.invariant.4,
-      taken.auto.given ∙ l.invariant.5,
-      taken.auto.out ∙ l.invariant.6,
-      fed-arrives taken.ensures l.invariant.7,
+      taken.auto.out ∙ l.invariant.4,
+      fed-arrives taken.ensures l.invariant.5,
       omega arith,
-      fed-more piece l.i (omega arith) (omega arith) l.invariant.9 taken.ensures,
+      fed-more piece l.i (omega arith) (omega arith) l.invariant.7 taken.ensures,
     )
 
 pub shape_of-kept : goal.shape_of-kept
@@ -50,20 +45,14 @@ shape_of-kept c = c.loop-i.invariant.2
 pub shape_of-current : goal.shape_of-current
 shape_of-current c = c.loop-i.invariant.3
 
-pub shape_of-values : goal.shape_of-values
-shape_of-values c = c.loop-i.invariant.4
-
-pub shape_of-given : goal.shape_of-given
-shape_of-given c = c.loop-i.invariant.5
-
 pub shape_of-out : goal.shape_of-out
-shape_of-out c = c.loop-i.invariant.6
+shape_of-out c = c.loop-i.invariant.4
 
 pub returns : goal.returns
 returns c =
-    let first = c.requires.season_arrives.0 in
-    let all = fed-all c.args.piece.now c.loop-i.i c.args.a.part (omega arith) c.loop-i.invariant.9 in
+    let first = c.requires.0 in
+    let all = fed-all c.args.piece.now c.loop-i.i c.args.a.part (omega arith) c.loop-i.invariant.7 in
     let wrote = all.wrote first.file first.came in
     let m = wrote.moved in
     let n = wrote.short in
-    record { fed = all; written_in_bounds = omega (arith, c.requires.season_arrives.1) }
+    record { fed = all; written_in_bounds = omega (arith, c.requires.1) }

@@ -1,11 +1,9 @@
 use Prim.Native.Nat.{◌+◌, ◌-◌, ◌≤◌}
-use mathlib.Core.Path.{◌≡◌, refl, sym, ap, ◌∙◌}
-use mathlib.Core.Bool.{Bool, not, ◌||◌}
-use native.Mathlib.Omega.{arith}
+use mathlib.Core.Path.{◌≡◌}
+use mathlib.Core.Bool.{not}
 use lib.Dec.{eqb}
 use Rattle.records.specs.format.Bytes.{byte}
 use Rattle.records.specs.format.Scan.{any}
-use Rattle.records.proofs.format.ScanLaws.{any-more}
 use Rattle.records_season.proofs.other_byte_set.Given as goal
 
 abbrev pub invariant-loop-o : goal.invariant-loop-o

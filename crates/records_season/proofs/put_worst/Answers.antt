@@ -1,7 +1,6 @@
 -- `records_season::put_worst` meets its contract: three texts one after another.
 use Rattle.records.specs.text.Text.{codes}
 use Rattle.records_answer_text.proofs.CursorLaws.{then}
-use borrow.Author.Rules.{rules}
 use Rattle.records_season.proofs.put_worst.Goals as goal
 
 pub returns : goal.returns

@@ -1,15 +1,13 @@
 -- `records_season::take_byte` meets its contract.
 use Prim.Native.Nat.{◌<◌}
 use native.Mathlib.Omega.{arith}
-use Rattle.records_season.specs.joints.SeasonCame.{window_of}
 use Rattle.records_season.proofs.FedLaws.{open-fed, fed-wider}
-use borrow.Author.Rules.{rules}
 use Rattle.records_season.proofs.take_byte.Goals as goal
 
 pub take_last_byte-requires : goal.take_last_byte-requires
 take_last_byte-requires c =
     let e = c.if-a-eq15.true in
-    record { values_len = c.requires.values_len; season_arrives = (c.requires.season_arrives.0, e, omega (arith, c.requires.season_arrives.1)) }
+    (c.requires.0, e, omega (arith, c.requires.1))
 
 pub returns-then-a-eq15 : goal.returns-then-a-eq15
 returns-then-a-eq15 c =
@@ -20,5 +18,4 @@ pub returns : goal.returns
 returns c =
     let a = c.args in
     let small : a.b < 256 = omega (arith, c.ranges.b) in
-    let window = window_of a.values.now a.given.now in
-    open-fed a.a a.kept.now a.current.now window a.b small _ _ c.take_byte.ensures (λ q. absurd (c.if-a-eq15.false q)) _ _
+    open-fed a.a a.kept.now a.current.now a.window.now a.b small _ _ c.take_byte.ensures (λ q. absurd (c.if-a-eq15.false q)) _ _

@@ -3,19 +3,17 @@ use Prim.Native.Nat.{◌<◌}
 use native.Mathlib.Omega.{arith}
 use mathlib.Core.Path.{sym, ◌∙◌}
 use lib.ListN.{length-set}
-use Rattle.records_season.specs.joints.SeasonCame.{window_of, closed_room}
+use Rattle.records_season.specs.joints.SeasonCame.{closed_room}
 use Rattle.records_season.proofs.FedLaws.{closing-fed, open-fed, set-again}
-use borrow.Author.Rules.{rules}
 use Rattle.records_season.proofs.take_last_byte.Goals as goal
 
 pub returns-then-closes : goal.returns-then-closes
 returns-then-closes c =
     let a = c.args in
     let small : a.b < 256 = omega (arith, c.ranges.b) in
-    let window = window_of a.values.now a.given.now in
     let whole = sym c.closes.ensures ∙ c.if-closes.true in
     let q = c.close_series-next.ensures in
-    closing-fed a.a a.kept.now a.current.now window a.b small c.requires.season_arrives.1 whole _ q.given_after _ _ _ _ q.put _ c.nothing_yet.ensures
+    closing-fed a.a a.kept.now a.current.now a.window.now a.b small c.requires.1 whole _ q.window_after _ _ _ _ q.put _ c.nothing_yet.ensures
 
 pub shape_of-current : goal.shape_of-current
 shape_of-current c =
@@ -26,7 +24,6 @@ pub returns : goal.returns
 returns c =
     let a = c.args in
     let small : a.b < 256 = omega (arith, c.ranges.b) in
-    let window = window_of a.values.now a.given.now in
     let open' = sym c.closes.ensures ∙ c.if-closes.false in
-    let taken = c.take_byte.ensures ∙ set-again a.a a.kept.now a.current.now window a.b small c.requires.season_arrives.1 in
-    open-fed a.a a.kept.now a.current.now window a.b small closed_room _ taken (λ e. open') _ _
+    let taken = c.take_byte.ensures ∙ set-again a.a a.kept.now a.current.now a.window.now a.b small c.requires.1 in
+    open-fed a.a a.kept.now a.current.now a.window.now a.b small closed_room _ taken (λ e. open') _ _

@@ -1,16 +1,23 @@
 -- `records_season::worse` meets its contract.
-use Rattle.records_season.proofs.WindowCode.{worse-larger, worse-other, worse-kept, worse-first}
-use borrow.Author.Rules.{rules}
+use Rattle.records.specs.text.Season.{worse}
 use Rattle.records_season.proofs.worse.Goals as goal
 
 pub returns-then-x-y : goal.returns-then-x-y
-returns-then-x-y c = worse-larger _ _ _ _ c.in-Some.is c.in-Some-f.is c.if-x-y.true
+unfolding worse
+returns-then-x-y c = rw (c.in-Some-Some.is-0, c.in-Some-Some.is-1, c.if-x-y.true)
 
 pub returns-else-x-y : goal.returns-else-x-y
-returns-else-x-y c = worse-other _ _ _ _ c.in-Some.is c.in-Some-f.is c.if-x-y.false
+unfolding worse
+returns-else-x-y c = rw (c.in-Some-Some.is-0, c.in-Some-Some.is-1, c.if-x-y.false)
 
-pub returns-in-None-f : goal.returns-in-None-f
-returns-in-None-f c = worse-kept _ _ _ c.in-Some.is c.in-None-f.is
+pub returns-in-None-default : goal.returns-in-None-default
+unfolding worse
+returns-in-None-default c = rw c.in-None-default.is-0
 
-pub returns-in-None : goal.returns-in-None
-returns-in-None c = worse-first _ _ c.in-None.is
+pub returns-in_default-None : goal.returns-in_default-None
+unfolding worse
+returns-in_default-None c = rw (c.in_default-None.is-0, c.in_default-None.is-1)
+
+pub returns-in_default-None-2 : goal.returns-in_default-None-2
+unfolding worse
+returns-in_default-None-2 c = rw (c.in_default-None.is-0, c.in_default-None.is-1)

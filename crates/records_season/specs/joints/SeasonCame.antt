@@ -1,6 +1,6 @@
 -- Not needed to check document 01: names that join the code to its definitions.
 -- A season's file that arrives in pieces of any lengths: what is kept of it while it comes. Of its open series that is what records_pieces keeps of a file; of those that are closed, the F's of the latest twenty.
-use Rattle.std.specs.Prelude.{ℕ, ◌<◌, ◌≡◌, Bool, cond, List, [], ◌∷◌, ◌++◌, map, eqb, length, get_or, drop, replicate, Option, Some, None, Float}
+use Rattle.std.specs.Prelude.{ℕ, ◌<◌, ◌≡◌, cond, List, [], ◌∷◌, ◌++◌, map, eqb, length, get_or, drop, replicate, Option, None, Float}
 use Rattle.arithmetic_cutoffs.specs.Cutoffs.{document_cutoffs}
 use Rattle.tests.specs.Answer.{no_entry}
 use Rattle.records.specs.format.Bytes.{byte}
@@ -24,20 +24,8 @@ pub record SeasonState : Type 0 where
   pub arrived : Arrived
   pub window : List (Option Float)
 
--- twenty F's as the code has them: their values, and which are given
-abbrev pub given_number : Float → Bool → Option Float
-given_number x given = cond given (Some x) None
-
-unfoldable pub window_of : List Float → List Bool → List (Option Float)
-window_of [] gs = []
-window_of (v ∷ vs) [] = []
-window_of (v ∷ vs) (g ∷ gs) = given_number v g ∷ window_of vs gs
-
 abbrev pub season_of : Arrival → List ℕ → List ℕ → List (Option Float) → SeasonState
 season_of a kept current window = record { arrived = arrived_as a kept current; window = window }
-
-abbrev pub season_as : Arrival → List ℕ → List ℕ → List Float → List Bool → SeasonState
-season_as a kept current values given = season_of a kept current (window_of values given)
 
 -- the last twenty of the F's of all series, and none in front of them for series that have not been
 unfoldable pub last_twenty : List (Option Float) → List (Option Float)
