@@ -5,6 +5,8 @@ use crate::print;
 use crate::print::Printed;
 use algebra::Matrix;
 use algebra::scalar::Scalar;
+use algebra_elimination::Solved;
+use algebra_jacobi::JacobiState;
 use algebra_products::MatrixProduct;
 use arithmetic::Marked;
 
@@ -74,50 +76,45 @@ fn marked_products(a: Matrix<Marked>, b: Matrix<Marked>, r: usize, n: usize, c: 
     cellwise(a, b, r, n);
 }
 
+fn solved<T: Printed>(x: Solved<T>) {
+    print::flag(x.refused);
+    print::matrix(x.cells);
+}
+
 fn solutions(a: Matrix<f64>, b: Matrix<f64>, n: usize, c: usize)
     requires { (n ≤ 6) × (c ≤ 6) }
 {
-    let mut zero = false;
-    let x = algebra_elimination::solve(a, b, n, c, &mut zero);
-    print::flag(zero);
-    print::matrix(x);
-    let y = algebra_elimination::inverse(a, n, &mut zero);
-    print::flag(zero);
-    print::matrix(y);
+    solved(algebra_elimination::solve(a, b, n, c));
+    solved(algebra_elimination::inverse(a, n));
 }
 
 fn marked_solutions(a: Matrix<Marked>, b: Matrix<Marked>, n: usize, c: usize)
     requires { (n ≤ 6) × (c ≤ 6) }
 {
-    let mut zero = false;
-    let x = algebra_elimination_marked::solve(a, b, n, c, &mut zero);
-    print::flag(zero);
-    print::matrix(x);
-    let y = algebra_elimination_marked::inverse(a, n, &mut zero);
-    print::flag(zero);
-    print::matrix(y);
+    solved(algebra_elimination::solve(a, b, n, c));
+    solved(algebra_elimination::inverse(a, n));
+}
+
+fn turned<T: Printed>(x: JacobiState<T>) {
+    print::matrix(x.matrix);
+    print::matrix(x.vectors);
 }
 
 fn rotations(m: Matrix<f64>, n: usize)
     requires { n ≤ 6 }
 {
-    let mut k: usize = 0;
-    let both = algebra_jacobi::jacobi(m, n, LIMIT, &mut k);
-    print::count(k);
-    print::matrix(both[0]);
-    print::matrix(both[1]);
+    let rotated = algebra_jacobi::jacobi(m, n, LIMIT);
+    print::count(rotated.count);
+    turned(rotated);
 }
 
 fn marked_rotations(m: Matrix<Marked>, n: usize)
     requires { n ≤ 6 }
 {
-    let mut k: usize = 0;
-    let mut inside = false;
-    let both = algebra_jacobi_marked::jacobi(m, n, LIMIT, &mut k, &mut inside);
-    print::count(k);
-    print::flag(!inside);
-    print::matrix(both[0]);
-    print::matrix(both[1]);
+    let rotated = algebra_jacobi::jacobi(m, n, LIMIT);
+    print::count(rotated.count);
+    print::flag(!arithmetic_steps::is_inside(rotated.seen));
+    turned(rotated);
 }
 
 // The algorithm's number stands above three sizes, a byte each.
