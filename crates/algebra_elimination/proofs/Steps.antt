@@ -1,4 +1,4 @@
--- What the functions of the two modules share: the start and the end of an elimination, for any kind of number.
+-- The start and the end of an elimination, for any kind of number.
 use Prim.Native.Nat.{ℕ, ◌+◌, ◌-◌, ◌≤◌, ◌<◌}
 use native.Mathlib.Omega.{arith}
 use mathlib.Core.Path.{◌≡◌, sym, ap, ◌∙◌}

@@ -1,4 +1,4 @@
--- What the functions on plain and on marked numbers share: a cell of X from its sum, for any kind of number.
+-- A cell of X from its sum, for any kind of number.
 use Prim.Native.Nat.{ℕ, ◌≤◌}
 use mathlib.Core.Path.{◌≡◌, ap, ◌∙◌}
 use mathlib.Core.List.{List}

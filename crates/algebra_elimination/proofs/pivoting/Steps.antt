@@ -1,4 +1,4 @@
--- What the functions of the two modules share: one step of an elimination, for any kind of number.
+-- One step of an elimination, for any kind of number.
 use Prim.Native.Nat.{ℕ, ◌<◌}
 use mathlib.Core.Path.{◌≡◌}
 use mathlib.Core.Bool.{Bool, cond}
