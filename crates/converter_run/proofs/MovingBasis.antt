@@ -31,7 +31,8 @@ use Rattle.algebra.proofs.TableLaws.{table_at}
 use Rattle.algebra.proofs.MovingCells.{MovesCells, table-moves, alike-over, less-agrees, cond-two, cond_both}
 use Rattle.algebra.specs.Small.{Rows, values, all_marks}
 use Rattle.tests.specs.Order.{index_at}
-use Rattle.tests.specs.Basis.{Basis, largest, divided_cell, divided, sweeps_to, norms, singular, rank_of, basis_rows, contrast_basis}
+use Rattle.tests.specs.declared.Basis.{Basis}
+use Rattle.tests.specs.Basis.{largest, divided_cell, divided, sweeps_to, norms, singular, rank_of, basis_rows, contrast_basis}
 use Rattle.tests_basis.proofs.Rank.{rank_most}
 use Rattle.converter_run.specs.joints.ConvertedInput.{WrittenCells}
 use Rattle.algebra_products.proofs.MovingSmall.{tied-still, tied-nil, all_marks-cells, values_agree}

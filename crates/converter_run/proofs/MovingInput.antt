@@ -22,7 +22,8 @@ use Rattle.algebra.proofs.MovingCells.{BearsCells, table-bears, abs-twice}
 use Rattle.algebra.specs.Small.{Rows, given_cells}
 use Rattle.arithmetic_cutoffs.specs.declared.Cutoffs.{Cutoffs}
 use Rattle.adjustment.specs.Adjusted.{Adjustment, scaled_up}
-use Rattle.tests.specs.Basis.{Basis, divided_cell, divided, contrast_basis}
+use Rattle.tests.specs.declared.Basis.{Basis}
+use Rattle.tests.specs.Basis.{divided_cell, divided, contrast_basis}
 use Rattle.tests.specs.KenwardRoger.{Scaled, scaled_by, difference, unit_row, coefficient_test, contrast_test}
 use Rattle.tests.specs.Verdict.{RunBears}
 use Rattle.converter_run.specs.joints.ConvertedInput.{Input, run_on, ConvertedInput, Multiplied, RunSizes, WrittenCells, Written}

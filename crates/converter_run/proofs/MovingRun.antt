@@ -26,10 +26,13 @@ use Rattle.algebra.proofs.MovingCells.{BearsCells, MovesCells, abs-twice, cond_b
 use Rattle.arithmetic_cutoffs.specs.declared.Cutoffs.{Cutoffs}
 use Rattle.adjustment.specs.Adjusted.{Adjustment, matrix_at, scaled_up, scaled_down, output_not_finite}
 use Rattle.tests.specs.declared.Entry.{Entry}
-use Rattle.tests.specs.Basis.{Basis, contrast_basis}
+use Rattle.tests.specs.declared.Basis.{Basis}
+use Rattle.tests.specs.Basis.{contrast_basis}
 use Rattle.tests_basis.proofs.Rank.{rank_most}
 use Rattle.tests.specs.Answer.{no_entry}
-use Rattle.tests.specs.KenwardRoger.{Scaled, Tested, Run, scaled_ps, scaled_by, test_seen, tested, unit_row, coefficient_test, contrast_test, with_test, coefficients_to, run_of}
+use Rattle.tests.specs.declared.Tested.{Tested}
+use Rattle.tests.specs.declared.Run.{Run}
+use Rattle.tests.specs.KenwardRoger.{Scaled, scaled_ps, scaled_by, test_seen, tested, unit_row, coefficient_test, contrast_test, with_test, coefficients_to, run_of}
 use Rattle.tests.specs.Verdict.{Verdict, verdict, verdicts, RunBears, RunSurvives}
 use Rattle.converter_run.specs.joints.ConvertedInput.{Input, run_on, ConvertedInput, RunSizes, WrittenCells, Written, WrittenUnits, ScalingMoves}
 use Rattle.algebra_products.proofs.MovingSmall.{tied-still, tied-nil}

@@ -28,8 +28,9 @@ use Rattle.algebra.specs.Small.{MarkedRows, Rows, given_cells, values, all_marks
 use Rattle.arithmetic_cutoffs.specs.declared.Cutoffs.{Cutoffs}
 use Rattle.std.specs.Prelude.{Option, None}
 use Rattle.tests.specs.Answer.{number_of}
-use Rattle.tests.specs.Basis.{Basis}
-use Rattle.tests.specs.KenwardRoger.{Scaled, Tested, scaling_seen, difference, theta_of, u_of, u_stack, u_values, wald_many, a_rows, x_rows, theta_phi, us, ld_rows, v_rows, y_rows, wald_marked, wald_number, test_seen, a1, a2, tested}
+use Rattle.tests.specs.declared.Basis.{Basis}
+use Rattle.tests.specs.declared.Tested.{Tested}
+use Rattle.tests.specs.KenwardRoger.{Scaled, scaling_seen, difference, theta_of, u_of, u_stack, u_values, wald_many, a_rows, x_rows, theta_phi, us, ld_rows, v_rows, y_rows, wald_marked, wald_number, test_seen, a1, a2, tested}
 use Rattle.tests.specs.Both.{is_positive, square_one, stack_seen}
 use Rattle.tests.specs.Verdict.{verdict}
 use Rattle.converter_run.specs.joints.ConvertedInput.{WrittenCells}

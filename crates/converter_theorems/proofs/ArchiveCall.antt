@@ -23,7 +23,8 @@ use Rattle.adjustment.specs.Adjusted.{Adjustment}
 use Rattle.adjustment.proofs.WrittenLaws.{stack_at}
 use Rattle.tests.specs.declared.Entry.{Entry}
 use Rattle.tests.specs.Answer.{no_entry}
-use Rattle.tests.specs.KenwardRoger.{Run, scaled_by}
+use Rattle.tests.specs.declared.Run.{Run}
+use Rattle.tests.specs.KenwardRoger.{scaled_by}
 use Rattle.tests.specs.Verdict.{verdict, verdicts, RunBears, RunSurvives}
 use Rattle.records.specs.format.Kinds.{limits}
 use Rattle.records.specs.format.File.{length_reasons, form_reasons}

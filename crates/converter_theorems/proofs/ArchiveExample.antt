@@ -24,7 +24,8 @@ use Rattle.adjustment.specs.Adjusted.{stack, scaled_up, scaled_down}
 use Rattle.tests.specs.Basis.{largest, divided_cell, divided, contrast_basis}
 use Rattle.tests.specs.Both.{stack_seen, square_one, is_positive}
 use Rattle.tests.specs.Moments.{weight, a1_of, a2_of, b_of, g_of, d_of, c1_of, c2_of, c3_of, leading_of, v0_of, v1_of, v2_of, div_of, less_a2, rho_of, positive, general_df, rank_one, df_of, scaling_at, scaling_of, f_of}
-use Rattle.tests.specs.KenwardRoger.{Run, unit_row, coefficient_test, contrast_test, scaled_ps, scaled_by, scaling_seen, difference, theta_of, u_of, u_stack, u_values, wald_many, a_rows, x_rows, theta_phi, us, ld_rows, v_rows, y_rows, wald_marked, wald_number, test_seen, a1, a2, tested, with_test, coefficients_to, run_of}
+use Rattle.tests.specs.declared.Run.{Run}
+use Rattle.tests.specs.KenwardRoger.{unit_row, coefficient_test, contrast_test, scaled_ps, scaled_by, scaling_seen, difference, theta_of, u_of, u_stack, u_values, wald_many, a_rows, x_rows, theta_phi, us, ld_rows, v_rows, y_rows, wald_marked, wald_number, test_seen, a1, a2, tested, with_test, coefficients_to, run_of}
 use Rattle.std.specs.Prelude.{Some}
 use Rattle.tests.specs.declared.Entry.{Entry}
 use Rattle.tests.specs.Answer.{no_entry, number_of}

@@ -23,7 +23,7 @@ use Rattle.algebra.proofs.MovingCells.{step-bears, table-bears}
 use Rattle.algebra.proofs.MovingProducts.{sum-bears, minus_cells-bears}
 use Rattle.algebra.specs.Small.{MarkedRows, Rows, sandwich, given_cells, all_marks}
 use Rattle.arithmetic_cutoffs.specs.declared.Cutoffs.{Cutoffs}
-use Rattle.tests.specs.Satterthwaite.{column, contrast_of, transformed, transformed_all, gradient_one, Inputs, l_rows, ld_rows, v_rows, j_stack, rotated_v, variances, directions, jx_stack, f_one, f_several, start_seen, seen_one, seen_several, one_row, several_rows, satterthwaite}
+use Rattle.tests.specs.Satterthwaite.{Inputs, column, contrast_of, transformed, transformed_all, gradient_one, l_rows, ld_rows, v_rows, j_stack, rotated_v, variances, directions, jx_stack, f_one, f_several, start_seen, seen_one, seen_several, one_row, several_rows, satterthwaite}
 use Rattle.tests.specs.Both.{stack_seen}
 use Rattle.algebra_products.proofs.MovingSmall.{all_marks-first, all_marks-cells}
 use Rattle.tests.proofs.MovingVariance.{gradient-first}

@@ -23,7 +23,8 @@ use Rattle.tests.specs.Order.{comes_before, place_in, index_at}
 use Rattle.tests.specs.VarianceDf.{relative_gradient, gradient_values, relative_variance, df_of_relative, variance_df, gradient_seen}
 use Rattle.tests.specs.Both.{is_positive, square_one, stack_seen}
 use Rattle.tests.specs.PooledDf.{tolerance, all_within, any_low, expected, pooled, get_fstat_ddf}
-use Rattle.tests.specs.Satterthwaite.{column, contrast_of, transformed, transformed_all, gradient_one, eigenvalues, not_positive, variances_of, directions_of, projected, squares_over, jx_all, gradient_at, capped, component_df, component_dfs, any_none, several_df, components_seen, Inputs, Outcome, ld_rows, v_rows, j_stack, rotated_v, variances, directions, jx_stack, f_one, f_several, df_one, df_several, start_seen, seen_one, seen_several, one_row, several_rows, satterthwaite as test}
+use Rattle.tests.specs.declared.Tested.{Tested}
+use Rattle.tests.specs.Satterthwaite.{Inputs, column, contrast_of, transformed, transformed_all, gradient_one, eigenvalues, not_positive, variances_of, directions_of, projected, squares_over, jx_all, gradient_at, capped, component_df, component_dfs, any_none, several_df, components_seen, ld_rows, v_rows, j_stack, rotated_v, variances, directions, jx_stack, f_one, f_several, df_one, df_several, start_seen, seen_one, seen_several, one_row, several_rows, satterthwaite as test}
 use Rattle.std.specs.Prelude.{Some}
 use Rattle.tests.specs.declared.Entry.{Entry}
 use Rattle.records.specs.format.Bytes.{word, long, bytes_of}
@@ -86,7 +87,7 @@ unfolding inputs jacobians table row blank fold reasons length_reasons order_rea
 says = record { inputs = refl; passes = refl }
 
 -- ---- what the test makes of it: F 2.5, df 4, rank 2, inside
-abbrev parameter_outcome : Outcome
+abbrev parameter_outcome : Tested
 parameter_outcome = record { refused = false; entry = record { f = Some (fin false 5 (negsuc 0)); df = Some four; rank = 2; inside = true } }
 
 tests : test marks document_cutoffs parameter_inputs ≡ parameter_outcome
@@ -99,10 +100,10 @@ parameter-outcome = ap (test marks document_cutoffs) says.inputs ∙ tests
 
 parameter-accepted : number document_cutoffs parameter_file ≡ 0
 parameter-accepted =
-    number_is document_cutoffs parameter_file ∙ ap (λ (o : Outcome). first (reasons parameter_file ++ ((11, o.refused) ∷ []))) parameter-outcome ∙ says.passes
+    number_is document_cutoffs parameter_file ∙ ap (λ (o : Tested). first (reasons parameter_file ++ ((11, o.refused) ∷ []))) parameter-outcome ∙ says.passes
 
 parameter-entry : entry document_cutoffs parameter_file ≡ parameter_outcome.entry
-parameter-entry = entry-is document_cutoffs parameter_file parameter-accepted ∙ ap (λ (o : Outcome). o.entry) parameter-outcome
+parameter-entry = entry-is document_cutoffs parameter_file parameter-accepted ∙ ap (λ (o : Tested). o.entry) parameter-outcome
 
 -- F 2.5, df 4, rank 2
 abbrev pub two_and_a_half : Verdict

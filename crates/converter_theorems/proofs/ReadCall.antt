@@ -12,7 +12,7 @@ use Rattle.adjustment.specs.Covariance.{Design, matrices}
 use Rattle.adjustment.specs.Adjusted.{Adjustment, adjustment, adjustment_refusal}
 use Rattle.tests.specs.declared.Entry.{Entry}
 use Rattle.tests.specs.Answer.{no_entry}
-use Rattle.tests.specs.KenwardRoger.{Run}
+use Rattle.tests.specs.declared.Run.{Run}
 use Rattle.tests.specs.Verdict.{Verdict, verdict}
 use Rattle.records.specs.readers.Series.{coefficients, contrast_rows, reasons, design, phi, sigma2}
 use Rattle.records.specs.calls.KenwardRogerCall.{run, number, entries}

@@ -7,7 +7,8 @@ use Rattle.algebra.specs.Kind.{marks}
 use Rattle.algebra.specs.Reasons.{first}
 use Rattle.arithmetic_cutoffs.specs.declared.Cutoffs.{Cutoffs}
 use Rattle.tests.specs.declared.Entry.{Entry}
-use Rattle.tests.specs.Satterthwaite.{Inputs, Outcome, satterthwaite as test}
+use Rattle.tests.specs.declared.Tested.{Tested}
+use Rattle.tests.specs.Satterthwaite.{Inputs, satterthwaite as test}
 use Rattle.records.specs.readers.Parameters.{reasons, inputs}
 use Rattle.records.specs.calls.SatterthwaiteCall.{number, entry}
 use Rattle.converter_theorems.proofs.ParametersCall.{number_is, entry-is}
@@ -22,7 +23,7 @@ module _ (c : Cutoffs) {s : List ℕ} {i : Inputs} {e : Entry} (says : Says s i)
   said-outcome = ap (test marks c) (says.inputs) ∙ tested
 
   pub said-accepted : number c s ≡ 0
-  said-accepted = number_is c s ∙ ap (λ (o : Outcome). first (reasons s ++ ((11, o.refused) ∷ []))) said-outcome ∙ says.passes
+  said-accepted = number_is c s ∙ ap (λ (o : Tested). first (reasons s ++ ((11, o.refused) ∷ []))) said-outcome ∙ says.passes
 
   pub said-entry : entry c s ≡ e
-  said-entry = entry-is c s said-accepted ∙ ap (λ (o : Outcome). o.entry) said-outcome
+  said-entry = entry-is c s said-accepted ∙ ap (λ (o : Tested). o.entry) said-outcome

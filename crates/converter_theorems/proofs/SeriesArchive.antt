@@ -14,7 +14,8 @@ use Rattle.adjustment.specs.Covariance.{Design, matrices}
 use Rattle.adjustment.specs.Adjusted.{adjustment}
 use Rattle.tests.specs.declared.Entry.{Entry}
 use Rattle.tests.specs.Answer.{no_entry}
-use Rattle.tests.specs.KenwardRoger.{Run, scaled_by}
+use Rattle.tests.specs.declared.Run.{Run}
+use Rattle.tests.specs.KenwardRoger.{scaled_by}
 use Rattle.records.specs.readers.Series.{coefficients, contrast_rows, sizes, design, phi, sigma2}
 use Rattle.records.specs.readers.Archive as archive
 use Rattle.records.specs.readers.Archive.{Archive, archive_bytes}

@@ -18,7 +18,7 @@ use Rattle.adjustment.specs.Covariance.{Design, matrices}
 use Rattle.adjustment.specs.Adjusted.{adjustment, adjustment_refusal}
 use Rattle.tests.specs.declared.Entry.{Entry}
 use Rattle.tests.specs.Answer.{no_entry}
-use Rattle.tests.specs.KenwardRoger.{Run}
+use Rattle.tests.specs.declared.Run.{Run}
 use Rattle.algebra.specs.Reasons.{first}
 use Rattle.records.specs.format.File.{length_reasons, form_reasons}
 use Rattle.records.specs.format.Order.{order_reasons}

@@ -163,7 +163,7 @@ module _ (s : List ℕ) (xs : List Float) (h : ArchiveOnSheet s xs) (z : Sizes) 
     pub archive-run-is : (c : Cutoffs) (t : List ℕ) (phi phi_a w : Rows) (ps : List Rows) (x : Float) → w ≡ cells_at xs (get_or fs 14 0) z.parameters z.parameters
         → phi ≡ cells_at xs (get_or fs 15 0) z.coefficients z.coefficients → phi_a ≡ cells_at xs (get_or fs 16 0) z.coefficients z.coefficients
         → ps ≡ stack_at xs (get_or fs 17 0) z.parameters z.coefficients → x ≡ get_or xs (get_or fs 18 0) nan
-        → run_of marks c (response_units z.coefficients z.parameters phi phi_a ps w x) (second.beta t) (second.beta_h t) (second.contrast_rows t) (second.contrast t) ≡ archive_run c s t
+        → run_of marks c (response_units (record { p = z.coefficients; matrices = z.parameters; phi = phi; phi_a = phi_a; w = w }) ps x) (second.beta t) (second.beta_h t) (second.contrast_rows t) (second.contrast t) ≡ archive_run c s t
     unfolding archive_run in_response_units response_units archive.sizes archive.sizes_at archive.archive_of
     archive-run-is c t phi phi_a w ps x ew ep ea es ex =
         let y = archive-given in

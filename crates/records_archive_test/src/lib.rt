@@ -16,27 +16,23 @@ use arithmetic_cutoffs::{Cutoffs, document_cutoffs};
 use records::{ANSWER_LENGTH, RecordKind, Shape};
 use records_answer_bytes::put_answer;
 use records_sheet_parts::{cells_at, six_at, stack_at};
-use tests::Entry;
+use tests::{Covariances, Entry, Hypothesis, Run};
 use tests_entries::{answer_of, no_entry};
+use tests_run::compute_kenward_roger;
 
 // The tests of what a second file says, on matrices in residual units. A zero pivot in any of them refuses the run.
 fn tests_with(
     c: Cutoffs,
-    phi: [[f64; 6]; 6],
-    phi_a: [[f64; 6]; 6],
-    ps: [[[f64; 6]; 6]; 4],
-    w: [[f64; 6]; 6],
-    n: usize,
-    p: usize,
+    residual: &Covariances<f64>,
+    ps: &[[[f64; 6]; 6]; 4],
     sigma2: f64,
     t: &[u8],
     numbers: &[f64],
-    refused: &mut bool,
-) -> [Entry; 7]
-    requires { (n ≤ 4) × (p ≤ 6) × SecondOnSheet p t.now numbers.now }
-    ensures value { result ≡ (run_of marks c (response_units p n phi phi_a ps w sigma2) (beta t.now) (beta_h t.now) (contrast_rows t.now) (contrast t.now)).entries }
-    ensures refused_after { refused.new ≡ (run_of marks c (response_units p n phi phi_a ps w sigma2) (beta t.now) (beta_h t.now) (contrast_rows t.now) (contrast t.now)).refused }
+) -> Run
+    requires { (residual.now.matrices ≤ 4) × (residual.now.p ≤ 6) × SecondOnSheet residual.now.p t.now numbers.now }
+    ensures { result ≡ run_of marks c (response_units residual.now ps.now sigma2) (beta t.now) (beta_h t.now) (contrast_rows t.now) (contrast t.now) }
 {
+    let p = residual.p;
     let z = records_sizes::second_sizes(t);
     let firsts = records_sheet::first_slots(Shape::Second, z);
     // β, the contrast and β_H start here.
@@ -46,35 +42,19 @@ fn tests_with(
     let beta = six_at(numbers, estimates, p);
     let beta_h = six_at(numbers, hypotheses, records_kinds::given(z.hypothesis, p));
     let l = cells_at(numbers, contrast, z.contrasts, p);
-    tests_run::compute_kenward_roger(
-        c,
-        phi,
-        phi_a,
-        ps,
-        w,
-        n,
-        p,
-        sigma2,
+    let hypothesis = Hypothesis {
         beta,
         beta_h,
+        rows: z.contrasts,
         l,
-        z.contrasts,
-        refused,
-    )
+    };
+    compute_kenward_roger(c, residual, ps, sigma2, &hypothesis)
 }
 
 // The tests from an archive and a second file that their readers take, from their sheets: Φ, Φ_A and each P in residual units, W and sigma2. The scaled records are not looked at.
-fn tests_from(
-    c: Cutoffs,
-    s: &[u8],
-    sheet: &[f64],
-    t: &[u8],
-    numbers: &[f64],
-    refused: &mut bool,
-) -> [Entry; 7]
+fn tests_from(c: Cutoffs, s: &[u8], sheet: &[f64], t: &[u8], numbers: &[f64]) -> Run
     requires { ArchiveOnSheet s.now sheet.now × SecondOnSheet (coefficients s.now) t.now numbers.now }
-    ensures value { result ≡ (archive_run c s.now t.now).entries }
-    ensures refused_after { refused.new ≡ (archive_run c s.now t.now).refused }
+    ensures { result ≡ archive_run c s.now t.now }
 {
     let z = records_sizes::archive_sizes(s);
     let firsts = records_sheet::first_slots(Shape::Archived, z);
@@ -90,8 +70,14 @@ fn tests_from(
     let phi = cells_at(sheet, square, p, p);
     let phi_a = cells_at(sheet, adjusted, p, p);
     let ps = stack_at(sheet, squares, n, p);
-    let sigma2 = sheet[variance];
-    tests_with(c, phi, phi_a, ps, w, n, p, sigma2, t, numbers, refused)
+    let residual = Covariances {
+        p,
+        matrices: n,
+        phi,
+        phi_a,
+        w,
+    };
+    tests_with(c, &residual, &ps, sheet[variance], t, numbers)
 }
 
 // The number of the two files, the archive's before the second's, and the entries, none of which is in use where the number is not 0.
@@ -113,9 +99,8 @@ pub fn judge(c: Cutoffs, s: &[u8], t: &[u8], told: &mut u32) -> [Entry; 7]
         *told = u32::from(refusal);
         return [no_entry(); 7];
     }
-    let mut refused = false;
-    let es = tests_from(c, s, &sheet, t, &numbers, &mut refused);
-    answer_of(refused, es, told)
+    let run = tests_from(c, s, &sheet, t, &numbers);
+    answer_of(run.refused, run.entries, told)
 }
 
 // The answer to an archive and a second file with these cutoffs, in the lent answer bytes. A refusal returns its number alone and leaves the bytes as they are.

@@ -24,7 +24,8 @@ use Rattle.tests.specs.Order.{comes_before, place_in, index_at}
 use Rattle.tests.specs.VarianceDf.{relative_gradient, gradient_values, relative_variance, df_of_relative, variance_df, gradient_seen}
 use Rattle.tests.specs.Both.{is_positive, square_one, stack_seen}
 use Rattle.tests.specs.PooledDf.{tolerance, all_within, any_low, expected, pooled, get_fstat_ddf}
-use Rattle.tests.specs.Satterthwaite.{column, contrast_of, transformed, transformed_all, gradient_one, eigenvalues, not_positive, variances_of, directions_of, projected, squares_over, jx_all, gradient_at, capped, component_df, component_dfs, any_none, several_df, components_seen, Inputs, Outcome, ld_rows, v_rows, j_stack, rotated_v, variances, directions, jx_stack, f_one, f_several, df_one, df_several, start_seen, seen_one, seen_several, one_row, several_rows, satterthwaite}
+use Rattle.tests.specs.declared.Tested.{Tested}
+use Rattle.tests.specs.Satterthwaite.{Inputs, column, contrast_of, transformed, transformed_all, gradient_one, eigenvalues, not_positive, variances_of, directions_of, projected, squares_over, jx_all, gradient_at, capped, component_df, component_dfs, any_none, several_df, components_seen, ld_rows, v_rows, j_stack, rotated_v, variances, directions, jx_stack, f_one, f_several, df_one, df_several, start_seen, seen_one, seen_several, one_row, several_rows, satterthwaite}
 use Rattle.records.specs.format.Layout.{bits_of, entry_bytes}
 use Rattle.records.specs.format.Bytes.{word, long, bytes_of}
 use Rattle.algebra.specs.Reasons.{first}
@@ -134,7 +135,7 @@ pub record Example : Type 0 where
 pub example-i : Example
 unfolding number call_written entry_bytes bits_of bytes_of to_bits
 example-i =
-    let j = judged-taken document_cutoffs file_i answered file-taken.0 (ap (λ (o : Outcome). o.refused) tested-file) (sym (ap (λ (o : Outcome). o.entry) tested-file)) in
+    let j = judged-taken document_cutoffs file_i answered file-taken.0 (ap (λ (o : Tested). o.refused) tested-file) (sym (ap (λ (o : Tested). o.entry) tested-file)) in
     let n : number document_cutoffs file_i ≡ 0 = sym j.1 in
     let r : returned built_in_table file_i (replicate 24 255) ≡ 0 = built-in-returned (test_call file_i) (replicate 24 255) ∙ n in
     record { number-i = n; entry-i = sym j.0; returned-i = r; written-i = rw (r, built-in-numbers, sym j.0) }

@@ -10,9 +10,8 @@ use lib.Ieee.{Float}
 use Rattle.arithmetic_cutoffs.specs.declared.Cutoffs.{Cutoffs}
 use Rattle.algebra.specs.Kind.{marks}
 use Rattle.algebra.specs.Small.{Rows}
-use Rattle.tests.specs.declared.Entry.{Entry}
+use Rattle.tests.specs.declared.Tested.{Tested}
 use Rattle.tests.specs.Satterthwaite.{Inputs, satterthwaite as test}
-use Rattle.tests_ddf.specs.joints.Parts.{inputs_of}
 use Rattle.records.specs.declared.Sizes.{Sizes}
 use Rattle.records.specs.format.Scan.{any}
 use Rattle.records.specs.format.Kinds.{width, Table, kind_at, kinds_of, kind_numbers, satterthwaite_kinds}
@@ -27,6 +26,10 @@ use Rattle.records_sheet_parts.specs.joints.Parts.{numbers_at, cells_at, stack_a
 use Rattle.records_sheet_parts.proofs.Read.{Flat, Stack, flat-slots, stack-slots, numbers-read, given-read, cells-read, stack-read}
 use Rattle.records_ddf.specs.joints.Gathered.{inputs_from}
 use Rattle.records.specs.declared.Shape.TheVariants.{Test}
+
+-- the inputs of a test, from their parts
+abbrev inputs_of : ℕ → ℕ → ℕ → Rows → List Float → List Float → Rows → List Rows → Rows → Inputs
+inputs_of p q n l b h v js a = record { p = p; q = q; n = n; l = l; beta = b; beta_h = h; v = v; js = js; a = a }
 
 inputs-same : (p q n : ℕ) {l l' v v' a a' : Rows} {b b' h h' : List Float} {js js' : List Rows} → l ≡ l' → b ≡ b' → h ≡ h' → v ≡ v' → js ≡ js' → a ≡ a' → inputs_of p q n l b h v js a ≡ inputs_of p q n l' b' h' v' js' a'
 inputs-same p q n el eb eh ev ej ea = rw (el, eb, eh, ev, ej, ea)
@@ -95,24 +98,21 @@ module _ (z : Sizes) where
           parameters = table_on 32 z.parameters z.parameters (lit< tt) parameters-flat;
         }
 
-  -- a test's answers from the parts of the sheet at hand; g is how many numbers β_H has
-  pub test-is : (c : Cutoffs) (xs : List Float) (fs : List ℕ) → fs ≡ first_slots t → (g : ℕ) (l v a : Rows) (b h : List Float) (js : List Rows) (x : Entry) (r : Bool) → g ≡ cond z.hypothesis z.coefficients 0
+  -- a test from the parts of the sheet at hand; g is how many numbers β_H has
+  pub test-is : (c : Cutoffs) (xs : List Float) (fs : List ℕ) → fs ≡ first_slots t → (g : ℕ) (l v a : Rows) (b h : List Float) (js : List Rows) (r : Tested) → g ≡ cond z.hypothesis z.coefficients 0
       → l ≡ cells_at xs (get_or fs 9 0) z.contrasts z.coefficients → b ≡ numbers_at xs 6 (get_or fs 8 0) z.coefficients → h ≡ numbers_at xs 6 (get_or fs 10 0) g
       → v ≡ cells_at xs (get_or fs 30 0) z.coefficients z.coefficients → js ≡ stack_at xs (get_or fs 31 0) z.parameters z.coefficients → a ≡ cells_at xs (get_or fs 32 0) z.parameters z.parameters
-      → x ≡ (test marks c (inputs_of z.coefficients z.contrasts z.parameters l b h v js a)).entry
-      → r ≡ (test marks c (inputs_of z.coefficients z.contrasts z.parameters l b h v js a)).refused
-      → (x ≡ (test marks c (inputs_from xs z)).entry) × (r ≡ (test marks c (inputs_from xs z)).refused)
+      → r ≡ test marks c (record { p = z.coefficients; q = z.contrasts; n = z.parameters; l = l; beta = b; beta_h = h; v = v; js = js; a = a }) → r ≡ test marks c (inputs_from xs z)
   unfolding inputs_from
-  test-is c xs fs e g l v a b h js x r eg el eb eh ev ej ea ex er =
-      let q =
-      inputs-same z.coefficients z.contrasts z.parameters
+  test-is c xs fs e g l v a b h js r eg el eb eh ev ej ea er =
+      er
+      ∙ ap (test marks c) (inputs-same z.coefficients z.contrasts z.parameters
       (el ∙ ap (λ (i : ℕ). cells_at xs i z.contrasts z.coefficients) (starts fs e 9 (omega arith)))
       (eb ∙ ap (λ (i : ℕ). numbers_at xs 6 i z.coefficients) (starts fs e 8 (omega arith)))
       (eh ∙ ap (λ (i : ℕ). numbers_at xs 6 i g) (starts fs e 10 (omega arith)) ∙ ap (numbers_at xs 6 (first_slot t 10)) eg)
       (ev ∙ ap (λ (i : ℕ). cells_at xs i z.coefficients z.coefficients) (starts fs e 30 (omega arith)))
       (ej ∙ ap (λ (i : ℕ). stack_at xs i z.parameters z.coefficients) (starts fs e 31 (omega arith)))
-      (ea ∙ ap (λ (i : ℕ). cells_at xs i z.parameters z.parameters) (starts fs e 32 (omega arith))) in
-      (ex ∙ ap (λ (i : Inputs). (test marks c i).entry) q, er ∙ ap (λ (i : Inputs). (test marks c i).refused) q)
+      (ea ∙ ap (λ (i : ℕ). cells_at xs i z.parameters z.parameters) (starts fs e 32 (omega arith))))
 
 -- ---- a file within its sizes, on a sheet of N numbers
 module _ (s : List ℕ) (within : any (count s) (beyond (kinds s) s) ≡ false) (N : ℕ) (room : slot_count (kinds s) ≤ N) where

@@ -23,7 +23,7 @@ use records::refusal::Refusal;
 use records::{ENTRY_LENGTH, RecordKind, Shape, Sizes};
 use records_answer_bytes::put_entry;
 use records_sheet_parts::{cells_at, six_at, stack_at};
-use tests::Entry;
+use tests::{Entry, TestInputs, Tested};
 use tests_ddf::satterthwaite::satterthwaite_contrast_f_test;
 
 // Refuses a file before anything is computed; where it is taken the lent sheet holds its numbers. The flags are all clear at first and the sheet is all +0, with a
@@ -45,11 +45,10 @@ fn refusal(s: &[u8], flags: &mut [bool], sheet: &mut [f64]) -> Result<(), Refusa
 }
 
 // The test of what the sheet says.
-fn test(c: Cutoffs, sheet: &[f64], firsts: &[usize; 34], z: Sizes, refused: &mut bool) -> Entry
+fn test(c: Cutoffs, sheet: &[f64], firsts: &[usize; 34], z: Sizes) -> Tested
     requires coefficients_bound { (z.coefficients ≤ 6) × (z.contrasts ≤ 6) × (z.parameters ≤ 4) }
     requires firsts_value { (firsts.now ≡ first_slots (satterthwaite_kinds z)) × (slot_count (satterthwaite_kinds z) ≤ length sheet.now) }
-    ensures value { result ≡ (test_of marks c (inputs_from sheet.now z)).entry }
-    ensures refused_after { refused.new ≡ (test_of marks c (inputs_from sheet.now z)).refused }
+    ensures { result ≡ test_of marks c (inputs_from sheet.now z) }
 {
     let p = z.coefficients;
     let q = z.contrasts;
@@ -67,7 +66,17 @@ fn test(c: Cutoffs, sheet: &[f64], firsts: &[usize; 34], z: Sizes, refused: &mut
     let v = cells_at(sheet, variance, p, p);
     let js = stack_at(sheet, jacobians, n, p);
     let a = cells_at(sheet, parameters, n, n);
-    satterthwaite_contrast_f_test(c, beta, v, l, js, a, beta_h, p, q, n, refused)
+    let inputs = TestInputs {
+        p,
+        q,
+        n,
+        l,
+        beta,
+        beta_h,
+        v,
+        a,
+    };
+    satterthwaite_contrast_f_test(c, &inputs, &js)
 }
 
 // The entry of a file, or what refuses it.
@@ -80,12 +89,11 @@ pub fn judge(c: Cutoffs, s: &[u8]) -> Result<Entry, Refusal>
     refusal(s, &mut flags, &mut sheet)?;
     let z = records_sizes::parameter_sizes(s);
     let firsts = records_sheet::first_slots(Shape::Test, z);
-    let mut refused = false;
-    let e = test(c, &sheet, &firsts, z, &mut refused);
-    if refused {
+    let tested = test(c, &sheet, &firsts, z);
+    if tested.refused {
         return Err(Refusal::Eigenvalue);
     }
-    Ok(e)
+    Ok(tested.entry)
 }
 
 // The answer to a file with these cutoffs, in the lent entry's bytes. A refusal leaves the bytes as they are.

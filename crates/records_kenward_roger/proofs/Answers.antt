@@ -20,9 +20,11 @@ use Rattle.algebra.proofs.FoldLaws.{fold-keeps}
 use Rattle.std.specs.Prelude.{Option, Some, None}
 use Rattle.tests.specs.declared.Entry.{Entry}
 use Rattle.tests.specs.Answer.{no_entry}
-use Rattle.tests.specs.Basis.{Basis, contrast_basis}
+use Rattle.tests.specs.declared.Basis.{Basis}
+use Rattle.tests.specs.Basis.{contrast_basis}
 use Rattle.tests.specs.Moments.{four, positive, rho_of, general_df, rank_one, df_of, f_of}
-use Rattle.tests.specs.KenwardRoger.{Scaled, scaled_by, tested, unit_row, coefficient_test, contrast_test, Run, with_test, coefficients_to, run_of}
+use Rattle.tests.specs.declared.Run.{Run}
+use Rattle.tests.specs.KenwardRoger.{Scaled, scaled_by, tested, unit_row, coefficient_test, contrast_test, with_test, coefficients_to, run_of}
 use Rattle.tests.specs.Used.{in_use}
 use Rattle.tests_run.proofs.Used.{all_alike, unused-entry, in-use-is}
 use Rattle.records.specs.readers.Series.{coefficients, contrast_rows, refusal, beta, beta_h, contrast}

@@ -246,7 +246,7 @@ module _ (w : ℕ) (s : List ℕ) (fs : List ℕ) (xs : List Float) (h : SeriesS
   own-holds = record { wide = omega arith; fits = (let e = part-long 1 (specimens s) (coefficients s) (omega arith) (flat-x s) in let m = mul-le-mul_right (coefficients s) (kept-most s) in omega arith) }
 
   own-run : (c : Cutoffs)
-      → run_of marks c (response_units (coefficients s) (matrices (design s)) (cells_at xs (get_or fs 6 0) (coefficients s) (coefficients s)) (adjusted c s).phi_a (adjusted c s).ps (adjusted c s).w (get_or xs (get_or fs 7 0) nan))
+      → run_of marks c (response_units (record { p = coefficients s; matrices = matrices (design s); phi = cells_at xs (get_or fs 6 0) (coefficients s) (coefficients s); phi_a = (adjusted c s).phi_a; w = (adjusted c s).w }) (adjusted c s).ps (get_or xs (get_or fs 7 0) nan))
       (numbers_at xs 6 (get_or fs 8 0) (coefficients s)) (numbers_at xs 6 (get_or fs 10 0) (hypotheses s)) (contrast_rows s) (cells_at xs (get_or fs 9 0) (contrast_rows s) (coefficients s))
       ≡ run c s
   unfolding run scaled
@@ -406,6 +406,6 @@ module _ (w : ℕ) (s : List ℕ) (z : Sizes) (fs : List ℕ) (xs : List Float) 
       → b ≡ numbers_at xs 6 (get_or fs 8 0) z.coefficients → n ≡ cond z.hypothesis z.coefficients 0 → bh ≡ numbers_at xs 6 (get_or fs 10 0) n
       → l ≡ cells_at xs (get_or fs 9 0) z.contrasts z.coefficients → x ≡ get_or xs (get_or fs 7 0) nan
       → phi_a ≡ (adjusted c s).phi_a → ps ≡ (adjusted c s).ps → v ≡ (adjusted c s).w
-      → run_of marks c (response_units z.coefficients N m phi_a ps v x) b bh z.contrasts l ≡ run c s
+      → run_of marks c (response_units (record { p = z.coefficients; matrices = N; phi = m; phi_a = phi_a; w = v }) ps x) b bh z.contrasts l ≡ run c s
   unfolding sizes
   run_is c N m phi_a v l ps b bh x n eN em eb en eh el ex e1 e2 e3 = rw (eN, em, eb, eh, en, el, ex, e1, e2, e3, h.sized) (own-run w s fs xs read c)

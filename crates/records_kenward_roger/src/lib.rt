@@ -22,8 +22,9 @@ use records::{ANSWER_LENGTH, PANEL_LIMIT, RecordKind, Shape, Sizes};
 use records_answer_bytes::put_answer;
 use records_answer_text::{TEXT_ROOM, put_run};
 use records_sheet_parts::{cells_at, six_at};
-use tests::Entry;
+use tests::{Covariances, Entry, Hypothesis, Run};
 use tests_entries::{answer_of, no_entry};
+use tests_run::compute_kenward_roger;
 
 // What is lent at the panel: a place for each of the cells that its limit allows, six squares of 24 rows of 24, and six parts of 24 rows of 6. All of it is cleared in each call.
 pub const PANEL_CELLS: usize = 835;
@@ -112,12 +113,10 @@ pub fn tests_of(
     phi_a: [[f64; 6]; 6],
     ps: [[[f64; 6]; 6]; 4],
     w: [[f64; 6]; 6],
-    refused: &mut bool,
-) -> [Entry; 7]
+) -> Run
     requires series_short { SeriesShort limit s.now z firsts.now sheet.now }
     requires phi_a_value { (phi_a ≡ (adjusted c s.now).phi_a) × (ps ≡ (adjusted c s.now).ps) × (w ≡ (adjusted c s.now).w) }
-    ensures value { result ≡ (run c s.now).entries }
-    ensures refused_after { refused.new ≡ (run c s.now).refused }
+    ensures { result ≡ run c s.now }
 {
     let p = z.coefficients;
     let blocks = records_series::blocks_of(s, z.blocks);
@@ -132,21 +131,20 @@ pub fn tests_of(
     let beta = six_at(sheet, estimates, p);
     let beta_h = six_at(sheet, hypotheses, records_kinds::given(z.hypothesis, p));
     let l = cells_at(sheet, contrast, z.contrasts, p);
-    tests_run::compute_kenward_roger(
-        c,
+    let residual = Covariances {
+        p,
+        matrices: n,
         phi,
         phi_a,
-        ps,
         w,
-        n,
-        p,
-        sheet[variance],
+    };
+    let hypothesis = Hypothesis {
         beta,
         beta_h,
+        rows: z.contrasts,
         l,
-        z.contrasts,
-        refused,
-    )
+    };
+    compute_kenward_roger(c, &residual, &ps, sheet[variance], &hypothesis)
 }
 
 // What counts of a run: nothing where a test refuses it.
@@ -198,8 +196,7 @@ fn run_of(
             return [no_entry(); 7];
         }
     };
-    let mut refused = false;
-    let es = tests_of(
+    let run = tests_of(
         limit,
         c,
         s,
@@ -209,11 +206,10 @@ fn run_of(
         adjusted.phi_a,
         ps,
         adjusted.w,
-        &mut refused,
     );
-    *made = counted(refused, adjusted.rotations);
-    *pulled = counted(refused, n);
-    answer_of(refused, es, told)
+    *made = counted(run.refused, adjusted.rotations);
+    *pulled = counted(run.refused, n);
+    answer_of(run.refused, run.entries, told)
 }
 
 // A file's number, its entries, its adjustment's rotations and its specimens, whatever its bytes are, with a limit of specimens. What is lent for the reading and for the adjustment has the room that

@@ -7,9 +7,12 @@ use adjustment::packing::index_symmat2vec;
 use adjustment_response_units::scaled_up;
 use arithmetic_cutoffs::document_cutoffs;
 use arithmetic_steps::given;
+use tests::{Covariances, Hypothesis, TestInputs};
 use tests_ddf::pooled::get_fstat_ddf;
 use tests_ddf::satterthwaite::satterthwaite_contrast_f_test;
 use tests_ddf::variance::variance_df;
+use tests_kr_modcomp::full_rank::scaled_ps;
+use tests_kr_modcomp::modcomp::kr_modcomp_test;
 
 fn print_number(n: Option<f64>) {
     io::write_all(1, b" ");
@@ -57,26 +60,21 @@ fn print_variances() {
 
 // (h): one coefficient, Φ 1, Φ_A 4, P -1, W 2, L -8, β 6.
 fn print_contrast() {
-    let phi = scaled_up(1, [[1.0; 6]; 6], 1.0);
-    let phi_a = scaled_up(1, [[4.0; 6]; 6], 1.0);
-    let ps = tests_kr_modcomp::full_rank::scaled_ps([[[-1.0; 6]; 6]; 4], 1.0, 1, 1);
-    let w = [[2.0; 6]; 6];
-    let none = [0.0; 6];
-    let mut refused = false;
-    let e = tests_kr_modcomp::modcomp::kr_modcomp_test(
-        document_cutoffs(),
-        phi,
-        phi_a,
-        ps,
-        w,
-        1,
-        1,
-        [6.0; 6],
-        none,
-        [[-8.0; 6]; 6],
-        1,
-        &mut refused,
-    );
+    let scaled = Covariances {
+        p: 1,
+        matrices: 1,
+        phi: scaled_up(1, [[1.0; 6]; 6], 1.0),
+        phi_a: scaled_up(1, [[4.0; 6]; 6], 1.0),
+        w: [[2.0; 6]; 6],
+    };
+    let ps = scaled_ps(&[[[-1.0; 6]; 6]; 4], 1.0, 1, 1);
+    let hypothesis = Hypothesis {
+        beta: [6.0; 6],
+        beta_h: [0.0; 6],
+        rows: 1,
+        l: [[-8.0; 6]; 6],
+    };
+    let e = kr_modcomp_test(document_cutoffs(), &scaled, &ps, &hypothesis).entry;
     print_line(b"h", &[e.f, e.df]);
 }
 
@@ -84,27 +82,20 @@ fn print_contrast() {
 fn print_parameters(letter: &[u8], q: usize, a: f64)
     requires { q ≤ 6 }
 {
-    let l = algebra_products::identity(2);
     let mut v = algebra_products::zeros();
     v[0][0] = 4.0;
     v[1][1] = 1.0;
-    let js = [v; 4];
-    let beta = [4.0, 1.0, 0.0, 0.0, 0.0, 0.0];
-    let none = [0.0; 6];
-    let mut refused = false;
-    let e = satterthwaite_contrast_f_test(
-        document_cutoffs(),
-        beta,
-        v,
-        l,
-        js,
-        [[a; 6]; 6],
-        none,
-        2,
+    let inputs = TestInputs {
+        p: 2,
         q,
-        1,
-        &mut refused,
-    );
+        n: 1,
+        l: algebra_products::identity(2),
+        beta: [4.0, 1.0, 0.0, 0.0, 0.0, 0.0],
+        beta_h: [0.0; 6],
+        v,
+        a: [[a; 6]; 6],
+    };
+    let e = satterthwaite_contrast_f_test(document_cutoffs(), &inputs, &[v; 4]).entry;
     print_line(letter, &[e.f, e.df]);
 }
 

@@ -16,9 +16,11 @@ use Rattle.arithmetic_cutoffs.specs.declared.Cutoffs.{Cutoffs}
 use Rattle.std.specs.Prelude.{Option, Some, None}
 use Rattle.tests.specs.declared.Entry.{Entry}
 use Rattle.tests.specs.Answer.{number_of, no_entry}
-use Rattle.tests.specs.Basis.{Basis}
+use Rattle.tests.specs.declared.Basis.{Basis}
 use Rattle.tests.specs.Moments.{f_of}
-use Rattle.tests.specs.KenwardRoger.{Scaled, Tested, tested, coefficient_test, contrast_test, Run, with_test, coefficients_to, run_of}
+use Rattle.tests.specs.declared.Tested.{Tested}
+use Rattle.tests.specs.declared.Run.{Run}
+use Rattle.tests.specs.KenwardRoger.{Scaled, tested, coefficient_test, contrast_test, with_test, coefficients_to, run_of}
 
 -- a number that is given is no NaN
 abbrev pub NoNan : Option Float → Type 0

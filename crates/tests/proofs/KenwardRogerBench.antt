@@ -27,7 +27,8 @@ use Rattle.std.specs.Prelude.{Some}
 use Rattle.tests.specs.Answer.{number_of}
 use Rattle.tests.specs.Basis.{largest, divided_cell, divided, contrast_basis}
 use Rattle.tests.specs.Moments.{weight, a1_of, a2_of, b_of, g_of, d_of, c1_of, c2_of, c3_of, leading_of, v0_of, v1_of, v2_of, div_of, less_a2, rho_of, positive, general_df, rank_one, df_of, scaling_at, scaling_of, f_of}
-use Rattle.tests.specs.KenwardRoger.{unit_row, coefficient_test, contrast_test, scaled_ps, scaled_by, Scaled, scaling_seen, difference, theta_of, u_of, u_stack, u_values, wald_many, Tested, a_rows, x_rows, theta_phi, us, ld_rows, v_rows, y_rows, wald_marked, wald_number, test_seen, a1, a2, tested}
+use Rattle.tests.specs.declared.Tested.{Tested}
+use Rattle.tests.specs.KenwardRoger.{Scaled, unit_row, coefficient_test, contrast_test, scaled_ps, scaled_by, scaling_seen, difference, theta_of, u_of, u_stack, u_values, wald_many, a_rows, x_rows, theta_phi, us, ld_rows, v_rows, y_rows, wald_marked, wald_number, test_seen, a1, a2, tested}
 use Rattle.tests.specs.Both.{square_one, is_positive, stack_seen}
 
 -- ---- what the examples are run on

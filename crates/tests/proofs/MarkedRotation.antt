@@ -18,7 +18,7 @@ use Rattle.tests.specs.Answer.{number_of}
 use Rattle.tests.specs.Order.{comes_before, place_in, index_at}
 use Rattle.tests.specs.VarianceDf.{relative_gradient, gradient_values, relative_variance, df_of_relative, variance_df, gradient_seen}
 use Rattle.tests.specs.PooledDf.{tolerance, all_within, any_low, expected, pooled, get_fstat_ddf}
-use Rattle.tests.specs.Satterthwaite.{column, contrast_of, transformed, transformed_all, gradient_one, eigenvalues, not_positive, variances_of, directions_of, projected, squares_over, jx_all, gradient_at, capped, component_df, component_dfs, any_none, several_df, components_seen, Inputs, ld_rows, v_rows, j_stack, rotated_v, variances, directions, jx_stack, f_one, f_several, df_one, df_several, start_seen, seen_one, seen_several, one_row, several_rows, satterthwaite}
+use Rattle.tests.specs.Satterthwaite.{Inputs, column, contrast_of, transformed, transformed_all, gradient_one, eigenvalues, not_positive, variances_of, directions_of, projected, squares_over, jx_all, gradient_at, capped, component_df, component_dfs, any_none, several_df, components_seen, ld_rows, v_rows, j_stack, rotated_v, variances, directions, jx_stack, f_one, f_several, df_one, df_several, start_seen, seen_one, seen_several, one_row, several_rows, satterthwaite}
 use Rattle.tests.specs.Both.{is_positive, square_one, stack_seen}
 
 -- V = ((2^450, 2^440), (2^440, 2^450)): A_aa × A_bb is 2^900; the rotation itself has z = 0 and t = 1, and all that follows is near 2^450 or 1

@@ -17,12 +17,13 @@ use Rattle.tests.specs.Answer.{number_of, float_of}
 use Rattle.tests.specs.Order.{index_at}
 use Rattle.tests.specs.Both.{is_positive}
 use Rattle.tests.specs.VarianceDf.{relative_gradient, variance_df, gradient_seen}
-use Rattle.tests.specs.Satterthwaite.{column, contrast_of, transformed, transformed_all, gradient_one, eigenvalues, not_positive, variances_of, directions_of, projected, squares_over, jx_all, gradient_at, capped, component_df, component_dfs, several_df, components_seen, Inputs, Outcome, l_rows, ld_rows, v_rows, j_stack, rotated_v, variances, directions, jx_stack, f_one, f_several, df_one, df_several, start_seen, seen_one, seen_several, one_row, several_rows, satterthwaite}
+use Rattle.tests.specs.declared.Tested.{Tested}
+use Rattle.tests.specs.Satterthwaite.{Inputs, column, contrast_of, transformed, transformed_all, gradient_one, eigenvalues, not_positive, variances_of, directions_of, projected, squares_over, jx_all, gradient_at, capped, component_df, component_dfs, several_df, components_seen, l_rows, ld_rows, v_rows, j_stack, rotated_v, variances, directions, jx_stack, f_one, f_several, df_one, df_several, start_seen, seen_one, seen_several, one_row, several_rows, satterthwaite}
 use Rattle.tests.proofs.VarianceLaws.{gradient_values-agree}
 use Rattle.tests.proofs.TestsAlike.{EntriesAlike, Stacks, stack-alike, square_one-alike, stack_seen-alike}
 
 -- two tests: both refused or neither, and their entries
-pub record OutcomesAlike (Q : Bool → Bool → Type 0) (t t' : Outcome) : Type 0 where
+pub record OutcomesAlike (Q : Bool → Bool → Type 0) (t t' : Tested) : Type 0 where
   pub refused : t.refused ≡ t'.refused
   pub entry : EntriesAlike Q t.entry t'.entry
 

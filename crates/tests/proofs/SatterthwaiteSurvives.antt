@@ -22,7 +22,8 @@ use Rattle.algebra.specs.Small.{all_marks}
 use Rattle.arithmetic_cutoffs.specs.declared.Cutoffs.{Cutoffs}
 use Rattle.tests.specs.Answer.{number_of}
 use Rattle.tests.specs.VarianceDf.{entry_at}
-use Rattle.tests.specs.Satterthwaite.{gradient_one, projected, several_df, Inputs, Outcome, l_rows, ld_rows, v_rows, j_stack, rotated_v, variances, directions, jx_stack, f_one, f_several, df_one, df_several, start_seen, seen_one, seen_several, one_row, several_rows, satterthwaite}
+use Rattle.tests.specs.declared.Tested.{Tested}
+use Rattle.tests.specs.Satterthwaite.{Inputs, gradient_one, projected, several_df, l_rows, ld_rows, v_rows, j_stack, rotated_v, variances, directions, jx_stack, f_one, f_several, df_one, df_several, start_seen, seen_one, seen_several, one_row, several_rows, satterthwaite}
 use Rattle.algebra_products.proofs.MovingSmall.{given-cells, all_marks-first, all_marks-cells}
 use Rattle.tests.proofs.MovingVariance.{gradient-first, variance_df-agrees}
 use Rattle.tests.proofs.MovingComponents.{MovesStack, contrast_of-moves, transformed-moves, transformed_all-moves, square_one-moves, gradient_one-moves, not_positive-agrees, variances_of-moves, variances_of-bear, directions_of-moves, projected-moves, turned_all-moves, gradient_at-moves, squares_over-moves, stack-first, components-first, component_dfs-agree}
@@ -48,7 +49,7 @@ pub record ConvertedInputs (k : ℤ) (s s' : Inputs) : Type 0 where
   pub a : (i j : ℕ) → i < s.n → j < s.n → at floats s'.a i j ≡ at floats s.a i j
 
 -- the same refusal and the same verdict; the mark may change
-pub record SameOutcome (x x' : Outcome) : Type 0 where
+pub record SameOutcome (x x' : Tested) : Type 0 where
   pub refused : x'.refused ≡ x.refused
   pub f : x'.entry.f ≡ x.entry.f
   pub df : x'.entry.df ≡ x.entry.df

@@ -21,8 +21,11 @@ use Rattle.adjustment.proofs.AlikeScaling.{scaled_up-alike, scaled_down-alike}
 use Rattle.tests.specs.declared.Entry.{Entry}
 use Rattle.tests.specs.Answer.{no_entry}
 use Rattle.tests.specs.Both.{is_positive, square_one, stack_seen}
-use Rattle.tests.specs.Basis.{Basis, largest, divided_cell, divided, contrast_basis}
-use Rattle.tests.specs.KenwardRoger.{Scaled, scaled_ps, scaled_by, scaling_seen, difference, theta_of, u_of, u_stack, u_values, wald_many, Tested, a_rows, x_rows, theta_phi, us, a1, a2, ld_rows, v_rows, y_rows, wald_marked, wald_number, test_seen, tested, unit_row, coefficient_test, contrast_test, Run, with_test, coefficients_to, run_of}
+use Rattle.tests.specs.declared.Basis.{Basis}
+use Rattle.tests.specs.Basis.{largest, divided_cell, divided, contrast_basis}
+use Rattle.tests.specs.declared.Tested.{Tested}
+use Rattle.tests.specs.declared.Run.{Run}
+use Rattle.tests.specs.KenwardRoger.{Scaled, scaled_ps, scaled_by, scaling_seen, difference, theta_of, u_of, u_stack, u_values, wald_many, a_rows, x_rows, theta_phi, us, a1, a2, ld_rows, v_rows, y_rows, wald_marked, wald_number, test_seen, tested, unit_row, coefficient_test, contrast_test, with_test, coefficients_to, run_of}
 
 -- two entries: the same F, df and rank, and marks that Q relates
 pub record EntriesAlike (Q : Bool → Bool → Type 0) (e e' : Entry) : Type 0 where

@@ -12,6 +12,7 @@ use Rattle.algebra.specs.Kind.{Arith, zero_of, floats}
 use Rattle.algebra.specs.Product.{at, sum}
 use Rattle.algebra.specs.Jacobi.{ratio, tangent, cosine, sine, turned_first, turned_second}
 use Rattle.algebra.specs.Small.{Rows, values, all_marks}
+use Rattle.tests.specs.declared.Basis.{Basis}
 use Rattle.tests.specs.Order.{index_at}
 
 -- "its largest magnitude": that of a row of p cells, from +0
@@ -75,13 +76,7 @@ rank_of rows p ns = fold 0 (min rows p) (λ k s. cond (lt (tolerance rows p ns) 
 unfoldable pub basis_rows : ℕ → ℕ → ℕ → Rows → List Float → Rows
 basis_rows rows p rank m ns = table plus_zero 6 6 rank p (λ k j. div binary64 (at floats m (index_at rows ns k) j) (singular rows ns k))
 
--- the basis: its rows, its rank, and a number whose mark counts every division of the contrast's rows
-pub record Basis (A : Type 0) : Type 0 where
-  pub rows : Rows
-  pub rank : ℕ
-  pub seen : A
-
--- "One row: done. Otherwise 30 sweeps over row pairs (x,y)"
+-- a basis: its rows, its rank, and a number whose mark counts every division of the contrast's rows. "One row: done. Otherwise 30 sweeps over row pairs (x,y)"
 unfoldable pub contrast_basis : {A : Type 0} → Arith A → ℕ → ℕ → Rows → Basis A
 contrast_basis {A} N rows p l =
     let d : List (List A) = divided N rows p l in

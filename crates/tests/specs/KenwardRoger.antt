@@ -12,10 +12,12 @@ use Rattle.algebra.specs.Elimination.{solution, refused}
 use Rattle.algebra.specs.Small.{Rows, sandwich, given_cells, values, all_marks}
 use Rattle.arithmetic_cutoffs.specs.declared.Cutoffs.{Cutoffs}
 use Rattle.adjustment.specs.Adjusted.{Adjustment, scaled_up, scaled_down}
-use Rattle.tests.specs.declared.Entry.{Entry}
+use Rattle.tests.specs.declared.Basis.{Basis}
+use Rattle.tests.specs.declared.Tested.{Tested}
+use Rattle.tests.specs.declared.Run.{Run}
 use Rattle.tests.specs.Answer.{number_of, no_entry}
 use Rattle.tests.specs.Both.{is_positive, square_one, stack_seen}
-use Rattle.tests.specs.Basis.{Basis, contrast_basis}
+use Rattle.tests.specs.Basis.{contrast_basis}
 use Rattle.tests.specs.Moments.{a1_of, a2_of, df_of, scaling_of, f_of}
 
 -- ---- what a test starts from: "M: Φ and Φ_A times sigma2, each P divided by it; W unchanged (`kenward_roger_modcomp_data`)"
@@ -63,10 +65,6 @@ module _ {A : Type 0} (N : Arith A) where
   wald_many q ld y = sum N q (λ i. N.times (at N ld i 0) (at N y i 0))
 
 -- ---- one test, from the basis of its contrast: whether a zero pivot refuses it (10), and its entry
-pub record Tested : Type 0 where
-  pub refused : Bool
-  pub entry : Entry
-
 module _ {A : Type 0} (N : Arith A) (c : Cutoffs) (s : Scaled A) (beta beta_h : List Float) (b : Basis A) where
   abbrev pub q : ℕ
   q = b.rank
@@ -139,12 +137,7 @@ coefficient_test N c s beta i = tested N c s beta (replicate 6 plus_zero) (contr
 unfoldable pub contrast_test : {A : Type 0} → Arith A → Cutoffs → Scaled A → List Float → List Float → ℕ → Rows → Tested
 contrast_test N c s beta beta_h rows l = tested N c s beta beta_h (contrast_basis N rows s.p l)
 
--- seven entries, coefficients 0 to 5 and the contrast, and whether a zero pivot in any of their tests refuses the run
-pub record Run : Type 0 where
-  pub refused : Bool
-  pub entries : List Entry
-
--- the run with one test more, in entry i
+-- a run is seven entries, coefficients 0 to 5 and the contrast, and whether a zero pivot in any of their tests refuses it: with one test more, in entry i
 unfoldable pub with_test : ℕ → Tested → Run → Run
 with_test i t r = record { refused = r.refused || t.refused; entries = set r.entries i t.entry }
 

@@ -12,7 +12,7 @@ use Rattle.algebra.specs.Product.{at, sum, cell, product, transpose, minus_cells
 use Rattle.algebra.specs.Jacobi.{State, jacobi}
 use Rattle.algebra.specs.Small.{Rows, sandwich, given_cells, all_marks}
 use Rattle.arithmetic_cutoffs.specs.declared.Cutoffs.{Cutoffs}
-use Rattle.tests.specs.declared.Entry.{Entry}
+use Rattle.tests.specs.declared.Tested.{Tested}
 use Rattle.tests.specs.Answer.{number_of, float_of}
 use Rattle.tests.specs.Order.{index_at}
 use Rattle.tests.specs.VarianceDf.{entry_at, variance_df, gradient_seen}
@@ -105,11 +105,7 @@ pub record Inputs : Type 0 where
   pub js : List Rows
   pub a : Rows
 
--- whether 11 refuses the test, and its entry
-pub record Outcome : Type 0 where
-  pub refused : Bool
-  pub entry : Entry
-
+-- what it gives: whether 11 refuses the test, and its entry
 module _ {A : Type 0} (N : Arith A) (c : Cutoffs) (s : Inputs) where
   abbrev pub l_rows : List (List A)
   l_rows = given_cells N 6 6 s.q s.p s.l
@@ -164,14 +160,14 @@ module _ {A : Type 0} (N : Arith A) (c : Cutoffs) (s : Inputs) where
       components_seen N s.n s.q variances directions jx_stack (N.also rotations f_several)
 
   -- "Rank is q"; one row never gives 11
-  unfoldable pub one_row : Outcome
+  unfoldable pub one_row : Tested
   one_row = record { refused = false; entry = record { f = number_of (N.value f_one); df = df_one; rank = s.q; inside = N.inside seen_one } }
 
-  unfoldable pub several_rows : Outcome
+  unfoldable pub several_rows : Tested
   several_rows = record {
     refused = not_positive s.q (eigenvalues N s.q rotated_v.a);
     entry = record { f = number_of (N.value f_several); df = df_several; rank = s.q; inside = N.inside seen_several };
   }
 
-  unfoldable pub satterthwaite : Outcome
+  unfoldable pub satterthwaite : Tested
   satterthwaite = cond (eqb s.q 1) one_row several_rows

@@ -3,7 +3,7 @@ use Rattle.std.specs.Prelude.{ℕ, ◌<◌, ◌≡◌, List, map, get_or, Option
 use Rattle.arithmetic.specs.Marks.{MarkBears}
 use Rattle.tests.specs.declared.Entry.{Entry}
 use Rattle.tests.specs.Answer.{no_entry}
-use Rattle.tests.specs.KenwardRoger.{Run}
+use Rattle.tests.specs.declared.Run.{Run}
 
 pub record Verdict : Type 0 where
   pub f : Option Float

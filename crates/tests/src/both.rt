@@ -24,9 +24,9 @@ pub fn square_one(ld: Marked, v: Marked) -> Marked
 }
 
 // `seen`, with the marks of n matrices counted.
-pub fn stack_seen(ms: [[[Marked; 6]; 6]; 4], n: usize, q: usize, seen: Marked) -> Marked
+pub fn stack_seen(ms: &[[[Marked; 6]; 6]; 4], n: usize, q: usize, seen: Marked) -> Marked
     requires { (n ≤ 4) × (q ≤ 6) }
-    ensures { result ≡ stack_seen marks n q ms seen }
+    ensures { result ≡ stack_seen marks n q ms.now seen }
 {
     let mut all = seen;
     for i in 0..n {

@@ -9,15 +9,15 @@ use lib.Ieee.{Float, fin, binary64, mul, lt}
 use borrow.Author.Tests.{eq-eqb, ne_eqb}
 use Rattle.arithmetic.specs.declared.Marked.{Marked}
 use Rattle.arithmetic.specs.Numbers.{plus_zero, is_zero, of_count}
-use Rattle.arithmetic.specs.Marks.{marked, given, is_inside, marked_div}
+use Rattle.arithmetic.specs.Marks.{given, marked_div}
 use Rattle.algebra.specs.Fold.{fold}
 use Rattle.algebra.specs.Table.{row}
 use Rattle.algebra.specs.Kind.{floats, marks}
 use Rattle.algebra.specs.Product.{at}
 use Rattle.algebra.specs.Jacobi.{ratio, tangent, cosine, sine, turned_first, turned_second}
 use Rattle.algebra.specs.Small.{Rows, values, all_marks}
-use Rattle.algebra_products.proofs.SmallLaws.{all_marks-value}
-use Rattle.tests.specs.Basis.{Basis, largest, divided_cell, divided, row_dot, turn_rows, turn_pair, sweeps_to, norms, singular, tolerance, rank_of, basis_rows, contrast_basis}
+use Rattle.tests.specs.declared.Basis.{Basis}
+use Rattle.tests.specs.Basis.{largest, divided_cell, divided, row_dot, turn_rows, turn_pair, sweeps_to, norms, singular, tolerance, rank_of, basis_rows, contrast_basis}
 
 -- a cell of a row that is not zero, and of one that is
 module _ (p i j : ℕ) (l : Rows) (scale : Float) (x : Marked) (es : scale ≡ largest p (get_or l i [])) (ex : x ≡ given (at floats l i j)) where
@@ -66,26 +66,14 @@ module _ (rows p : ℕ) (ns : List Float) where
   unfolding rank_of
   rank_is limit n r el en er = rw (el, en) at er
 
-  pub unit-rows-is : (m r : Rows) (count : ℕ) → ns ≡ norms rows p m → (count ≡ rank_of rows p ns) × (count ≤ 6) → r ≡ basis_rows rows p count m ns
-      → (count ≡ rank_of rows p (norms rows p m)) × (count ≤ 6) × (r ≡ basis_rows rows p count m (norms rows p m))
-  unit-rows-is m r count en ec er = (rw en at ec.0, ec.1, rw en at er)
-
--- a mark with the value that it stands by
-marked-is : (x : Float) (m : Marked) → m.value ≡ x → marked x m.inside ≡ m
-marked-is x m e = rw (← e)
-
 -- the basis of one row, and of several
-module _ (rows p : ℕ) (l : Rows) (d : List (List Marked)) (zero all : Marked) (inside : Bool) (m : Rows) (ed : d ≡ divided marks rows p l) (ez : zero ≡ given plus_zero)
-    (ea : all ≡ all_marks marks rows p d zero) (ei : inside ≡ is_inside all) (em : m ≡ values marks 6 6 rows p d) where
-  seen-is : marked plus_zero inside ≡ all_marks marks rows p (divided marks rows p l) (given plus_zero)
-  seen-is = rw (ei, ea, ez, ed) (marked-is plus_zero (all_marks marks rows p (divided marks rows p l) (given plus_zero)) (all_marks-value rows p (divided marks rows p l) (given plus_zero)))
-
-  pub basis-of-one : rows ≡ 1 → ◌≡◌ {A = Basis Marked} (record { rows = m; rank = 1; seen = marked plus_zero inside }) (contrast_basis marks rows p l)
+module _ (rows p : ℕ) (l : Rows) (d : List (List Marked)) (zero seen : Marked) (m : Rows) (ed : d ≡ divided marks rows p l) (ez : zero ≡ given plus_zero)
+    (es : seen ≡ all_marks marks rows p d zero) (em : m ≡ values marks 6 6 rows p d) where
+  pub basis-of-one : rows ≡ 1 → ◌≡◌ {A = Basis Marked} (record { rows = m; rank = 1; seen = seen }) (contrast_basis marks rows p l)
   unfolding contrast_basis
-  basis-of-one h = rw (eq-eqb rows 1 h, seen-is, em, ed)
+  basis-of-one h = rw (eq-eqb rows 1 h, es, em, ez, ed)
 
-  pub basis-of-several : (t r : Rows) (rank : ℕ) → (rows ≡ 1 → ⊥) → t ≡ sweeps_to 30 rows p m → rank ≡ rank_of rows p (norms rows p t)
-      → r ≡ basis_rows rows p rank t (norms rows p t)
-      → ◌≡◌ {A = Basis Marked} (record { rows = r; rank = rank; seen = marked plus_zero inside }) (contrast_basis marks rows p l)
+  pub basis-of-several : (t r : Rows) (ns : List Float) (rank : ℕ) → (rows ≡ 1 → ⊥) → t ≡ sweeps_to 30 rows p m → ns ≡ norms rows p t → rank ≡ rank_of rows p ns
+      → r ≡ basis_rows rows p rank t ns → ◌≡◌ {A = Basis Marked} (record { rows = r; rank = rank; seen = seen }) (contrast_basis marks rows p l)
   unfolding contrast_basis
-  basis-of-several t r rank h et en er = rw (ne_eqb rows 1 h, seen-is, er, en, et, em, ed)
+  basis-of-several t r ns rank h et en ek er = rw (ne_eqb rows 1 h, es, er, ek, en, et, em, ez, ed)

@@ -20,7 +20,8 @@ use Rattle.algebra.specs.Kind.{marks}
 use Rattle.algebra.proofs.FoldLaws.{fold-steps}
 use Rattle.algebra.specs.Small.{Rows, values}
 use Rattle.tests.specs.Order.{index_at}
-use Rattle.tests.specs.Basis.{Basis, divided, sweeps_to, norms, singular, tolerance, rank_of, contrast_basis}
+use Rattle.tests.specs.declared.Basis.{Basis}
+use Rattle.tests.specs.Basis.{divided, sweeps_to, norms, singular, tolerance, rank_of, contrast_basis}
 use Rattle.tests_basis.proofs.RankRounding.{fl, fl-le, Near, fl-near}
 use Rattle.tests_basis.proofs.RankUnits.{unit, unit-pos, Is, lt-units, mul-rounds, rounded}
 use Rattle.tests_basis.proofs.RankBounds.{fl-top, rounds-most, product-most}

@@ -3,7 +3,6 @@ ghost use Rattle.std.specs.Prelude.{◌≡◌, cond, ◌+◌, ◌<◌, ◌≤◌
 ghost use Rattle.std.specs.Float.{binary64};
 ghost use Rattle.std.specs.Float.Ieee.{mul, div, lt};
 ghost use Rattle.arithmetic.specs.Numbers.{plus_zero};
-ghost use Rattle.arithmetic.specs.Marks.{marked};
 ghost use Rattle.algebra.specs.Fold.{fold};
 ghost use Rattle.algebra.specs.Table.{row};
 ghost use Rattle.algebra.specs.Kind.{floats, marks};
@@ -15,8 +14,9 @@ ghost use Rattle.tests.specs.Basis.{largest, divided_cell, divided, pairs_to, sw
 use arithmetic::Marked;
 use arithmetic::plain::{is_zero, magnitude, of_count};
 use arithmetic::root::sqrt;
-use arithmetic_steps::{given, is_inside};
-use tests_falling_order::{counted, index_at};
+use arithmetic_steps::given;
+use tests::Basis;
+use tests_falling_order::index_at;
 
 // 2^-52, the distance from 1 to the next number.
 const EPSILON: f64 = 2.220446049250313e-16;
@@ -25,10 +25,7 @@ const EPSILON: f64 = 2.220446049250313e-16;
 fn larger(s: f64, v: f64) -> f64
     ensures { result ≡ cond (lt s v) v s }
 {
-    if s < v {
-        return v;
-    }
-    s
+    if s < v { v } else { s }
 }
 
 // The largest magnitude of a row of p cells.
@@ -81,28 +78,19 @@ pub fn row_dot(p: usize, x: [f64; 6], y: [f64; 6]) -> f64
     sum
 }
 
-// The first of two rows turned by c and s.
-fn first_turned(p: usize, x: [f64; 6], y: [f64; 6], c: f64, s: f64) -> [f64; 6]
+// Two rows turned by c and s, both from the old two.
+fn turned(p: usize, x: [f64; 6], y: [f64; 6], c: f64, s: f64) -> ([f64; 6], [f64; 6])
     requires { p ≤ 6 }
-    ensures { result ≡ row plus_zero 6 p (λ k. turned_first floats c s (get_or x k floats.void) (get_or y k floats.void)) }
+    ensures first { result.0 ≡ row plus_zero 6 p (λ k. turned_first floats c s (get_or x k floats.void) (get_or y k floats.void)) }
+    ensures second { result.1 ≡ row plus_zero 6 p (λ k. turned_second floats c s (get_or x k floats.void) (get_or y k floats.void)) }
 {
-    let mut out = [0.0; 6];
+    let mut first = [0.0; 6];
+    let mut second = [0.0; 6];
     for k in 0..p {
-        out[k] = algebra_rotation::turned_first(c, s, x[k], y[k]);
+        first[k] = algebra_rotation::turned_first(c, s, x[k], y[k]);
+        second[k] = algebra_rotation::turned_second(c, s, x[k], y[k]);
     }
-    out
-}
-
-// The second of two rows turned by c and s.
-fn second_turned(p: usize, x: [f64; 6], y: [f64; 6], c: f64, s: f64) -> [f64; 6]
-    requires { p ≤ 6 }
-    ensures { result ≡ row plus_zero 6 p (λ k. turned_second floats c s (get_or x k floats.void) (get_or y k floats.void)) }
-{
-    let mut out = [0.0; 6];
-    for k in 0..p {
-        out[k] = algebra_rotation::turned_second(c, s, x[k], y[k]);
-    }
-    out
+    (first, second)
 }
 
 // The tangent of the rotation that makes rows x and y orthogonal, from their dot product g.
@@ -127,8 +115,9 @@ pub fn pairs(rows: usize, p: usize, i: usize, m: [[f64; 6]; 6]) -> [[f64; 6]; 6]
             let t = pair_tangent(p, x, y, g);
             let c = algebra_rotation::cosine(t);
             let s = algebra_rotation::sine(t, c);
-            out[i] = first_turned(p, x, y, c, s);
-            out[j] = second_turned(p, x, y, c, s);
+            let (first, second) = turned(p, x, y, c, s);
+            out[i] = first;
+            out[j] = second;
         }
     }
     out
@@ -182,31 +171,12 @@ pub fn singular(rows: usize, ns: [f64; 6], k: usize) -> f64
     ns[i]
 }
 
-fn larger_size(a: usize, b: usize) -> usize
-    ensures { result ≡ max a b }
-{
-    if a < b {
-        return b;
-    }
-    a
-}
-
-fn smaller_size(a: usize, b: usize) -> usize
-    ensures { result ≡ min a b }
-{
-    if a < b {
-        return a;
-    }
-    b
-}
-
 // A singular value counts where it is above this.
 pub fn tolerance(rows: usize, p: usize, ns: [f64; 6]) -> f64
     requires { (rows ≤ 6) × (p ≤ 6) }
     ensures { result ≡ tolerance rows p ns }
 {
-    let size = larger_size(rows, p);
-    EPSILON * of_count(size) * singular(rows, ns, 0)
+    EPSILON * of_count(rows.max(p)) * singular(rows, ns, 0)
 }
 
 // How many of the first n singular values are above the limit.
@@ -216,7 +186,9 @@ fn above(limit: f64, n: usize, rows: usize, ns: [f64; 6]) -> usize
 {
     let mut count = 0;
     for k in 0..n {
-        count = counted(limit < singular(rows, ns, k), count);
+        if limit < singular(rows, ns, k) {
+            count += 1;
+        }
     }
     count
 }
@@ -227,8 +199,7 @@ pub fn rank_of(rows: usize, p: usize, ns: [f64; 6]) -> usize
     ensures { (result ≡ rank_of rows p ns) × (result ≤ 6) }
 {
     let limit = tolerance(rows, p, ns);
-    let n = smaller_size(rows, p);
-    above(limit, n, rows, ns)
+    above(limit, rows.min(p), rows, ns)
 }
 
 // A row of p cells over its norm.
@@ -272,36 +243,28 @@ pub fn basis_rows(
     out
 }
 
-// The basis of rows m that are turned already; their rank is told by rank.
-fn unit_rows(rows: usize, p: usize, m: [[f64; 6]; 6], rank: &mut usize) -> [[f64; 6]; 6]
+// The basis of the contrast l.
+pub fn contrast_basis(l: [[f64; 6]; 6], rows: usize, p: usize) -> Basis<Marked>
     requires { (rows ≤ 6) × (p ≤ 6) }
-    ensures { (rank.new ≡ rank_of rows p (norms rows p m)) × (rank.new ≤ 6) × (result ≡ basis_rows rows p rank.new m (norms rows p m)) }
-{
-    let ns = norms(rows, p, m);
-    let count = rank_of(rows, p, ns);
-    *rank = count;
-    basis_rows(rows, p, count, m, ns)
-}
-
-// The basis of the contrast l. Its rank is told by rank, and by seen whether every division of a row was inside.
-pub fn contrast_basis(
-    l: [[f64; 6]; 6],
-    rows: usize,
-    p: usize,
-    rank: &mut usize,
-    seen: &mut bool,
-) -> [[f64; 6]; 6]
-    requires { (rows ≤ 6) × (p ≤ 6) }
-    ensures { (record { rows = result; rank = rank.new; seen = marked plus_zero seen.new } ≡ contrast_basis marks rows p l) × (rank.new ≤ 6) }
+    ensures { (result ≡ contrast_basis marks rows p l) × (result.rank ≤ 6) }
 {
     let d = divided(rows, p, l);
-    let all = algebra_products::cells::all_marks(d, rows, p, given(0.0));
-    *seen = is_inside(all);
+    let seen = algebra_products::cells::all_marks(d, rows, p, given(0.0));
     let m = algebra_products::cells::values(d, rows, p);
     if rows == 1 {
-        *rank = 1;
-        return m;
+        return Basis {
+            rows: m,
+            rank: 1,
+            seen,
+        };
     }
     let turned = sweeps(rows, p, m);
-    unit_rows(rows, p, turned, rank)
+    let ns = norms(rows, p, turned);
+    let rank = rank_of(rows, p, ns);
+    let unit_rows = basis_rows(rows, p, rank, turned, ns);
+    Basis {
+        rows: unit_rows,
+        rank,
+        seen,
+    }
 }

@@ -91,7 +91,7 @@ pub fn directions_of(v: [[Marked; 6]; 6], es: [f64; 6], q: usize) -> [[Marked; 6
     out
 }
 
-// typeof.x.LβD for each eigenvector x.
+// x·LβD for each eigenvector x.
 pub fn projected(x: [[Marked; 6]; 6], ld: [[Marked; 6]; 6], q: usize) -> [[Marked; 6]; 6]
     requires { q ≤ 6 }
     ensures { result ≡ projected marks q x ld }
@@ -130,13 +130,13 @@ pub fn squares_over(y: [[Marked; 6]; 6], es: [Marked; 6], q: usize) -> Marked
 
 // Jx for each eigenvector x, of n Jacobians.
 pub fn jx_all(
-    js: [[[Marked; 6]; 6]; 4],
+    js: &[[[Marked; 6]; 6]; 4],
     x: [[Marked; 6]; 6],
     n: usize,
     q: usize,
 ) -> [[[Marked; 6]; 6]; 4]
     requires { (n ≤ 4) × (q ≤ 6) }
-    ensures { result ≡ jx_all marks n q js x }
+    ensures { result ≡ jx_all marks n q js.now x }
 {
     let blank = zeros();
     let mut out = [blank; 4];
@@ -151,28 +151,37 @@ pub fn jx_all(
 // x·(Jx) of component k, for Jacobian i; xt holds the eigenvectors as rows.
 pub fn qform(
     xt: [[Marked; 6]; 6],
-    jx: [[[Marked; 6]; 6]; 4],
+    jx: &[[[Marked; 6]; 6]; 4],
     q: usize,
     i: usize,
     k: usize,
 ) -> Marked
     requires { (q ≤ 6) × (i < 4) × (k < 6) }
-    ensures { result ≡ cell marks q xt (get_or jx i []) k k }
+    ensures { result ≡ cell marks q xt (get_or jx.now i []) k k }
 {
     let m = jx[i];
     cell(xt, m, q, k, k)
 }
 
+// The components of a test of several rows, q of them, of n parameters: their eigenvalues, and the eigenvectors x as columns.
+#[derive(Clone, Copy)]
+pub struct Components {
+    pub n: usize,
+    pub q: usize,
+    pub es: [Marked; 6],
+    pub x: [[Marked; 6]; 6],
+}
+
 // The numbers x·(Jx) of component k.
 pub fn gradient_of(
     xt: [[Marked; 6]; 6],
-    jx: [[[Marked; 6]; 6]; 4],
+    jx: &[[[Marked; 6]; 6]; 4],
     n: usize,
     q: usize,
     k: usize,
 ) -> [Marked; 6]
     requires { (n ≤ 4) × (q ≤ 6) × (k < 6) }
-    ensures { result ≡ row (given plus_zero) 6 n (λ i. cell marks q xt (get_or jx i []) k k) }
+    ensures { result ≡ row (given plus_zero) 6 n (λ i. cell marks q xt (get_or jx.now i []) k k) }
 {
     let mut out = no_marks();
     for i in 0..n {
@@ -182,18 +191,12 @@ pub fn gradient_of(
 }
 
 // The gradient of the eigenvalue in place k.
-pub fn gradient_at(
-    x: [[Marked; 6]; 6],
-    jx: [[[Marked; 6]; 6]; 4],
-    n: usize,
-    q: usize,
-    k: usize,
-) -> [Marked; 6]
-    requires { (n ≤ 4) × (q ≤ 6) × (k < 6) }
-    ensures { result ≡ gradient_at marks n q x jx k }
+pub fn gradient_at(w: &Components, jx: &[[[Marked; 6]; 6]; 4], k: usize) -> [Marked; 6]
+    requires { (w.now.n ≤ 4) × (w.now.q ≤ 6) × (k < 6) }
+    ensures { result ≡ gradient_at marks w.now.n w.now.q w.now.x jx.now k }
 {
-    let turned = transpose(x, q, q);
-    gradient_of(turned, jx, n, q, k)
+    let turned = transpose(w.x, w.q, w.q);
+    gradient_of(turned, jx, w.n, w.q, k)
 }
 
 // The cap of a df that is a number.
@@ -221,18 +224,15 @@ pub fn float_of(x: Option<f64>) -> f64
 pub fn component_df(
     c: Cutoffs,
     a: [[f64; 6]; 6],
-    es: [Marked; 6],
-    x: [[Marked; 6]; 6],
-    jx: [[[Marked; 6]; 6]; 4],
-    n: usize,
-    q: usize,
+    w: &Components,
+    jx: &[[[Marked; 6]; 6]; 4],
     k: usize,
 ) -> Option<f64>
-    requires { (n ≤ 4) × (q ≤ 6) × (k < 6) }
-    ensures { result ≡ component_df marks c n q a es x jx k }
+    requires { (w.now.n ≤ 4) × (w.now.q ≤ 6) × (k < 6) }
+    ensures { result ≡ component_df marks c w.now.n w.now.q a w.now.es w.now.x jx.now k }
 {
-    let gradient = gradient_at(x, jx, n, q, k);
-    let df = variance_df(es[k], gradient, a, n);
+    let gradient = gradient_at(w, jx, k);
+    let df = variance_df(w.es[k], gradient, a, w.n);
     capped(c, df)
 }
 
@@ -240,18 +240,15 @@ pub fn component_df(
 pub fn component_dfs(
     c: Cutoffs,
     a: [[f64; 6]; 6],
-    es: [Marked; 6],
-    x: [[Marked; 6]; 6],
-    jx: [[[Marked; 6]; 6]; 4],
-    n: usize,
-    q: usize,
+    w: &Components,
+    jx: &[[[Marked; 6]; 6]; 4],
 ) -> [f64; 6]
-    requires { (n ≤ 4) × (q ≤ 6) }
-    ensures { result ≡ component_dfs marks c n q a es x jx }
+    requires { (w.now.n ≤ 4) × (w.now.q ≤ 6) }
+    ensures { result ≡ component_dfs marks c w.now.n w.now.q a w.now.es w.now.x jx.now }
 {
     let mut out = [0.0; 6];
-    for k in 0..q {
-        out[k] = float_of(component_df(c, a, es, x, jx, n, q, k));
+    for k in 0..w.q {
+        out[k] = float_of(component_df(c, a, w, jx, k));
     }
     out
 }
@@ -280,37 +277,22 @@ pub fn several_df(nu: [f64; 6], q: usize) -> Option<f64>
 }
 
 // The marks of component k.
-pub fn component_seen(
-    es: [Marked; 6],
-    x: [[Marked; 6]; 6],
-    jx: [[[Marked; 6]; 6]; 4],
-    n: usize,
-    q: usize,
-    k: usize,
-    seen: Marked,
-) -> Marked
-    requires { (n ≤ 4) × (q ≤ 6) × (k < 6) }
-    ensures { result ≡ gradient_seen marks n (entry_at marks es k) (gradient_at marks n q x jx k) seen }
+pub fn component_seen(w: &Components, jx: &[[[Marked; 6]; 6]; 4], k: usize, seen: Marked) -> Marked
+    requires { (w.now.n ≤ 4) × (w.now.q ≤ 6) × (k < 6) }
+    ensures { result ≡ gradient_seen marks w.now.n (entry_at marks w.now.es k) (gradient_at marks w.now.n w.now.q w.now.x jx.now k) seen }
 {
-    let gradient = gradient_at(x, jx, n, q, k);
-    gradient_seen(es[k], gradient, n, seen)
+    let gradient = gradient_at(w, jx, k);
+    gradient_seen(w.es[k], gradient, w.n, seen)
 }
 
 // The marks of all components.
-pub fn components_seen(
-    es: [Marked; 6],
-    x: [[Marked; 6]; 6],
-    jx: [[[Marked; 6]; 6]; 4],
-    n: usize,
-    q: usize,
-    seen: Marked,
-) -> Marked
-    requires { (n ≤ 4) × (q ≤ 6) }
-    ensures { result ≡ components_seen marks n q es x jx seen }
+pub fn components_seen(w: &Components, jx: &[[[Marked; 6]; 6]; 4], seen: Marked) -> Marked
+    requires { (w.now.n ≤ 4) × (w.now.q ≤ 6) }
+    ensures { result ≡ components_seen marks w.now.n w.now.q w.now.es w.now.x jx.now seen }
 {
     let mut all = seen;
-    for k in 0..q {
-        all = component_seen(es, x, jx, n, q, k, all);
+    for k in 0..w.q {
+        all = component_seen(w, jx, k, all);
     }
     all
 }

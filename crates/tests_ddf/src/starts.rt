@@ -60,13 +60,13 @@ pub fn transformed(l: [[Marked; 6]; 6], m: [[f64; 6]; 6], p: usize, q: usize) ->
 // Each of n Jacobians likewise.
 pub fn transform_contrast(
     l: [[Marked; 6]; 6],
-    js: [[[f64; 6]; 6]; 4],
+    js: &[[[f64; 6]; 6]; 4],
     n: usize,
     p: usize,
     q: usize,
 ) -> [[[Marked; 6]; 6]; 4]
     requires { (n ≤ 4) × (p ≤ 6) × (q ≤ 6) }
-    ensures { result ≡ transformed_all marks n p q l js }
+    ensures { result ≡ transformed_all marks n p q l js.now }
 {
     let blank = zeros();
     let mut out = [blank; 4];
@@ -78,18 +78,22 @@ pub fn transform_contrast(
     out
 }
 
+// What a contrast of q rows makes of what is sent: LβD and V = LvLᵀ, beside a J for each of n Jacobians.
+#[derive(Clone, Copy)]
+pub struct Contrasted {
+    pub n: usize,
+    pub q: usize,
+    pub ld: [[Marked; 6]; 6],
+    pub v: [[Marked; 6]; 6],
+}
+
 // The marks of LβD, V and every J.
-pub fn start_seen(
-    ld: [[Marked; 6]; 6],
-    v: [[Marked; 6]; 6],
-    js: [[[Marked; 6]; 6]; 4],
-    n: usize,
-    q: usize,
-) -> Marked
-    requires { (n ≤ 4) × (q ≤ 6) }
-    ensures { result ≡ start_seen_of n q ld v js }
+pub fn start_seen(t: &Contrasted, js: &[[[Marked; 6]; 6]; 4]) -> Marked
+    requires { (t.now.n ≤ 4) × (t.now.q ≤ 6) }
+    ensures { result ≡ start_seen_of t.now.n t.now.q t.now.ld t.now.v js.now }
 {
-    let first = all_marks(ld, q, 1, given(0.0));
-    let second = all_marks(v, q, q, first);
-    stack_seen(js, n, q, second)
+    let q = t.q;
+    let first = all_marks(t.ld, q, 1, given(0.0));
+    let second = all_marks(t.v, q, q, first);
+    stack_seen(js, t.n, q, second)
 }

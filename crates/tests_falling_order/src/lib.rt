@@ -15,17 +15,6 @@ pub fn comes_before(xs: [f64; 6], j: usize, i: usize) -> bool
     larger | (equal & earlier)
 }
 
-// One more where the test holds.
-pub fn counted(holds: bool, count: usize) -> usize
-    requires { count < 6 }
-    ensures { (result ≡ cond holds (count + 1) count) × (result ≤ count + 1) }
-{
-    if holds {
-        return count + 1;
-    }
-    count
-}
-
 // How many of the first n stand before number i.
 pub fn place_in(n: usize, xs: [f64; 6], i: usize) -> usize
     requires { (n ≤ 6) × (i < 6) }
@@ -33,7 +22,9 @@ pub fn place_in(n: usize, xs: [f64; 6], i: usize) -> usize
 {
     let mut place = 0;
     for j in 0..n {
-        place = counted(comes_before(xs, j, i), place);
+        if comes_before(xs, j, i) {
+            place += 1;
+        }
     }
     place
 }
@@ -43,11 +34,7 @@ fn found_at(n: usize, xs: [f64; 6], k: usize, i: usize, found: usize) -> usize
     requires { (n ≤ 6) × (i < 6) × (found < 6) }
     ensures { (result ≡ cond (eqb (place_in n xs i) k) i found) × (result < 6) }
 {
-    let place = place_in(n, xs, i);
-    if place == k {
-        return i;
-    }
-    found
+    if place_in(n, xs, i) == k { i } else { found }
 }
 
 // The index of the number in place k.

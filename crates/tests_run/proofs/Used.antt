@@ -22,7 +22,8 @@ use Rattle.tests.specs.Basis.{contrast_basis}
 use Rattle.tests_basis.proofs.RankStart.{Contrast}
 use Rattle.tests_basis.proofs.Rank.{rank-one, rank-least}
 use Rattle.tests.specs.Answer.{no_entry}
-use Rattle.tests.specs.KenwardRoger.{Scaled, tested, unit_row, coefficient_test, contrast_test, Run, with_test, coefficients_to, run_of}
+use Rattle.tests.specs.declared.Run.{Run}
+use Rattle.tests.specs.KenwardRoger.{Scaled, tested, unit_row, coefficient_test, contrast_test, with_test, coefficients_to, run_of}
 use Rattle.tests.specs.Used.{in_use}
 
 -- every element of a list of equals, one past the end too

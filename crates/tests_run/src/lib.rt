@@ -10,7 +10,7 @@ ghost use Rattle.algebra.specs.Kind.{marks};
 use adjustment_response_units::scaled_up;
 use arithmetic::Marked;
 use arithmetic_cutoffs::Cutoffs;
-use tests::Entry;
+use tests::{Covariances, Hypothesis, Run};
 use tests_entries::no_entry;
 use tests_kr_modcomp::full_rank::scaled_ps;
 use tests_kr_modcomp::modcomp::{coefficient_test, kr_modcomp_test};
@@ -18,87 +18,59 @@ use tests_kr_modcomp::modcomp::{coefficient_test, kr_modcomp_test};
 // The tests of the coefficients, each alone. A zero pivot in any of them refuses the run.
 pub fn coefficients(
     c: Cutoffs,
-    phi: [[Marked; 6]; 6],
-    phi_a: [[Marked; 6]; 6],
-    ps: [[[Marked; 6]; 6]; 4],
-    w: [[f64; 6]; 6],
-    n: usize,
-    p: usize,
+    s: &Covariances<Marked>,
+    ps: &[[[Marked; 6]; 6]; 4],
     beta: [f64; 6],
-    refused: &mut bool,
-) -> [Entry; 7]
-    requires { (n ≤ 4) × (p ≤ 6) }
-    ensures value { result ≡ (coefficients_to marks p c (scaled_of p n phi phi_a ps w) beta).entries }
-    ensures refused_after { refused.new ≡ (coefficients_to marks p c (scaled_of p n phi phi_a ps w) beta).refused }
+) -> Run
+    requires { (s.now.matrices ≤ 4) × (s.now.p ≤ 6) }
+    ensures { result ≡ coefficients_to marks s.now.p c (scaled_of s.now ps.now) beta }
 {
-    let mut es = [no_entry(); 7];
-    let mut any = false;
-    for i in 0..p {
-        let mut this = false;
-        let e = coefficient_test(c, phi, phi_a, ps, w, n, p, beta, i, &mut this);
-        es[i] = e;
-        any = any | this;
+    let mut run = Run {
+        refused: false,
+        entries: [no_entry(); 7],
+    };
+    for i in 0..s.p {
+        let t = coefficient_test(c, s, ps, beta, i);
+        run = run.with_test(i, t);
     }
-    *refused = any;
-    es
+    run
 }
 
 // The run on scaled matrices. A contrast of no rows is none.
 pub fn run_scaled(
     c: Cutoffs,
-    phi: [[Marked; 6]; 6],
-    phi_a: [[Marked; 6]; 6],
-    ps: [[[Marked; 6]; 6]; 4],
-    w: [[f64; 6]; 6],
-    n: usize,
-    p: usize,
-    beta: [f64; 6],
-    beta_h: [f64; 6],
-    l: [[f64; 6]; 6],
-    rows: usize,
-    refused: &mut bool,
-) -> [Entry; 7]
-    requires { (n ≤ 4) × (p ≤ 6) × (rows ≤ 6) }
-    ensures value { result ≡ (run_of marks c (scaled_of p n phi phi_a ps w) beta beta_h rows l).entries }
-    ensures refused_after { refused.new ≡ (run_of marks c (scaled_of p n phi phi_a ps w) beta beta_h rows l).refused }
+    s: &Covariances<Marked>,
+    ps: &[[[Marked; 6]; 6]; 4],
+    h: &Hypothesis,
+) -> Run
+    requires { (s.now.matrices ≤ 4) × (s.now.p ≤ 6) × (h.now.rows ≤ 6) }
+    ensures { result ≡ run_of marks c (scaled_of s.now ps.now) h.now.beta h.now.beta_h h.now.rows h.now.l }
 {
-    let mut any = false;
-    let mut es = coefficients(c, phi, phi_a, ps, w, n, p, beta, &mut any);
-    if rows == 0 {
-        *refused = any;
-        return es;
+    let run = coefficients(c, s, ps, h.beta);
+    if h.rows == 0 {
+        return run;
     }
-    let mut last = false;
-    let e = kr_modcomp_test(c, phi, phi_a, ps, w, n, p, beta, beta_h, l, rows, &mut last);
-    es[6] = e;
-    *refused = any | last;
-    es
+    run.with_test(6, kr_modcomp_test(c, s, ps, h))
 }
 
 // The run, from the adjustment in residual units. The scaling, with which the Rust's kenward_roger_modcomp_data ends, is done once for all the tests.
 pub fn compute_kenward_roger(
     c: Cutoffs,
-    phi: [[f64; 6]; 6],
-    phi_a: [[f64; 6]; 6],
-    ps: [[[f64; 6]; 6]; 4],
-    w: [[f64; 6]; 6],
-    n: usize,
-    p: usize,
+    s: &Covariances<f64>,
+    ps: &[[[f64; 6]; 6]; 4],
     sigma2: f64,
-    beta: [f64; 6],
-    beta_h: [f64; 6],
-    l: [[f64; 6]; 6],
-    rows: usize,
-    refused: &mut bool,
-) -> [Entry; 7]
-    requires { (n ≤ 4) × (p ≤ 6) × (rows ≤ 6) }
-    ensures value { result ≡ (run_of marks c (response_units p n phi phi_a ps w sigma2) beta beta_h rows l).entries }
-    ensures refused_after { refused.new ≡ (run_of marks c (response_units p n phi phi_a ps w sigma2) beta beta_h rows l).refused }
+    h: &Hypothesis,
+) -> Run
+    requires { (s.now.matrices ≤ 4) × (s.now.p ≤ 6) × (h.now.rows ≤ 6) }
+    ensures { result ≡ run_of marks c (response_units s.now ps.now sigma2) h.now.beta h.now.beta_h h.now.rows h.now.l }
 {
-    let unadjusted = scaled_up(p, phi, sigma2);
-    let adjusted = scaled_up(p, phi_a, sigma2);
-    let scaled = scaled_ps(ps, sigma2, n, p);
-    run_scaled(
-        c, unadjusted, adjusted, scaled, w, n, p, beta, beta_h, l, rows, refused,
-    )
+    let p = s.p;
+    let scaled = Covariances {
+        p,
+        matrices: s.matrices,
+        phi: scaled_up(p, s.phi, sigma2),
+        phi_a: scaled_up(p, s.phi_a, sigma2),
+        w: s.w,
+    };
+    run_scaled(c, &scaled, &scaled_ps(ps, sigma2, s.matrices, p), h)
 }

@@ -11,7 +11,8 @@ use Rattle.arithmetic_cutoffs.specs.declared.Cutoffs.{Cutoffs}
 use Rattle.adjustment.specs.Covariance.{Design, matrices}
 use Rattle.adjustment.specs.Adjusted.{Adjustment, matrix_at, adjustment, adjustment_refusal}
 use Rattle.algebra.specs.Small.{Rows}
-use Rattle.tests.specs.KenwardRoger.{Run, scaled_by, run_of}
+use Rattle.tests.specs.declared.Run.{Run}
+use Rattle.tests.specs.KenwardRoger.{scaled_by, run_of}
 use Rattle.tests.specs.Verdict.{RunSurvives}
 
 -- what a converter changes

@@ -28,7 +28,8 @@ use Rattle.adjustment.specs.Adjusted.{stack, q_stack, u_term, u_term_at, u_above
 use Rattle.algebra.specs.Cholesky.{put, less_dot, below_diagonal, cholesky_column, cholesky_to, not_positive, cholesky_refused, lower}
 use Rattle.algebra.specs.Jacobi.{ratio, tangent, cosine, sine, turned_first, turned_second, turn_row, turn_columns, rotated_cell, rotated, squared, bound, rotate_tested, rotate, row_to, sweep_to, sweeps_to, mirrored, jacobi}
 use Rattle.tests.specs.Basis.{largest, divided_cell, divided, contrast_basis}
-use Rattle.tests.specs.KenwardRoger.{Run, unit_row, coefficient_test, scaled_ps, scaled_by, a_rows, v_rows, tested, with_test, coefficients_to, run_of}
+use Rattle.tests.specs.declared.Run.{Run}
+use Rattle.tests.specs.KenwardRoger.{unit_row, coefficient_test, scaled_ps, scaled_by, a_rows, v_rows, tested, with_test, coefficients_to, run_of}
 use Rattle.records.specs.format.Bytes.{word, long, bytes_of}
 use Rattle.records.specs.format.Scan.{any, most, last, total}
 use Rattle.records.specs.format.Kinds.{kind_at, holds, width, index_of, value_holds, kenward_roger_kinds, archive_kinds, limits}

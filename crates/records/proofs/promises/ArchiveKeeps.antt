@@ -10,7 +10,8 @@ use Rattle.arithmetic_cutoffs.specs.declared.Cutoffs.{Cutoffs}
 use Rattle.algebra.specs.Reasons.{first}
 use Rattle.algebra.proofs.ReasonLaws.{first-front}
 use Rattle.adjustment.specs.Adjusted.{adjustment_reasons}
-use Rattle.tests.specs.KenwardRoger.{scaled_by, Run}
+use Rattle.tests.specs.declared.Run.{Run}
+use Rattle.tests.specs.KenwardRoger.{scaled_by}
 use Rattle.records.specs.format.File.{length_reasons, form_reasons}
 use Rattle.records.specs.format.Order.{order_reasons}
 use Rattle.records.specs.readers.Series as series

@@ -14,7 +14,7 @@ use Rattle.algebra.specs.Reasons.{first}
 use Rattle.algebra.proofs.TableLaws.{table-ext}
 use Rattle.adjustment.specs.Blocks.{no_block}
 use Rattle.adjustment.specs.Adjusted.{adjustment_reasons}
-use Rattle.tests.specs.KenwardRoger.{Run}
+use Rattle.tests.specs.declared.Run.{Run}
 use Rattle.records.specs.format.Scan.{any}
 use Rattle.records.specs.format.File.{count, kind_of, row_of, present, length_reasons, form_reasons}
 use Rattle.records.specs.format.Order.{order_reasons}

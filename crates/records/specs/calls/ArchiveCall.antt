@@ -9,7 +9,8 @@ use Rattle.adjustment.specs.Covariance.{matrices}
 use Rattle.adjustment.specs.Adjusted.{scaled_up, adjustment_reasons}
 use Rattle.tests.specs.declared.Entry.{Entry}
 use Rattle.tests.specs.Answer.{no_entry}
-use Rattle.tests.specs.KenwardRoger.{Scaled, scaled_ps, Run, run_of}
+use Rattle.tests.specs.declared.Run.{Run}
+use Rattle.tests.specs.KenwardRoger.{Scaled, scaled_ps, run_of}
 use Rattle.records.specs.format.Layout.{answer_bytes, answer_length}
 use Rattle.records.specs.readers.CutoffTable.{cutoffs_in}
 use Rattle.records.specs.calls.Call.{Call, call_returned, call_written}

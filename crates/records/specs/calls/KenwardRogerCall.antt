@@ -8,7 +8,8 @@ use Rattle.tests.specs.declared.Entry.{Entry}
 use Rattle.tests.specs.Answer.{no_entry}
 use Rattle.records.specs.format.Layout.{answer_bytes, answer_length}
 use Rattle.records.specs.calls.Call.{Call, call_returned, call_written}
-use Rattle.tests.specs.KenwardRoger.{Scaled, scaled_by, Run, run_of}
+use Rattle.tests.specs.declared.Run.{Run}
+use Rattle.tests.specs.KenwardRoger.{Scaled, scaled_by, run_of}
 use Rattle.algebra.specs.Kind.{marks}
 use Rattle.algebra.specs.Reasons.{first}
 use Rattle.records.specs.readers.Series.{reasons, coefficients, contrast_rows, design, phi, sigma2, beta, beta_h, contrast}

@@ -7,12 +7,13 @@ use Rattle.records.specs.format.Layout.{entry_bytes, entry_length}
 use Rattle.records.specs.calls.Call.{Call, call_returned, call_written}
 use Rattle.algebra.specs.Kind.{marks}
 use Rattle.algebra.specs.Reasons.{first}
-use Rattle.tests.specs.Satterthwaite.{Outcome, satterthwaite as test}
+use Rattle.tests.specs.declared.Tested.{Tested}
+use Rattle.tests.specs.Satterthwaite.{satterthwaite as test}
 use Rattle.records.specs.readers.Parameters.{reasons, inputs}
 
 -- ---- a file's answer, with the cutoffs c
 module _ (c : Cutoffs) (s : List ℕ) where
-  unfoldable pub outcome : Outcome
+  unfoldable pub outcome : Tested
   outcome = test marks c (inputs s)
 
   -- 11, "several-row V has an eigenvalue not finite or ≤ 0"

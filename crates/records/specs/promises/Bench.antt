@@ -12,10 +12,11 @@ use Rattle.adjustment.specs.Information.{packed}
 use Rattle.adjustment.specs.Covariance.{Design}
 use Rattle.adjustment.specs.Adjusted.{adjustment, adjustment_refusal}
 use Rattle.tests.specs.Basis.{contrast_basis}
-use Rattle.tests.specs.KenwardRoger.{Scaled, Tested, tested}
+use Rattle.tests.specs.declared.Tested.{Tested}
+use Rattle.tests.specs.KenwardRoger.{Scaled, tested}
 use Rattle.tests.specs.VarianceDf.{variance_df}
 use Rattle.tests.specs.PooledDf.{tolerance, get_fstat_ddf}
-use Rattle.tests.specs.Satterthwaite.{Inputs, Outcome, satterthwaite}
+use Rattle.tests.specs.Satterthwaite.{Inputs, satterthwaite}
 use Rattle.records.specs.format.Written.{record_of}
 use Rattle.records.specs.calls.KenwardRogerCall.{number, entries}
 use Rattle.records.specs.text.Text.{codes, text_of}
@@ -67,7 +68,7 @@ abbrev pub inputs_i : ℕ → Float → Inputs
 inputs_i q a = record { p = 2; q = q; n = 1; l = unit; beta = four ∷ one ∷ []; beta_h = plus_zero ∷ plus_zero ∷ []; v = four_one; js = four_one ∷ []; a = (a ∷ []) ∷ [] }
 
 -- F, df and the rank, accepted and inside
-abbrev pub outcome_i : Float → Float → ℕ → Outcome
+abbrev pub outcome_i : Float → Float → ℕ → Tested
 outcome_i f df rank = record { refused = false; entry = record { f = Some f; df = Some df; rank = rank; inside = true } }
 
 -- `pulltest`'s example as a file, with the bits of sigma2, β and the contrast: "X 1,1, Φ 0.5 .."

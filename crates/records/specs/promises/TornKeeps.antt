@@ -5,7 +5,8 @@ use Rattle.algebra.specs.Kind.{marks}
 use Rattle.algebra.specs.Reasons.{first}
 use Rattle.adjustment.specs.Covariance.{Design, matrices}
 use Rattle.adjustment.specs.Adjusted.{adjustment, adjustment_reasons}
-use Rattle.tests.specs.KenwardRoger.{Run, scaled_by, run_of}
+use Rattle.tests.specs.declared.Run.{Run}
+use Rattle.tests.specs.KenwardRoger.{scaled_by, run_of}
 use Rattle.records.specs.format.Scan.{any}
 use Rattle.records.specs.format.File.{count, kind_of, row_of, column_of}
 use Rattle.records.specs.format.KindNumbers.{kind_x, kind_z, kind_weight}

@@ -2,6 +2,7 @@
 use Prim.Native.Nat.{ℕ}
 use mathlib.Core.Path.{◌≡◌, refl, sym, ap, ◌∙◌}
 use lib.Ieee.{of_bits}
+use Rattle.tests.specs.declared.Run.{Run}
 use Rattle.records.specs.readers.Archive as archive
 use Rattle.records.specs.readers.SecondFile as second
 use Rattle.records.proofs.format.RefusalNumbers.{no-zero}
@@ -30,8 +31,8 @@ returns-in-Err-second c =
     let both = second-refuses a.c a.s.now a.t.now (sym c.in_default.ensures.value) _ _ _ (archive-p a.s.now _ c.archive_sizes-z.ensures) c.in-Err-second.ensures.value (no-zero _) c.no_entry-in-Err-second.ensures in
     record { value = both.0; told_after = c.from-in-Err-second.ensures ∙ both.1 }
 
-pub tests_from-es-requires : goal.tests_from-es-requires
-tests_from-es-requires c =
+pub tests_from-run-requires : goal.tests_from-run-requires
+tests_from-run-requires c =
     let archive-accepted : archive.refusal c.args.s.now ≡ 0 = sym c.in_default.ensures.value in
     let second-accepted : second.refusal (archive.coefficients c.args.s.now) c.args.t.now ≡ 0 = let a = c.args in
     ap (λ (p : ℕ). second.refusal p a.t.now) (sym (archive-p a.s.now _ c.archive_sizes-z.ensures)) ∙ sym c.in_default-second.ensures.value in
@@ -44,6 +45,6 @@ returns c =
     let second-accepted : second.refusal (archive.coefficients c.args.s.now) c.args.t.now ≡ 0 = let a = c.args in
     ap (λ (p : ℕ). second.refusal p a.t.now) (sym (archive-p a.s.now _ c.archive_sizes-z.ensures)) ∙ sym c.in_default-second.ensures.value in
     let a = c.args in
-    let e = c.tests_from-es.ensures in
-    let both = tests-answer a.c a.s.now a.t.now archive-accepted second-accepted _ _ _ _ e.refused_after e.value c.answer_of.ensures.value c.answer_of.ensures.told_after in
+    let e = c.tests_from-run.ensures in
+    let both = tests-answer a.c a.s.now a.t.now archive-accepted second-accepted _ _ _ _ (ap (λ (r : Run). r.refused) e) (ap (λ (r : Run). r.entries) e) c.answer_of.ensures.value c.answer_of.ensures.told_after in
     record { value = both.0; told_after = both.1 }

@@ -1,8 +1,7 @@
 -- `records_archive_test::tests_from` meets its contract.
 use Prim.Native.Nat.{ℕ}
 use native.Mathlib.Omega.{arith}
-use mathlib.Core.Path.{refl, sym, ap, ◌∙◌, subst}
-use Rattle.tests.specs.KenwardRoger.{Run}
+use mathlib.Core.Path.{refl, sym, ◌∙◌, subst}
 use Rattle.records_archive_test.specs.joints.Read.{SecondOnSheet}
 use Rattle.records_archive_reader.proofs.ReaderLaws.{archive-sizes-taken}
 use Rattle.records_archive_test.proofs.TestLaws.{archive-p, inverse-fits, square-fits, adjusted-fits, squares-fit, sigma2-stands, archive-run-is}
@@ -68,4 +67,4 @@ returns c =
     let a = c.args in
     let g = c.requires in
     let e = archive-run-is a.s.now a.sheet.now g.0 _ c.archive_sizes-z.ensures _ c.first_slots-firsts.ensures a.c a.t.now _ _ _ _ _ c.cells_at-w.ensures c.cells_at-phi.ensures c.cells_at-phi_a.ensures c.stack_at-ps.ensures refl in
-    record { value = c.tests_with.ensures.value ∙ ap (λ (r : Run). r.entries) e; refused_after = c.tests_with.ensures.refused_after ∙ ap (λ (r : Run). r.refused) e }
+    c.tests_with.ensures ∙ e

@@ -3,7 +3,8 @@ use native.Mathlib.Omega.{arith}
 use mathlib.Core.Path.{◌≡◌, refl, sym, ap, ◌∙◌}
 use lib.ListN.{length}
 use lib.Ieee.{of_bits}
-use Rattle.tests.specs.Satterthwaite.{Outcome, satterthwaite as test}
+use Rattle.tests.specs.declared.Tested.{Tested}
+use Rattle.tests.specs.Satterthwaite.{satterthwaite as test}
 use Rattle.records.specs.format.Kinds.{kinds_of}
 use Rattle.records.specs.format.File.{count}
 use Rattle.records.specs.readers.Parameters.{kinds, refusal}
@@ -40,8 +41,8 @@ first_slots-firsts-requires c =
     let sizes-at-hand : FormedSizes Test 1 c.args.s.now c.parameter_sizes-z.result = accepted-sizes _ _ accepted c.parameter_sizes-z.ensures in
     sizes-at-hand.small
 
-pub test-e-requires : goal.test-e-requires
-test-e-requires c =
+pub test-tested-requires : goal.test-tested-requires
+test-tested-requires c =
     let accepted : refusal c.args.s.now ≡ 0 = sym c.in_ok-refusal.ensures.value in
     let sizes-at-hand : FormedSizes Test 1 c.args.s.now c.parameter_sizes-z.result = accepted-sizes _ _ accepted c.parameter_sizes-z.ensures in
     let sheet-at-hand : c.refusal.new.sheet ≡ sheet_after 256 (kinds c.args.s.now) c.args.s.now (count c.args.s.now) = c.in_ok-refusal.ensures.sheet_after in
@@ -51,8 +52,8 @@ test-e-requires c =
     let e = ap length sheet-at-hand ∙ length-sheet 256 (kinds c.args.s.now) c.args.s.now (count c.args.s.now) in
     record { coefficients_bound = (t.coefficients, t.contrasts, t.parameters); firsts_value = (c.first_slots-firsts.ensures, omega arith) }
 
-pub returns-then-refused : goal.returns-then-refused
-returns-then-refused c =
+pub returns-then-tested : goal.returns-then-tested
+returns-then-tested c =
     let accepted : refusal c.args.s.now ≡ 0 = sym c.in_ok-refusal.ensures.value in
     let sheet-at-hand : c.refusal.new.sheet ≡ sheet_after 256 (kinds c.args.s.now) c.args.s.now (count c.args.s.now) = c.in_ok-refusal.ensures.sheet_after in
     let outcome-at-hand : test marks c.args.c (inputs_from c.refusal.new.sheet c.parameter_sizes-z.result) ≡ fileOutcome c.args.c c.args.s.now = let s = c.args.s.now in
@@ -61,7 +62,7 @@ returns-then-refused c =
     let h = slot-count 1 Test in
     outcome-is s t.within 256 (omega arith) c.args.c _ _ c.parameter_sizes-z.ensures sheet-at-hand in
     let o = outcome-at-hand in
-    let both = judged-late _ _ no_entry accepted (sym (ap (λ (y : Outcome). y.refused) o) ∙ sym c.test-e.ensures.refused_after ∙ c.if-refused.true) refl in
+    let both = judged-late _ _ no_entry accepted (sym (ap (λ (y : Tested). y.refused) o) ∙ sym (ap (λ (y : Tested). y.refused) c.test-tested.ensures) ∙ c.if-tested.true) refl in
     record { value = both.1; answered = both.0 }
 
 pub returns : goal.returns
@@ -74,5 +75,5 @@ returns c =
     let h = slot-count 1 Test in
     outcome-is s t.within 256 (omega arith) c.args.c _ _ c.parameter_sizes-z.ensures sheet-at-hand in
     let o = outcome-at-hand in
-    let both = judged-taken _ _ _ accepted (sym (ap (λ (y : Outcome). y.refused) o) ∙ sym c.test-e.ensures.refused_after ∙ c.if-refused.false) (c.test-e.ensures.value ∙ ap (λ (y : Outcome). y.entry) o) in
+    let both = judged-taken _ _ _ accepted (sym (ap (λ (y : Tested). y.refused) o) ∙ sym (ap (λ (y : Tested). y.refused) c.test-tested.ensures) ∙ c.if-tested.false) (ap (λ (y : Tested). y.entry) c.test-tested.ensures ∙ ap (λ (y : Tested). y.entry) o) in
     record { value = both.1; answered = both.0 }

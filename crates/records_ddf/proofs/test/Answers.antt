@@ -39,6 +39,5 @@ pub returns : goal.returns
 returns c =
     let a = c.args in
     let p = c.requires in
-    let both = test-is a.z a.c a.sheet.now a.firsts.now p.firsts_value.0 _ _ _ _ _ _ _ _ _ c.given.ensures c.cells_at-l.ensures c.six_at-beta.ensures c.six_at-beta_h.ensures
-    c.cells_at-v.ensures c.stack_at-js.ensures c.cells_at-a.ensures c.satterthwaite_contrast_f_test.ensures.value c.satterthwaite_contrast_f_test.ensures.refused_after in
-    record { value = both.0; refused_after = both.1 }
+    test-is a.z a.c a.sheet.now a.firsts.now p.firsts_value.0 _ _ _ _ _ _ _ _ c.given.ensures c.cells_at-l.ensures c.six_at-beta.ensures c.six_at-beta_h.ensures
+    c.cells_at-v.ensures c.stack_at-js.ensures c.cells_at-a.ensures c.satterthwaite_contrast_f_test.ensures

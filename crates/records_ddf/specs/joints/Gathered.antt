@@ -7,16 +7,19 @@ use Rattle.records.specs.format.KindNumbers.{kind_beta, kind_contrast, kind_beta
 use Rattle.records.specs.format.Cells.{first_slot}
 use Rattle.records_sheet_parts.specs.joints.Parts.{numbers_at, cells_at, stack_at}
 use Rattle.tests.specs.Satterthwaite.{Inputs}
-use Rattle.tests_ddf.specs.joints.Parts.{inputs_of}
 
 -- β is kind 8, the contrast 9, β_H 10, v 30, the Jacobians 31 and A 32
 unfoldable pub inputs_from : List Float → Sizes → Inputs
 inputs_from sheet z =
     let t : Table = satterthwaite_kinds z in
-    inputs_of z.coefficients z.contrasts z.parameters
-    (cells_at sheet (first_slot t kind_contrast) z.contrasts z.coefficients)
-    (numbers_at sheet 6 (first_slot t kind_beta) z.coefficients)
-    (numbers_at sheet 6 (first_slot t kind_beta_h) (cond z.hypothesis z.coefficients 0))
-    (cells_at sheet (first_slot t kind_v) z.coefficients z.coefficients)
-    (stack_at sheet (first_slot t kind_jacobian) z.parameters z.coefficients)
-    (cells_at sheet (first_slot t kind_a) z.parameters z.parameters)
+    record {
+      p = z.coefficients;
+      q = z.contrasts;
+      n = z.parameters;
+      l = cells_at sheet (first_slot t kind_contrast) z.contrasts z.coefficients;
+      beta = numbers_at sheet 6 (first_slot t kind_beta) z.coefficients;
+      beta_h = numbers_at sheet 6 (first_slot t kind_beta_h) (cond z.hypothesis z.coefficients 0);
+      v = cells_at sheet (first_slot t kind_v) z.coefficients z.coefficients;
+      js = stack_at sheet (first_slot t kind_jacobian) z.parameters z.coefficients;
+      a = cells_at sheet (first_slot t kind_a) z.parameters z.parameters;
+    }

@@ -2,6 +2,7 @@
 use mathlib.Core.Path.{◌≡◌, refl, sym, ap, ◌∙◌, subst}
 use lib.ListN.{length}
 use Rattle.adjustment.specs.declared.AdjustedPhi.{AdjustedPhi}
+use Rattle.tests.specs.declared.Run.{Run}
 use Rattle.records.specs.readers.Series.{design}
 use Rattle.records_sheet.specs.joints.Sheet.{Small}
 use Rattle.records_torn.proofs.ShortSheet.{length-short}
@@ -40,8 +41,8 @@ returns-in-Err c =
     let e = late-number a.limit a.c a.s.now c.requires.0.taken _ (n ∙ c.in-Err.ensures.number) h in
     judged-refused a.limit a.c a.s.now _ e h _ c.no_entry.ensures
 
-pub tests_of-es-requires : goal.tests_of-es-requires
-tests_of-es-requires c =
+pub tests_of-run-requires : goal.tests_of-run-requires
+tests_of-run-requires c =
     let as_read : let a = c.args in SeriesRead a.limit a.s.now c.series_sizes-z.result c.first_slots-firsts.result a.sheet.now = let a = c.args in
     at-hand a.limit a.s.now _ _ a.sheet.now c.requires.0 c.series_sizes-z.ensures c.first_slots-firsts.ensures in
     let as_short : let a = c.args in SeriesShort a.limit a.s.now c.series_sizes-z.result c.first_slots-firsts.result c.shorten-n.new.sheet = series-short _ _ _ _ _ as_read _ c.shorten-n.ensures.sheet_after in
@@ -56,12 +57,13 @@ returns c =
     let as_read : let a = c.args in SeriesRead a.limit a.s.now c.series_sizes-z.result c.first_slots-firsts.result a.sheet.now = let a = c.args in
     at-hand a.limit a.s.now _ _ a.sheet.now c.requires.0 c.series_sizes-z.ensures c.first_slots-firsts.ensures in
     let left-run : c.shorten-n.result ≡ (design c.args.s.now).n = kept_run _ _ _ _ _ as_read _ c.shorten-n.ensures.value.0 in
-    let t = c.tests_of-es.ensures in
+    let t = c.tests_of-run.ensures in
+    let refused = ap (λ (r : Run). r.refused) t in
     let a = c.args in
     let d = c.in-Ok.ensures in
     let z = sym d.number in
     let g = c.requires.0.taken in
-    let v = run-answer a.limit a.c a.s.now g z _ _ _ _ t.refused_after t.value c.answer_of.ensures.value c.answer_of.ensures.told_after in
-    let m = run-rotations a.limit a.c a.s.now g z _ _ _ t.refused_after (ap (λ (t : AdjustedPhi). t.rotations) d.value) c.counted.ensures in
-    let n = run-specimens a.limit a.c a.s.now g z _ _ _ t.refused_after left-run c.counted-2.ensures in
+    let v = run-answer a.limit a.c a.s.now g z _ _ _ _ refused (ap (λ (r : Run). r.entries) t) c.answer_of.ensures.value c.answer_of.ensures.told_after in
+    let m = run-rotations a.limit a.c a.s.now g z _ _ _ refused (ap (λ (t : AdjustedPhi). t.rotations) d.value) c.counted.ensures in
+    let n = run-specimens a.limit a.c a.s.now g z _ _ _ refused left-run c.counted-2.ensures in
     record { listed = v.0; told = v.1; made = m; pulled = n }

@@ -1,8 +1,7 @@
 -- `records_kenward_roger::tests_of` meets its contract.
 use Prim.Native.Nat.{◌+◌, ◌≤◌}
 use native.Mathlib.Omega.{arith}
-use mathlib.Core.Path.{refl, ap, ◌∙◌}
-use Rattle.tests.specs.KenwardRoger.{Run}
+use mathlib.Core.Path.{refl, ◌∙◌}
 use Rattle.records_refusals.specs.joints.Room.{SeriesShort}
 use Rattle.records_kenward_roger.proofs.Calls.{few-blocks, few-coefficients, few-contrasts, few-hypotheses, lent-sound, matrices-are, matrices-few, run_is}
 use Rattle.records_kenward_roger.proofs.Calls.{start-within, sigma2-place, phi-ends, beta-ends, contrast-ends, hypothesis-ends}
@@ -77,5 +76,4 @@ returns c =
     let m = matrices-are _ _ _ _ _ h _ c.blocks_of-blocks.ensures.0 _ c.places_before-n.ensures in
     let e = run_is _ _ _ _ _ h c.args.c _ _ _ _ _ _ _ _ _ _ m c.cells_at-phi.ensures c.six_at-beta.ensures c.given.ensures c.six_at-beta_h.ensures c.cells_at-l.ensures refl
     c.requires.phi_a_value.0 c.requires.phi_a_value.1 c.requires.phi_a_value.2 in
-    let r = c.compute_kenward_roger.ensures in
-    record { value = r.value ∙ ap (λ (r : Run). r.entries) e; refused_after = r.refused_after ∙ ap (λ (r : Run). r.refused) e }
+    c.compute_kenward_roger.ensures ∙ e

@@ -12,12 +12,14 @@ use Rattle.arithmetic_cutoffs.specs.declared.Cutoffs.{Cutoffs}
 use Rattle.tests.specs.declared.Entry.{Entry}
 use Rattle.tests.specs.Answer.{number_of}
 use Rattle.tests.specs.VarianceDf.{variance_df, gradient_seen}
-use Rattle.tests.specs.Satterthwaite.{gradient_one, eigenvalues, not_positive, variances_of, directions_of, projected, squares_over, jx_all, component_dfs, several_df, components_seen, Inputs, Outcome}
+use Rattle.tests.specs.declared.TestInputs.{TestInputs}
+use Rattle.tests.specs.declared.Tested.{Tested}
+use Rattle.tests.specs.Satterthwaite.{Inputs, gradient_one, eigenvalues, not_positive, variances_of, directions_of, projected, squares_over, jx_all, component_dfs, several_df, components_seen}
 use Rattle.tests.specs.Both.{square_one, stack_seen}
 
--- what is sent, from its parts
-abbrev pub inputs_of : ℕ → ℕ → ℕ → Rows → List Float → List Float → Rows → List Rows → Rows → Inputs
-inputs_of p q n l beta beta_h v js a = record { p = p; q = q; n = n; l = l; beta = beta; beta_h = beta_h; v = v; js = js; a = a }
+-- what is sent, from the inputs and the Jacobians
+abbrev pub inputs_of : TestInputs → List Rows → Inputs
+inputs_of s js = record { p = s.p; q = s.q; n = s.n; l = s.l; beta = s.beta; beta_h = s.beta_h; v = s.v; js = js; a = s.a }
 
 -- the marks of LβD, V and every J
 unfoldable pub start_seen_of : ℕ → ℕ → MarkedRows → MarkedRows → List MarkedRows → Marked
@@ -46,8 +48,8 @@ several_entry_of c n q a ld js d v seen =
     components_entry_of c n q a ld (variances_of marks q (eigenvalues marks q d) d) x (jx_all marks n q js x) seen
 
 -- several rows, from LβD, V and every J
-unfoldable pub several_outcome_of : Cutoffs → ℕ → ℕ → Rows → MarkedRows → MarkedRows → List MarkedRows → Outcome
-several_outcome_of c n q a ld v js =
+unfoldable pub several_tested_of : Cutoffs → ℕ → ℕ → Rows → MarkedRows → MarkedRows → List MarkedRows → Tested
+several_tested_of c n q a ld v js =
     let t : State Marked = jacobi marks c.rotation 6 6 q v in
     record {
       refused = not_positive q (eigenvalues marks q t.a);

@@ -23,7 +23,7 @@ loop-j-preserved c =
     let step : c.if-not-is_zero.out ≡ turn_pair c.args.p c.args.i c.loop-j.j c.loop-j.out =
     elim c.if-not-is_zero.branch [
       | then-not-is_zero w ↦ w.out-is
-          ∙ pair-turned _ _ _ _ _ g _ _ _ _ (z ∙ w.if-not-is_zero.true) w.pair_tangent-t.ensures w.cosine-c.ensures w.sine-s.ensures (turn-rows-is _ _ _ _ _ _ _ _ w.first_turned.ensures w.second_turned.ensures)
+          ∙ pair-turned _ _ _ _ _ g _ _ _ _ (z ∙ w.if-not-is_zero.true) w.pair_tangent-t.ensures w.cosine-c.ensures w.sine-s.ensures (turn-rows-is _ _ _ _ _ _ _ _ w.turned.ensures.first w.turned.ensures.second)
       | else-not-is_zero w ↦ w.out-is ∙ pair-stays _ _ _ _ _ g (z ∙ w.if-not-is_zero.false)
     ] in
     (omega arith, omega arith, fold_next _ _ _ _ _ _ v.0 v.2 step)

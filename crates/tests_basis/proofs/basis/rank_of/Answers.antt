@@ -4,4 +4,4 @@ use borrow.Author.Rules.{rules}
 use Rattle.tests_basis.proofs.basis.rank_of.Goals as goal
 
 pub returns : goal.returns
-returns c = (rank_is _ _ _ _ _ _ c.tolerance-limit.ensures c.smaller_size-n.ensures c.above.ensures.0, c.above.ensures.1)
+returns c = (rank_is _ _ _ _ _ _ c.tolerance-limit.ensures c.min.ensures c.above.ensures.0, c.above.ensures.1)

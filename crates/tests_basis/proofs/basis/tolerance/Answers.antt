@@ -6,4 +6,4 @@ use Rattle.tests_basis.proofs.basis.tolerance.Goals as goal
 
 pub returns : goal.returns
 unfolding of_bits
-returns c = tolerance-is _ _ _ _ _ _ c.larger_size-size.ensures c.of_count.ensures c.singular.ensures
+returns c = tolerance-is _ _ _ _ _ _ c.max.ensures c.of_count.ensures c.singular.ensures

@@ -12,7 +12,7 @@ use native.Mathlib.Omega.{arith}
 use Rattle.tests_ddf.proofs.components.component_dfs.Given as goal
 
 abbrev pub invariant-loop-k : goal.invariant-loop-k
-invariant-loop-k l = (l.k ≤ l.q) × (l.out ≡ row plus_zero 6 l.k (λ k. float_of (component_df marks l.c l.n l.q l.a l.es l.x l.jx k)))
+invariant-loop-k l = (l.k ≤ l.w.q) × (l.out ≡ row plus_zero 6 l.k (λ k. float_of (component_df marks l.c l.w.n l.w.q l.a l.w.es l.w.x l.jx k)))
 
 abbrev pub decreases-loop-k : goal.decreases-loop-k
-decreases-loop-k l = l.q - l.k
+decreases-loop-k l = l.w.q - l.k

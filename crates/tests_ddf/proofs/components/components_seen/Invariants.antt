@@ -10,7 +10,7 @@ use native.Mathlib.Omega.{arith}
 use Rattle.tests_ddf.proofs.components.components_seen.Given as goal
 
 abbrev pub invariant-loop-k : goal.invariant-loop-k
-invariant-loop-k l = (l.k ≤ l.q) × (l.all ≡ fold 0 l.k (λ k s. gradient_seen marks l.n (entry_at marks l.es k) (gradient_at marks l.n l.q l.x l.jx k) s) l.initial.all)
+invariant-loop-k l = (l.k ≤ l.w.q) × (l.all ≡ fold 0 l.k (λ k s. gradient_seen marks l.w.n (entry_at marks l.w.es k) (gradient_at marks l.w.n l.w.q l.w.x l.jx k) s) l.initial.all)
 
 abbrev pub decreases-loop-k : goal.decreases-loop-k
-decreases-loop-k l = l.q - l.k
+decreases-loop-k l = l.w.q - l.k

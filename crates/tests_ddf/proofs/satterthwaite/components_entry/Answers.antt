@@ -7,4 +7,4 @@ pub returns : goal.returns
 returns c =
     rw c.is_inside.ensures
     (components-entry-is _ _ _ _ _ _ _ _ _ _ _ _ _ _ _ _ c.projected.ensures c.squares_over-f.ensures c.component_dfs.ensures
-    c.several_df-df.ensures c.also.ensures c.components_seen-all.ensures c.number_of-number.ensures)
+    c.several_df-df.ensures c.also.ensures c.components_seen-all.ensures c.number_of.ensures)

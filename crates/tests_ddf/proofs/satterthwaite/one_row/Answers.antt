@@ -5,4 +5,4 @@ use Rattle.tests_ddf.proofs.satterthwaite.one_row.Goals as goal
 
 pub returns : goal.returns
 unfolding one_entry_of
-returns c = rw (c.is_inside.ensures, ← c.square_one-f.ensures, ← c.variance_df-df.ensures, ← c.also.ensures, ← c.gradient_seen-seen.ensures, ← c.number_of-number.ensures)
+returns c = rw (c.is_inside.ensures, ← c.square_one-f.ensures, ← c.variance_df-df.ensures, ← c.also.ensures, ← c.gradient_seen-seen.ensures, ← c.number_of.ensures)

@@ -19,10 +19,10 @@ unfolding u_values stack_seen
 loop-i-preserved c =
     let u = c.u_of-u.ensures in
     let l = c.loop-i in
-    let a = c.args in (
+    let s = c.args.s.now in (
       omega arith,
-      fold_next _ _ _ _ _ _ (omega arith) l.invariant.1 (u-values-step a.n a.p a.tp _ a.phi l.i (omega arith) (omega arith) _ u l.out _ c.values.ensures),
-      fold_next _ _ _ _ _ _ (omega arith) l.invariant.2 (u-seen-step a.n a.p a.tp _ a.phi l.i (omega arith) (omega arith) _ u l.all _ c.all_marks-all.ensures),
+      fold_next _ _ _ _ _ _ (omega arith) l.invariant.1 (u-values-step s.matrices s.p c.args.tp _ s.phi l.i (omega arith) (omega arith) _ u l.out _ c.values.ensures),
+      fold_next _ _ _ _ _ _ (omega arith) l.invariant.2 (u-seen-step s.matrices s.p c.args.tp _ s.phi l.i (omega arith) (omega arith) _ u l.all _ c.all_marks-all.ensures),
     )
 
 pub returns : goal.returns

@@ -10,7 +10,7 @@ use borrow.Author.Rules.{rules}
 use Rattle.tests_kr_modcomp.proofs.full_rank.u_split.Given as goal
 
 abbrev pub invariant-loop-i : goal.invariant-loop-i
-invariant-loop-i l = (l.i ≤ l.n) × (l.out ≡ u_values marks l.i l.p (u_stack marks l.n l.p l.tp l.ps l.phi)) × (l.all ≡ stack_seen marks l.i l.p (u_stack marks l.n l.p l.tp l.ps l.phi) l.initial.all)
+invariant-loop-i l = (l.i ≤ l.s.matrices) × (l.out ≡ u_values marks l.i l.s.p (u_stack marks l.s.matrices l.s.p l.tp l.ps l.s.phi)) × (l.all ≡ stack_seen marks l.i l.s.p (u_stack marks l.s.matrices l.s.p l.tp l.ps l.s.phi) l.initial.all)
 
 abbrev pub decreases-loop-i : goal.decreases-loop-i
-decreases-loop-i l = l.n - l.i
+decreases-loop-i l = l.s.matrices - l.i
