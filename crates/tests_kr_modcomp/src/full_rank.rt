@@ -262,7 +262,10 @@ pub fn theta_entry(
     let mut plain = [[[0.0; 6]; 6]; 4];
     let all = u_split(tp, s, ps, before, &mut plain);
     let entry = wald_entry(c, s, plain, w, q, all);
-    Tested { refused: solved.refused, entry }
+    Tested {
+        refused: solved.refused,
+        entry,
+    }
 }
 
 // A test, for the basis of its contrast. A zero pivot refuses the test, of Wald's elimination where several rows need it.
