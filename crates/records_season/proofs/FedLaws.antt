@@ -212,9 +212,9 @@ pub fed-all : (piece : List ℕ) (i p : ℕ) {A B : SeasonState} {o o' : List �
 fed-all piece i p e f = rw (e, take-length piece) at f
 
 -- ---- some bytes came
-pub start-arrives : (a : Arrival) (kept current : List ℕ) → a ≡ nothing_yet → length kept ≡ kept_length → length current ≡ 16 → SeasonArrives (season_of a kept current (replicate latest_count None))
+pub start-came : (a : Arrival) (kept current : List ℕ) → a ≡ nothing_yet → length kept ≡ kept_length → length current ≡ 16 → SeasonCame [] (season_of a kept current (replicate latest_count None))
 unfolding series_in left_over series_to begins last
-start-arrives a kept current z h l = rw z (record { file = []; came = record { bytes = λ i. omega arith; room = h; unclosed = nothing-came kept current l; window = window-start } })
+start-came a kept current z h l = rw z (record { bytes = λ i. omega arith; room = h; unclosed = nothing-came kept current l; window = window-start })
 
 pub fed-arrives : {t : List ℕ} {m : ℕ} {A B : SeasonState} {o o' : List ℕ} {at at' : ℕ} → Fed t m A o at B o' at' → SeasonArrives A → SeasonArrives B
 fed-arrives {t} p r = record { file = r.file ++ t; came = p.state r.file r.came }

@@ -8,8 +8,9 @@ ghost use Rattle.records.specs.format.Bytes.{byte};
 ghost use Rattle.records.specs.format.Scan.{any};
 ghost use Rattle.records.specs.text.Season.{closes, worse, worst, left_over, left_text};
 ghost use Rattle.records_answer_text.specs.joints.Cursor.{Put};
-ghost use Rattle.records_season.specs.joints.SeasonCame.{season_of, with_latest, worst_text, arrived_f, arrived_text, SeasonCame, SeasonArrives, Fed, closed_room};
+ghost use Rattle.records_season.specs.joints.SeasonCame.{season_of, season_as, with_latest, worst_text, arrived_f, arrived_text, SeasonCame, SeasonArrives, Fed, closed_room};
 
+use records::KEPT_LENGTH;
 use records_answer_text::{put_number, put_refusal, put_run, put_text};
 use records_arrived::judge_arrived;
 use records_pieces::{Arrival, nothing_yet};
@@ -105,76 +106,71 @@ fn close_series(
     put_worst(out, next, w)
 }
 
-// The sixteenth byte of a record. Where the record closes the open series that is done, and nothing has come of the next one.
-fn take_last_byte(
-    a: Arrival,
-    b: u8,
-    kept: &mut [u8],
-    current: &mut [u8],
-    window: &mut [Option<f64>; LATEST_COUNT],
-    out: &mut [u8],
-    at: &mut usize,
-) -> Arrival
-    requires { SeasonArrives (season_of a kept.old current.old window.old) × (a.part ≡ 15) × (at.old + closed_room ≤ length out.old) }
-    ensures { Fed (b ∷ []) closed_room (season_of a kept.old current.old window.old) out.old at.old (season_of result kept.new current.new window.new) out.new at.new }
-{
-    current[15] = b;
-    if closes(&current[..]) {
-        let whole = Arrival {
-            records: a.records,
-            part: 0,
-            least: a.least,
-            fell: a.fell,
-            longer: a.longer,
-        };
-        let next = close_series(whole, &kept[..], window, out, *at);
-        *at = next;
-        return nothing_yet();
-    }
-    records_pieces::take_byte(a, b, kept, current)
+// How far a season has come: of its open series what records_pieces keeps of a file, and the F's of the latest twenty, the oldest first.
+#[derive(Drop)]
+pub struct Season {
+    pub arrival: Arrival,
+    pub kept: [u8; KEPT_LENGTH],
+    pub current: [u8; 16],
+    pub window: [Option<f64>; LATEST_COUNT],
 }
 
-// One more byte.
-fn take_byte(
-    a: Arrival,
-    b: u8,
-    kept: &mut [u8],
-    current: &mut [u8],
-    window: &mut [Option<f64>; LATEST_COUNT],
-    out: &mut [u8],
-    at: &mut usize,
-) -> Arrival
-    requires { SeasonArrives (season_of a kept.old current.old window.old) × (at.old + closed_room * ((a.part + 1) / 16) ≤ length out.old) }
-    ensures { Fed (b ∷ []) (closed_room * ((a.part + 1) / 16)) (season_of a kept.old current.old window.old) out.old at.old (season_of result kept.new current.new window.new) out.new at.new }
-{
-    if a.part == 15 {
-        return take_last_byte(a, b, kept, current, window, out, at);
+impl Season {
+    // Nothing has come.
+    pub fn new() -> Season
+        ensures { SeasonCame [] (season_as result) }
+    {
+        Season {
+            arrival: nothing_yet(),
+            kept: [0; KEPT_LENGTH],
+            current: [0; 16],
+            window: [None; LATEST_COUNT],
+        }
     }
-    records_pieces::take_byte(a, b, kept, current)
-}
 
-// One more piece, of any length: what it adds to the text stands from the front of `out`, and `written` is its length. A series adds `closed_room` bytes at most, the lines of six coefficients, of the contrast and of the worst, and
-// needs a record's sixteenth byte.
-pub fn feed(
-    a: Arrival,
-    piece: &[u8],
-    kept: &mut [u8],
-    current: &mut [u8],
-    window: &mut [Option<f64>; LATEST_COUNT],
-    out: &mut [u8],
-    written: &mut usize,
-) -> Arrival
-    requires { SeasonArrives (season_of a kept.old current.old window.old) × (closed_room * ((a.part + length piece.now) / 16) ≤ length out.old) }
-    ensures fed { Fed piece.now (closed_room * ((a.part + length piece.now) / 16)) (season_of a kept.old current.old window.old) out.old 0 (season_of result kept.new current.new window.new) out.new written.new }
-    ensures written_in_bounds { written.new ≤ length out.old }
-{
-    *written = 0;
-    let mut so_far = a;
-    for i in 0..piece.len() {
-        let next = take_byte(so_far, piece[i], kept, current, window, out, written);
-        so_far = next;
+    // The sixteenth byte of a record. Where the record closes the open series that is done, and nothing has come of the next one.
+    fn take_last_byte(&mut self, b: u8, out: &mut [u8], at: usize) -> usize
+        requires { SeasonArrives (season_as self.old) × (self.old.arrival.part ≡ 15) × (at + closed_room ≤ length out.old) }
+        ensures { Fed (b ∷ []) closed_room (season_as self.old) out.old at (season_as self.new) out.new result }
+    {
+        let a = self.arrival;
+        self.current[15] = b;
+        if closes(&self.current) {
+            let whole = Arrival { part: 0, ..a };
+            let next = close_series(whole, &self.kept, &mut self.window, out, at);
+            self.arrival = nothing_yet();
+            return next;
+        }
+        self.arrival = records_pieces::take_byte(a, b, &mut self.kept, &mut self.current);
+        at
     }
-    so_far
+
+    // One more byte.
+    fn take_byte(&mut self, b: u8, out: &mut [u8], at: usize) -> usize
+        requires { SeasonArrives (season_as self.old) × (at + closed_room * ((self.old.arrival.part + 1) / 16) ≤ length out.old) }
+        ensures { Fed (b ∷ []) (closed_room * ((self.old.arrival.part + 1) / 16)) (season_as self.old) out.old at (season_as self.new) out.new result }
+    {
+        let a = self.arrival;
+        if a.part == 15 {
+            return self.take_last_byte(b, out, at);
+        }
+        self.arrival = records_pieces::take_byte(a, b, &mut self.kept, &mut self.current);
+        at
+    }
+
+    // One more piece, of any length: what it adds to the text stands from the front of `out`, and its length is answered. A series adds `closed_room` bytes at most, the lines of six coefficients, of the contrast and of the worst, and
+    // needs a record's sixteenth byte.
+    pub fn feed(&mut self, piece: &[u8], out: &mut [u8]) -> usize
+        requires { SeasonArrives (season_as self.old) × (closed_room * ((self.old.arrival.part + length piece.now) / 16) ≤ length out.old) }
+        ensures fed { Fed piece.now (closed_room * ((self.old.arrival.part + length piece.now) / 16)) (season_as self.old) out.old 0 (season_as self.new) out.new result }
+        ensures written_in_bounds { result ≤ length out.old }
+    {
+        let mut at = 0;
+        for b in piece {
+            at = self.take_byte(*b, out, at);
+        }
+        at
+    }
 }
 
 // The file has ended: bytes after the last record that closes are refused, whatever they are.

@@ -8,6 +8,7 @@ use Rattle.records.specs.text.Text.{codes, number_text, text_of}
 use Rattle.records.specs.text.Season.{series_in, left_over, contrast_f, worst, added, latest_count}
 use Rattle.records_answer_text.specs.joints.Cursor.{Put}
 use Rattle.records_pieces.specs.declared.Arrival.{Arrival}
+use Rattle.records_season.specs.declared.Season.{Season}
 use Rattle.records_pieces.specs.joints.Arrived.{Arrived, arrived_as, Came}
 use Rattle.records_arrived.specs.joints.ArrivedCall.{arrived_number, arrived_entries, kept_length}
 
@@ -26,6 +27,9 @@ pub record SeasonState : Type 0 where
 
 abbrev pub season_of : Arrival → List ℕ → List ℕ → List (Option Float) → SeasonState
 season_of a kept current window = record { arrived = arrived_as a kept current; window = window }
+
+abbrev pub season_as : Season → SeasonState
+season_as s = season_of s.arrival s.kept s.current s.window
 
 -- the last twenty of the F's of all series, and none in front of them for series that have not been
 unfoldable pub last_twenty : List (Option Float) → List (Option Float)

@@ -1,8 +1,8 @@
--- `records_season::take_byte` meets its contract.
+-- `records_season::Season::take_byte` meets its contract.
 use Prim.Native.Nat.{◌<◌}
 use native.Mathlib.Omega.{arith}
 use Rattle.records_season.proofs.FedLaws.{open-fed, fed-wider}
-use Rattle.records_season.proofs.take_byte.Goals as goal
+use Rattle.records_season.proofs.Season.take_byte.Goals as goal
 
 pub take_last_byte-requires : goal.take_last_byte-requires
 take_last_byte-requires c =
@@ -18,4 +18,4 @@ pub returns : goal.returns
 returns c =
     let a = c.args in
     let small : a.b < 256 = omega (arith, c.ranges.b) in
-    open-fed a.a a.kept.now a.current.now a.window.now a.b small _ _ c.take_byte.ensures (λ q. absurd (c.if-a-eq15.false q)) _ _
+    open-fed a.self.now.arrival a.self.now.kept a.self.now.current a.self.now.window a.b small _ _ c.take_byte-self.ensures (λ q. absurd (c.if-a-eq15.false q)) _ _
