@@ -1,11 +1,11 @@
 // Rows of the Gs: m cells of row i from column lo on, put at d of a slice. The terms of a group come to all its cells before those of the next group, which leaves each cell the
 // order of its sum, and what depends on the row alone is made once for it.
-ghost use Rattle.std.specs.Prelude.{◌≡◌, true, [], ◌+◌, ◌*◌, ◌≤◌, ◌<◌, length, get_or};
+ghost use Rattle.std.specs.Prelude.{◌≡◌, ℕ, true, [], ◌+◌, ◌*◌, ◌≤◌, ◌<◌, length, get_or};
 ghost use Rattle.std.specs.Float.{nan};
 ghost use Rattle.arithmetic.specs.Numbers.{plus_zero};
 ghost use Rattle.algebra.specs.Fold.{fold};
 ghost use Rattle.algebra.specs.Kind.{floats};
-ghost use Rattle.algebra.specs.Product.{at};
+ghost use Rattle.algebra.specs.Product.{at, sum};
 ghost use Rattle.algebra_large.specs.joints.Slab.{put_row};
 ghost use Rattle.adjustment.specs.Blocks.{places_before};
 ghost use Rattle.adjustment.specs.Covariance.{group_cell, block_cell, residual_cell, g_cell};
@@ -15,44 +15,41 @@ ghost use Rattle.adjustment_covariance.specs.joints.Lent.{weighted, weights, z_r
 use crate::cells::{cell_of, directed_cell, group_column};
 use adjustment::{CovarianceDesign, Place};
 
-// Each cell gains the term of a group of one effect: u times column k of Z.
-pub fn gain_one(
-    out: &mut [f64],
-    d: usize,
-    m: usize,
+// The term of a group of K effects at row i: by rising index, each effect's number times its column's cell.
+fn group_term<const K: usize>(
     design: &CovarianceDesign,
-    lo: usize,
-    k: usize,
-    u: f64,
-)
-    requires { (d + m ≤ length out.old) × Held design.now × (lo + m ≤ design.now.specimens) × (k < design.now.columns) }
-    ensures { out.new ≡ put_row d m (λ j. floats.plus (get_or out.old (d + j) nan) (floats.plus plus_zero (floats.times u (at floats (z_rows design.now) (lo + j) k)))) out.old }
+    i: usize,
+    columns: [usize; K],
+    directed: [f64; K],
+) -> f64
+    requires { Held design.now × (i < design.now.specimens) × ((b : ℕ) → b < K → get_or columns b 0 < design.now.columns) }
+    ensures { result ≡ sum floats K (λ b. floats.times (get_or directed.entry b nan) (at floats (z_rows design.now) i (get_or columns.entry b 0))) }
 {
-    for j in 0..m {
-        let x = cell_of(design, lo + j, k);
-        out[d + j] = out[d + j] + (0.0 + u * x);
+    let mut total = 0.0;
+    for b in 0..K {
+        total = total + directed[b] * cell_of(design, i, columns[b]);
     }
+    total
 }
 
-// Each cell gains the term of a group of two effects: u times column k of Z, and v times column l.
-pub fn gain_two(
+// Each cell gains the term of a group of K effects.
+fn gain_effects<const K: usize>(
     out: &mut [f64],
     d: usize,
     m: usize,
     design: &CovarianceDesign,
     lo: usize,
-    k: usize,
-    u: f64,
-    l: usize,
-    v: f64,
+    columns: [usize; K],
+    directed: [f64; K],
 )
-    requires { (d + m ≤ length out.old) × Held design.now × (lo + m ≤ design.now.specimens) × (k < design.now.columns) × (l < design.now.columns) }
-    ensures { out.new ≡ put_row d m (λ j. floats.plus (get_or out.old (d + j) nan) (floats.plus (floats.plus plus_zero (floats.times u (at floats (z_rows design.now) (lo + j) k))) (floats.times v (at floats (z_rows design.now) (lo + j) l)))) out.old }
+    requires { (d + m ≤ length out.old) × Held design.now × (lo + m ≤ design.now.specimens) × ((b : ℕ) → b < K → get_or columns b 0 < design.now.columns) }
+    ensures { out.new ≡ put_row d m (λ j. floats.plus (get_or out.old (d + j) nan) (sum floats K (λ b. floats.times (get_or directed.entry b nan) (at floats (z_rows design.now) (lo + j) (get_or columns.entry b 0))))) out.old }
 {
+    // A copy that no write to the row can reach: its fields are read once, and not for each cell.
+    let own = *design;
+    prove!(lo <= design.specimens);
     for j in 0..m {
-        let x = cell_of(design, lo + j, k);
-        let y = cell_of(design, lo + j, l);
-        out[d + j] = out[d + j] + (0.0 + u * x + v * y);
+        out[d + j] = out[d + j] + group_term(&own, lo + j, columns, directed);
     }
 }
 
@@ -73,12 +70,12 @@ pub fn gain_group(
     let k = group_column(t, design.columns, g, 0);
     let u = directed_cell(design, t, g, i, 0);
     if t.effects == 1 {
-        gain_one(out, d, m, design, lo, k, u);
+        gain_effects(out, d, m, design, lo, [k], [u]);
         return;
     }
     let l = group_column(t, design.columns, g, 1);
     let v = directed_cell(design, t, g, i, 1);
-    gain_two(out, d, m, design, lo, k, u, l, v);
+    gain_effects(out, d, m, design, lo, [k, l], [u, v]);
 }
 
 // Each cell gains the terms of all groups, by rising index.
