@@ -1,6 +1,9 @@
 // Why a call turns a file away, and the number that its caller gets for it.
 ghost use Rattle.std.specs.Prelude.{◌≡◌};
+ghost use Rattle.adjustment.specs.Refusals.{adjustment_refusal_number};
 ghost use Rattle.records.specs.format.RefusalNumbers.{refusal_number, result_number};
+
+use adjustment::AdjustmentRefusal;
 
 // What is wrong, in the order of the numbers 1 to 14 that README.md lists.
 #[derive(Clone, Copy, PartialEq, Eq, Debug)]
@@ -54,6 +57,19 @@ impl From<Refusal> for u32 {
             Refusal::Order => 12,
             Refusal::BlockCount => 13,
             Refusal::CutoffTable => 14,
+        }
+    }
+}
+
+// What refuses an adjustment refuses its file, under the same number.
+impl From<AdjustmentRefusal> for Refusal {
+    ghost from_gives = { λ early refusal. refusal_number refusal ≡ adjustment_refusal_number early };
+
+    fn from(early: AdjustmentRefusal) -> Refusal {
+        match early {
+            AdjustmentRefusal::NotFinite => Refusal::NotFinite,
+            AdjustmentRefusal::NotDefinite => Refusal::NotDefinite,
+            AdjustmentRefusal::ZeroPivot => Refusal::ZeroPivot,
         }
     }
 }
