@@ -1,4 +1,4 @@
-// Document 01's bench examples (a) to (j): a line for each letter, with what the functions give. (k) is run by adjustment_table, the `pulltest` example by pulltest.
+// Document 01's bench examples (a) to (j): a line for each letter, with what the functions give. (k) is run by table_adjustment, the `pulltest` example by pulltest.
 #![tactic(auto)]
 
 ghost use Rattle.std.specs.Prelude.{◌≤◌};
