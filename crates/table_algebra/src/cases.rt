@@ -4,6 +4,8 @@ ghost use Rattle.std.specs.Prelude.{◌≤◌};
 use crate::print::{self, Printed};
 use algebra::Matrix;
 use algebra::scalar::Scalar;
+use algebra_elimination::Solved;
+use algebra_jacobi::JacobiState;
 use algebra_products::MatrixProduct;
 use arithmetic::Marked;
 
@@ -89,21 +91,39 @@ fn marked_products(a: Matrix<Marked>, b: Matrix<Marked>, e: Extents) {
     cellwise(a, b, e);
 }
 
-fn solutions<T: Scalar + Printed>(a: Matrix<T>, b: Matrix<T>, e: Extents) {
-    let x = algebra_elimination::solve(a, b, e.inner, e.columns);
+fn solved<T: Printed>(x: Solved<T>) {
     print::flag(x.refused);
     print::matrix(x.cells);
-    let y = algebra_elimination::inverse(a, e.inner);
-    print::flag(y.refused);
-    print::matrix(y.cells);
 }
 
-fn rotations<T: Scalar + Printed>(m: Matrix<T>, e: Extents) {
-    let turned = algebra_jacobi::jacobi(m, e.inner, LIMIT);
-    print::count(turned.count);
-    turned.seen.print_mark();
-    print::matrix(turned.matrix);
-    print::matrix(turned.vectors);
+// At each kind by itself: for any kind it was tried, and what a `Solved` takes in memory stays open.
+fn solutions(a: Matrix<f64>, b: Matrix<f64>, e: Extents) {
+    solved(algebra_elimination::solve(a, b, e.inner, e.columns));
+    solved(algebra_elimination::inverse(a, e.inner));
+}
+
+fn marked_solutions(a: Matrix<Marked>, b: Matrix<Marked>, e: Extents) {
+    solved(algebra_elimination::solve(a, b, e.inner, e.columns));
+    solved(algebra_elimination::inverse(a, e.inner));
+}
+
+fn turned<T: Printed>(x: JacobiState<T>) {
+    print::matrix(x.matrix);
+    print::matrix(x.vectors);
+}
+
+// At each kind by itself: plain numbers have no mark to print.
+fn rotations(m: Matrix<f64>, e: Extents) {
+    let rotated = algebra_jacobi::jacobi(m, e.inner, LIMIT);
+    print::count(rotated.count);
+    turned(rotated);
+}
+
+fn marked_rotations(m: Matrix<Marked>, e: Extents) {
+    let rotated = algebra_jacobi::jacobi(m, e.inner, LIMIT);
+    print::count(rotated.count);
+    print::flag(!arithmetic_steps::is_inside(rotated.seen));
+    turned(rotated);
 }
 
 // The algorithm's number stands above three sizes, a byte each, in the low half of the first word.
@@ -135,11 +155,11 @@ fn apply(algorithm: Algorithm, a: Matrix<f64>, b: Matrix<f64>, e: Extents) {
         }
         Algorithm::Solutions => {
             solutions(a, b, e);
-            solutions(ma, mb, e);
+            marked_solutions(ma, mb, e);
         }
         Algorithm::Rotations => {
             rotations(a, e);
-            rotations(ma, e);
+            marked_rotations(ma, e);
         }
     }
 }

@@ -5,17 +5,12 @@ use arithmetic::Marked;
 // A plain number is printed in its bits, a marked one with its mark behind them.
 pub trait Printed: Copy {
     fn print(self);
-
-    // Whether its mark is outside, as a line; a plain number has no mark.
-    fn print_mark(self);
 }
 
 impl Printed for f64 {
     fn print(self) {
         table_bits_text::print_word(arithmetic::plain::to_bits(self));
     }
-
-    fn print_mark(self) {}
 }
 
 impl Printed for Marked {
@@ -29,10 +24,6 @@ impl Printed for Marked {
                 b"-"
             },
         );
-    }
-
-    fn print_mark(self) {
-        flag(!arithmetic_steps::is_inside(self));
     }
 }
 

@@ -18,13 +18,13 @@ loop-i-preserved c =
     let h = c.loop-i.invariant in
     elim c.if-is_block.branch [
       | then-is_block w ↦
-        let k = ap (λ (x : Block). x.effects) w.block-is in
-        let m = ap (λ (x : Block). x.groups) w.block-is in
-        (k ∙ rw (last_more, ← e, w.if-is_block.true) w.column_at.ensures.0, omega arith, m ∙ rw (last_more, ← e, w.if-is_block.true) w.count_at.ensures.0, omega arith)
+          let k = ap (λ (x : Block). x.effects) w.block-is in
+          let m = ap (λ (x : Block). x.groups) w.block-is in
+          (k ∙ rw (last_more, ← e, w.if-is_block.true) w.column_at.ensures.0, omega arith, m ∙ rw (last_more, ← e, w.if-is_block.true) w.count_at.ensures.0, omega arith)
       | else-is_block w ↦
-        let k = ap (λ (x : Block). x.effects) w.block-is in
-        let m = ap (λ (x : Block). x.groups) w.block-is in
-        (k ∙ rw (last_more, ← e, w.if-is_block.false) h.0, omega arith, m ∙ rw (last_more, ← e, w.if-is_block.false) h.2, omega arith)
+          let k = ap (λ (x : Block). x.effects) w.block-is in
+          let m = ap (λ (x : Block). x.groups) w.block-is in
+          (k ∙ rw (last_more, ← e, w.if-is_block.false) h.0, omega arith, m ∙ rw (last_more, ← e, w.if-is_block.false) h.2, omega arith)
     ]
 
 pub returns : goal.returns
