@@ -24,17 +24,15 @@ fn next_piece(mut input: Stdin, season: &mut Season, out: &mut [u8]) -> bool
     n == 0
 }
 
-// All of standard input. A proved loop has to end, and nothing says that an input does: so the loop counts its pieces down, from a number that no run uses up.
+// All of standard input. A proved loop has to end, and nothing says that an input does: so the pieces are counted, up to a number that no run reaches.
 fn read_all(input: Stdin, season: &mut Season, out: &mut [u8])
     requires { SeasonArrives (season_as season.old) × (piece_room ≤ length out.old) }
     ensures { SeasonArrives (season_as season.new) }
 {
-    let mut pieces = u64::MAX;
-    while pieces > 0 {
+    for _piece in 0..u64::MAX {
         if next_piece(input, season, out) {
             return;
         }
-        pieces -= 1;
     }
 }
 

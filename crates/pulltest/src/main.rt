@@ -19,21 +19,19 @@ fn next_piece(a: Arrival, kept: &mut [u8], current: &mut [u8], last: &mut bool) 
     records_pieces::feed(a, &piece[..n], kept, current)
 }
 
-// All of standard input. A proved loop has to end, and nothing says that an input does: so the loop counts its pieces down, from a number that no run uses up.
+// All of standard input. A proved loop has to end, and nothing says that an input does: so the pieces are counted, up to a number that no run reaches.
 fn read_all(kept: &mut [u8], current: &mut [u8]) -> Arrival
     requires { length current.old ≡ 16 }
     ensures { Arrives (arrived_as result kept.new current.new) }
 {
     let mut a = records_pieces::nothing_yet();
     let mut last = false;
-    let mut pieces = u64::MAX;
-    while pieces > 0 {
+    for _piece in 0..u64::MAX {
         let next = next_piece(a, kept, current, &mut last);
         if last {
             return next;
         }
         a = next;
-        pieces -= 1;
     }
     a
 }

@@ -2,5 +2,5 @@
 use mathlib.Core.Path.{refl}
 use Rattle.pullseason.proofs.read_all.Goals as goal
 
-pub loop-pieces-init : goal.loop-pieces-init
-loop-pieces-init c = (refl, c.requires.0)
+pub loop-piece-init : goal.loop-piece-init
+loop-piece-init c = (refl, c.requires.0)
