@@ -9,6 +9,7 @@ ghost use Rattle.records.specs.calls.SatterthwaiteCall as parameters;
 ghost use Rattle.records.specs.calls.ArchiveCall as archives;
 
 use records::refusal::result_number;
+use records_archiving::archive_number;
 
 // The Kenward–Roger call, of at most 24 specimens: seven entries in 168 bytes, coefficients 0–5 and the contrast. The answer keeps its contents where the number is not 0.
 #[unsafe(no_mangle)]
@@ -50,7 +51,7 @@ pub extern "C" fn pull_archive_with(table: &[u8], records: &[u8], archive: &mut 
     ensures value { result ≡ archives.archiving_returned 24 table.now records.now archive.old }
     ensures archive_after { archive.new ≡ archives.archiving_written 24 table.now records.now archive.old }
 {
-    records_archiving::archive_with(table, records, archive)
+    archive_number(records_archiving::archive_with(table, records, archive))
 }
 
 #[unsafe(no_mangle)]
@@ -58,7 +59,7 @@ pub extern "C" fn pull_archive(records: &[u8], archive: &mut [u8]) -> u32
     ensures value { result ≡ archives.archiving_returned 24 built_in_table records.now archive.old }
     ensures archive_after { archive.new ≡ archives.archiving_written 24 built_in_table records.now archive.old }
 {
-    records_archiving::archive(records, archive)
+    archive_number(records_archiving::archive(records, archive))
 }
 
 // The tests of a second file's β, contrast and β_H from an archive: seven entries in 168 bytes, as the Kenward–Roger call. The answer keeps its contents where the number is not 0.
@@ -72,7 +73,7 @@ pub extern "C" fn pull_archive_test_with(
     ensures value { result ≡ archives.testing_returned table.now archive.now tests.now answer.old }
     ensures answer_after { answer.new ≡ archives.testing_written table.now archive.now tests.now answer.old }
 {
-    records_archive_test::test_with(table, archive, tests, answer)
+    result_number(records_archive_test::test_with(table, archive, tests, answer))
 }
 
 #[unsafe(no_mangle)]
@@ -80,5 +81,5 @@ pub extern "C" fn pull_archive_test(archive: &[u8], tests: &[u8], answer: &mut [
     ensures value { result ≡ archives.testing_returned built_in_table archive.now tests.now answer.old }
     ensures answer_after { answer.new ≡ archives.testing_written built_in_table archive.now tests.now answer.old }
 {
-    records_archive_test::test(archive, tests, answer)
+    result_number(records_archive_test::test(archive, tests, answer))
 }

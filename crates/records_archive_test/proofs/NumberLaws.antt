@@ -1,18 +1,20 @@
 -- The number of the test from an archive: the archive's reasons before the second file's, and these before the tests'; and its entries.
 use Prim.Native.Nat.{ℕ}
 use mathlib.Core.Path.{◌≡◌, refl, sym, ap, ◌∙◌}
-use mathlib.Core.Bool.{Bool, true, false, cond}
+use mathlib.Core.Bool.{true, false, cond}
 use mathlib.Core.List.{List, ◌++◌}
 use native.Mathlib.Omega.{arith}
 use lib.Dec.{eqb}
 use lib.ListN.{replicate}
 use borrow.Author.Tests.{ne_eqb}
+use Rattle.std.specs.Prelude.{Result, Ok, Err, IsErrAnd}
+use Rattle.std.specs.Result.{result_unwrap_or}
 use Rattle.arithmetic_cutoffs.specs.declared.Cutoffs.{Cutoffs}
 use Rattle.algebra.specs.Reasons.{first}
 use Rattle.algebra.proofs.ReasonLaws.{first-append}
 use Rattle.tests.specs.declared.Entry.{Entry}
 use Rattle.tests.specs.Answer.{no_entry}
-use Rattle.tests.specs.Entries.{run_refusal, run_entries}
+use Rattle.records.specs.declared.refusal.Refusal.{Refusal}
 use Rattle.records.specs.format.File.{length_reasons, form_reasons}
 use Rattle.records.specs.format.Order.{order_reasons}
 use Rattle.records.specs.readers.Archive as archive
@@ -40,28 +42,35 @@ module _ (c : Cutoffs) (s t : List ℕ) where
   unfolding from_archive_entries
   none-in-use k e h = rw (e, ne_eqb k 0 h)
 
-  -- ---- the number and the entries, by who refuses: the archive's reader, with an entry e in each place
-  pub archive-refuses : (k : ℕ) (e : Entry) → k ≡ archive.refusal s → (k ≡ 0 → ⊥) → e ≡ no_entry → (replicate 7 e ≡ from_archive_entries c s t) × (k ≡ from_archive_number c s t)
-  archive-refuses k e q h n =
+  -- ---- the number and the entries, by who refuses: the archive's reader
+  pub archive-refuses : (k : ℕ) → k ≡ archive.refusal s → (k ≡ 0 → ⊥) → (replicate 7 no_entry ≡ from_archive_entries c s t) × (k ≡ from_archive_number c s t)
+  archive-refuses k q h =
       let x : from_archive_number c s t ≡ k = archive-number-is ∙ rw (← q, ne_eqb k 0 h) in
-      (ap (λ (y : Entry). replicate 7 y) n ∙ sym (none-in-use k x h), sym x)
+      (sym (none-in-use k x h), sym x)
 
   module _ (a : archive.refusal s ≡ 0) where
     -- the second file's, for p coefficients
-    pub second-refuses : (k : ℕ) (e : Entry) (p : ℕ) → p ≡ archive.coefficients s → k ≡ second.refusal p t → (k ≡ 0 → ⊥) → e ≡ no_entry → (replicate 7 e ≡ from_archive_entries c s t) × (k ≡ from_archive_number c s t)
-    second-refuses k e p ep q h n =
+    pub second-refuses : (k p : ℕ) → p ≡ archive.coefficients s → k ≡ second.refusal p t → (k ≡ 0 → ⊥) → (replicate 7 no_entry ≡ from_archive_entries c s t) × (k ≡ from_archive_number c s t)
+    second-refuses k p ep q h =
         let f : k ≡ second_number = q ∙ ap (λ (m : ℕ). second.refusal m t) ep in
         let x : from_archive_number c s t ≡ k = archive-number-is ∙ rw (a, ← f, ne_eqb k 0 h) in
-        (ap (λ (y : Entry). replicate 7 y) n ∙ sym (none-in-use k x h), sym x)
+        (sym (none-in-use k x h), sym x)
 
-    -- nobody but a test
     module _ (b : second_number ≡ 0) where
-      tests-number : (r : Bool) → r ≡ (archive_run c s t).refused → from_archive_number c s t ≡ run_refusal r
-      unfolding run_refusal
-      tests-number r e = archive-number-is ∙ rw (a, b, ← e)
+      -- a test
+      pub tests-refuse : (archive_run c s t).refused ≡ true → (replicate 7 no_entry ≡ from_archive_entries c s t) × (10 ≡ from_archive_number c s t)
+      tests-refuse r =
+          let x : from_archive_number c s t ≡ 10 = archive-number-is ∙ rw (a, b, r) in
+          (sym (none-in-use 10 x (omega arith)), sym x)
 
-      pub tests-answer : (r : Bool) (es fs : List Entry) (k : ℕ) → r ≡ (archive_run c s t).refused → es ≡ (archive_run c s t).entries → fs ≡ run_entries r es → k ≡ run_refusal r
-          → (fs ≡ from_archive_entries c s t) × (k ≡ from_archive_number c s t)
-      unfolding run_entries run_refusal from_archive_entries
-      tests-answer true es fs k e f p q = let x = tests-number true e in (p ∙ sym (none-in-use 10 x (omega arith)), q ∙ sym x)
-      tests-answer false es fs k e f p q = let x = tests-number false e in (p ∙ f ∙ rw x, q ∙ sym x)
+      -- nobody
+      pub tests-answer : (es : List Entry) → (archive_run c s t).refused ≡ false → es ≡ (archive_run c s t).entries → (es ≡ from_archive_entries c s t) × (0 ≡ from_archive_number c s t)
+      unfolding from_archive_entries
+      tests-answer es r f =
+          let x : from_archive_number c s t ≡ 0 = archive-number-is ∙ rw (a, b, r) in
+          (f ∙ rw x, sym x)
+
+-- what `?` passes on has no entry in use
+pub passed-over : (r : Result (List Entry) Refusal) (e : Refusal) → IsErrAnd r (λ d. d ≡ e) → result_unwrap_or r (replicate 7 no_entry) ≡ replicate 7 no_entry
+passed-over (Ok x) e h = absurd h
+passed-over (Err d) e h = refl

@@ -14,7 +14,7 @@ use Rattle.algebra.specs.Small.{Rows}
 use Rattle.tests.specs.KenwardRoger.{Scaled, run_of}
 use Rattle.tests_run.specs.joints.Units.{response_units}
 use Rattle.records.specs.declared.Sizes.{Sizes}
-use Rattle.records.specs.format.Kinds.{width, kind_at, kinds_of, kind_numbers, archive_kinds, archive_table, test_kinds, test_table, limits}
+use Rattle.records.specs.format.Kinds.{width, kind_at, kinds_of, kind_numbers, archive_kinds, archive_table, test_kinds, test_table}
 use Rattle.records.specs.format.Cells.{first_slot, slot_count}
 use Rattle.records.specs.format.File.{count, present}
 use Rattle.records.specs.readers.Archive as archive

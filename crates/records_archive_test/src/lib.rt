@@ -1,10 +1,13 @@
-// The test from an archive: the bytes of an archive and of a second file in, a number and seven entries out.
+// The test from an archive: the bytes of an archive and of a second file in, seven entries or a refusal out.
 #![tactic(auto)]
 
-ghost use Rattle.std.specs.Prelude.{◌≡◌, ◌≤◌, cond, eqb, length};
+ghost use Rattle.std.specs.Prelude.{◌≡◌, ◌≤◌, cond, eqb, length, replicate};
+ghost use Rattle.std.specs.Result.{result_unwrap_or};
 ghost use Rattle.records.specs.format.Layout.{answer_bytes, answer_length};
+ghost use Rattle.records.specs.format.RefusalNumbers.{result_number};
 ghost use Rattle.records.specs.readers.CutoffTable.{built_in_table};
 ghost use Rattle.algebra.specs.Kind.{marks};
+ghost use Rattle.tests.specs.Answer.{no_entry};
 ghost use Rattle.tests.specs.KenwardRoger.{run_of};
 ghost use Rattle.tests_run.specs.joints.Units.{response_units};
 ghost use Rattle.records.specs.readers.Archive.{coefficients};
@@ -13,11 +16,11 @@ ghost use Rattle.records.specs.calls.ArchiveCall.{archive_run, from_archive_numb
 ghost use Rattle.records_archive_test.specs.joints.Read.{ArchiveOnSheet, SecondOnSheet};
 
 use arithmetic_cutoffs::{Cutoffs, document_cutoffs};
+use records::refusal::Refusal;
 use records::{ANSWER_LENGTH, RecordKind, Shape};
 use records_answer_bytes::put_answer;
 use records_sheet_parts::{cells_at, six_at, stack_at};
 use tests::{Covariances, Entry, Hypothesis, Run};
-use tests_entries::{answer_of, no_entry};
 use tests_run::compute_kenward_roger;
 
 // The tests of what a second file says, on matrices in residual units. A zero pivot in any of them refuses the run.
@@ -80,65 +83,62 @@ fn tests_from(c: Cutoffs, s: &[u8], sheet: &[f64], t: &[u8], numbers: &[f64]) ->
     tests_with(c, &residual, &ps, sheet[variance], t, numbers)
 }
 
-// The number of the two files, the archive's before the second's, and the entries, none of which is in use where the number is not 0.
-pub fn judge(c: Cutoffs, s: &[u8], t: &[u8], told: &mut u32) -> [Entry; 7]
-    ensures value { result ≡ from_archive_entries c s.now t.now }
-    ensures told_after { told.new ≡ from_archive_number c s.now t.now }
+// The entries of the two files, or what refuses them: the archive before the second, and then a zero pivot in any test.
+pub fn judge(c: Cutoffs, s: &[u8], t: &[u8]) -> Result<[Entry; 7], Refusal>
+    ensures value { result_number result ≡ from_archive_number c s.now t.now }
+    ensures answered { result_unwrap_or result (replicate 7 no_entry) ≡ from_archive_entries c s.now t.now }
 {
     let mut flags = [false; 512];
     let mut sheet = [0.0; 512];
-    if let Err(refusal) = records_archive_reader::refusal(s, &mut flags, &mut sheet) {
-        *told = u32::from(refusal);
-        return [no_entry(); 7];
-    }
+    records_archive_reader::refusal(s, &mut flags, &mut sheet)?;
     let z = records_sizes::archive_sizes(s);
     let mut marks = [false; 64];
     let mut numbers = [0.0; 64];
-    let second = records_second_file::refusal(z.coefficients, t, &mut marks, &mut numbers);
-    if let Err(refusal) = second {
-        *told = u32::from(refusal);
-        return [no_entry(); 7];
-    }
+    records_second_file::refusal(z.coefficients, t, &mut marks, &mut numbers)?;
     let run = tests_from(c, s, &sheet, t, &numbers);
-    answer_of(run.refused, run.entries, told)
+    if run.refused {
+        return Err(Refusal::ZeroPivot);
+    }
+    Ok(run.entries)
 }
 
-// The answer to an archive and a second file with these cutoffs, in the lent answer bytes. A refusal returns its number alone and leaves the bytes as they are.
-fn fill_tests(c: Cutoffs, archive: &[u8], tests: &[u8], answer: &mut [u8]) -> u32
+// The answer to an archive and a second file with these cutoffs, in the lent answer bytes. A refusal leaves the bytes as they are.
+fn fill_tests(c: Cutoffs, archive: &[u8], tests: &[u8], answer: &mut [u8]) -> Result<(), Refusal>
     requires { length answer.old ≡ answer_length }
-    ensures value { result ≡ from_archive_number c archive.now tests.now }
+    ensures value { result_number result ≡ from_archive_number c archive.now tests.now }
     ensures answer_after { answer.new ≡ cond (eqb (from_archive_number c archive.now tests.now) 0) (answer_bytes (from_archive_entries c archive.now tests.now)) answer.old }
 {
-    let mut told: u32 = 0;
-    let es = judge(c, archive, tests, &mut told);
-    if told != 0 {
-        return told;
-    }
+    let es = judge(c, archive, tests)?;
     put_answer(answer, es);
-    0
+    Ok(())
 }
 
 // The call with a lab's table: 1 for the lent length, 14 for the table, and then the answer to the archive and the second file with its cutoffs.
-pub fn test_with(table: &[u8], archive: &[u8], tests: &[u8], answer: &mut [u8]) -> u32
-    ensures value { result ≡ testing_returned table.now archive.now tests.now answer.old }
+pub fn test_with(
+    table: &[u8],
+    archive: &[u8],
+    tests: &[u8],
+    answer: &mut [u8],
+) -> Result<(), Refusal>
+    ensures value { result_number result ≡ testing_returned table.now archive.now tests.now answer.old }
     ensures answer_after { answer.new ≡ testing_written table.now archive.now tests.now answer.old }
 {
     if answer.len() != ANSWER_LENGTH {
-        return 1;
+        return Err(Refusal::LentLength);
     }
     if records_cutoffs::bad_table(table) {
-        return 14;
+        return Err(Refusal::CutoffTable);
     }
     fill_tests(records_cutoffs::cutoffs_in(table), archive, tests, answer)
 }
 
 // The call without a table: the one with the built-in table, whose numbers are at hand.
-pub fn test(archive: &[u8], tests: &[u8], answer: &mut [u8]) -> u32
-    ensures value { result ≡ testing_returned built_in_table archive.now tests.now answer.old }
+pub fn test(archive: &[u8], tests: &[u8], answer: &mut [u8]) -> Result<(), Refusal>
+    ensures value { result_number result ≡ testing_returned built_in_table archive.now tests.now answer.old }
     ensures answer_after { answer.new ≡ testing_written built_in_table archive.now tests.now answer.old }
 {
     if answer.len() != ANSWER_LENGTH {
-        return 1;
+        return Err(Refusal::LentLength);
     }
     fill_tests(document_cutoffs(), archive, tests, answer)
 }

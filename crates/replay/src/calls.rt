@@ -7,9 +7,6 @@ use table_bits_text::spell;
 // Room for an answer, and more: an archive in digits, a text and what stands between them.
 pub type Answer = Buffer<16384>;
 
-// The fewest bytes of an archive, and so the least number of its writer that accepts.
-pub const SHORTEST: u32 = 128;
-
 // The answer to each task's file, or two files, by these cutoffs.
 pub trait Answers {
     fn put_kenward_roger(&self, file: &[u8], own: &mut Answer);

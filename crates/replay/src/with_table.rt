@@ -1,5 +1,5 @@
 // Answers by a lab's table: the number that the call returns and, where it accepts, a blank and the bytes that it writes, in digits.
-use crate::calls::{Answer, Answers, SHORTEST};
+use crate::calls::{Answer, Answers};
 use records::refusal::result_number;
 use records::{ANSWER_LENGTH, ARCHIVE_LENGTH, ENTRY_LENGTH};
 
@@ -40,17 +40,17 @@ impl<'a> Answers for WithTable<'a> {
     // The length of an archive and the archive, or the number that refuses.
     fn put_archive(&self, file: &[u8], own: &mut Answer) {
         let mut archive = [0u8; ARCHIVE_LENGTH];
-        let told = records_archiving::archive_with(self.table, file, &mut archive);
-        if told < SHORTEST {
-            own.put_number(told);
-        } else {
-            put_written(told, &archive[..ARCHIVE_LENGTH.min(told as usize)], own);
+        match records_archiving::archive_with(self.table, file, &mut archive) {
+            Ok(length) => {
+                put_written(length, &archive[..ARCHIVE_LENGTH.min(length as usize)], own)
+            }
+            Err(refusal) => own.put_number(u32::from(refusal)),
         }
     }
 
     fn put_archive_test(&self, archive: &[u8], tests: &[u8], own: &mut Answer) {
         let mut answer = [0u8; ANSWER_LENGTH];
-        let number = records_archive_test::test_with(self.table, archive, tests, &mut answer);
-        put_filled(number, &answer, own);
+        let tested = records_archive_test::test_with(self.table, archive, tests, &mut answer);
+        put_filled(result_number(tested), &answer, own);
     }
 }

@@ -1,7 +1,8 @@
 // Answers by the document's cutoffs: what `pulltest` prints of a file, with a bar for each newline; of a Satterthwaite file the one `test` line; of a series that is archived its archive in digits and what the test from it prints.
 use crate::buffer::{BAR, Buffer};
-use crate::calls::{Answer, Answers, SHORTEST};
+use crate::calls::{Answer, Answers};
 use arithmetic_cutoffs::document_cutoffs;
+use records::refusal::Refusal;
 use records::{ARCHIVE_LENGTH, RecordKind};
 use records_answer_text::{TEXT_ROOM, put_run};
 use tests::Entry;
@@ -28,11 +29,17 @@ fn put_entries(number: u32, es: [Entry; 7], own: &mut Answer) {
     own.put_barred(&text[..n]);
 }
 
+// What is printed of a file that is refused.
+fn put_refused(refusal: Refusal, own: &mut Answer) {
+    put_entries(u32::from(refusal), [no_entry(); 7], own);
+}
+
 // What the tests from an archive print.
 fn put_tests(archive: &[u8], tests: &[u8], own: &mut Answer) {
-    let mut number: u32 = 0;
-    let es = records_archive_test::judge(document_cutoffs(), archive, tests, &mut number);
-    put_entries(number, es, own);
+    match records_archive_test::judge(document_cutoffs(), archive, tests) {
+        Ok(es) => put_entries(0, es, own),
+        Err(refusal) => put_refused(refusal, own),
+    }
 }
 
 // The records of a series that ask for tests, as far as there is room.
@@ -63,18 +70,18 @@ impl Answers for WithoutTable {
                 es[CONTRAST] = e;
                 put_entries(0, es, own);
             }
-            Err(refusal) => put_entries(u32::from(refusal), [no_entry(); 7], own),
+            Err(refusal) => put_refused(refusal, own),
         }
     }
 
     // An archive in digits, and the tests from it that the series' own records ask for.
     fn put_archive(&self, file: &[u8], own: &mut Answer) {
         let mut bytes = [0u8; ARCHIVE_LENGTH];
-        let told = records_archiving::archive(file, &mut bytes);
-        if told < SHORTEST {
-            return put_entries(told, [no_entry(); 7], own);
-        }
-        let archive = &bytes[..ARCHIVE_LENGTH.min(told as usize)];
+        let length = match records_archiving::archive(file, &mut bytes) {
+            Ok(length) => length as usize,
+            Err(refusal) => return put_refused(refusal, own),
+        };
+        let archive = &bytes[..ARCHIVE_LENGTH.min(length)];
         own.put(b"archive ");
         own.put_digits(archive);
         own.put_byte(BAR);

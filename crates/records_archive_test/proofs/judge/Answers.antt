@@ -5,46 +5,54 @@ use lib.Ieee.{of_bits}
 use Rattle.tests.specs.declared.Run.{Run}
 use Rattle.records.specs.readers.Archive as archive
 use Rattle.records.specs.readers.SecondFile as second
-use Rattle.records.proofs.format.RefusalNumbers.{no-zero}
+use Rattle.records.proofs.format.RefusalNumbers.{no-zero, number-passed}
 use Rattle.records_archive_test.proofs.TestLaws.{archive-sheet, tests-sheet, archive-taken, second-taken, archive-p}
-use Rattle.records_archive_test.proofs.NumberLaws.{archive-refuses, second-refuses, tests-answer}
-use borrow.Author.Rules.{rules}
+use Rattle.records_archive_test.proofs.NumberLaws.{archive-refuses, second-refuses, tests-refuse, tests-answer, passed-over}
 use Rattle.records_archive_test.proofs.judge.Goals as goal
 
 pub refusal-requires : goal.refusal-requires
 unfolding of_bits
 refusal-requires c = record { flags_value = (refl, archive-sheet); sheet_value = (refl, archive-sheet) }
 
-pub returns-in-Err : goal.returns-in-Err
-returns-in-Err c =
+pub returns-in_err-refusal : goal.returns-in_err-refusal
+returns-in_err-refusal c =
     let a = c.args in
-    let both = archive-refuses a.c a.s.now a.t.now _ _ c.in-Err.ensures.value (no-zero _) c.no_entry.ensures in
-    record { value = both.0; told_after = c.from.ensures ∙ both.1 }
+    let passed = c.from_residual.ensures.1 in
+    let both = archive-refuses a.c a.s.now a.t.now _ c.in_err-refusal.ensures.value (no-zero _) in
+    record { value = number-passed _ _ passed ∙ both.1; answered = passed-over _ _ passed ∙ both.0 }
 
-pub refusal-second-requires : goal.refusal-second-requires
+pub refusal-requires-2 : goal.refusal-requires-2
 unfolding of_bits
-refusal-second-requires c = record { flags_value = (refl, tests-sheet); sheet_value = (refl, tests-sheet) }
+refusal-requires-2 c = record { flags_value = (refl, tests-sheet); sheet_value = (refl, tests-sheet) }
 
-pub returns-in-Err-second : goal.returns-in-Err-second
-returns-in-Err-second c =
+pub returns-in_err-refusal-2 : goal.returns-in_err-refusal-2
+returns-in_err-refusal-2 c =
     let a = c.args in
-    let both = second-refuses a.c a.s.now a.t.now (sym c.in_default.ensures.value) _ _ _ (archive-p a.s.now _ c.archive_sizes-z.ensures) c.in-Err-second.ensures.value (no-zero _) c.no_entry-in-Err-second.ensures in
-    record { value = both.0; told_after = c.from-in-Err-second.ensures ∙ both.1 }
+    let passed = c.from_residual-in_err-refusal-2.ensures.1 in
+    let both = second-refuses a.c a.s.now a.t.now (sym c.in_ok-refusal.ensures.value) _ _ (archive-p a.s.now _ c.archive_sizes-z.ensures) c.in_err-refusal-2.ensures.value (no-zero _) in
+    record { value = number-passed _ _ passed ∙ both.1; answered = passed-over _ _ passed ∙ both.0 }
 
 pub tests_from-run-requires : goal.tests_from-run-requires
 tests_from-run-requires c =
-    let archive-accepted : archive.refusal c.args.s.now ≡ 0 = sym c.in_default.ensures.value in
+    let archive-accepted : archive.refusal c.args.s.now ≡ 0 = sym c.in_ok-refusal.ensures.value in
     let second-accepted : second.refusal (archive.coefficients c.args.s.now) c.args.t.now ≡ 0 = let a = c.args in
-    ap (λ (p : ℕ). second.refusal p a.t.now) (sym (archive-p a.s.now _ c.archive_sizes-z.ensures)) ∙ sym c.in_default-second.ensures.value in
+    ap (λ (p : ℕ). second.refusal p a.t.now) (sym (archive-p a.s.now _ c.archive_sizes-z.ensures)) ∙ sym c.in_ok-refusal-2.ensures.value in
     let a = c.args in
-    (archive-taken a.s.now 512 _ archive-sheet archive-accepted c.in_default.ensures.sheet_after, second-taken (archive.coefficients a.s.now) a.t.now 64 _ tests-sheet second-accepted c.in_default-second.ensures.sheet_after)
+    (archive-taken a.s.now 512 _ archive-sheet archive-accepted c.in_ok-refusal.ensures.sheet_after, second-taken (archive.coefficients a.s.now) a.t.now 64 _ tests-sheet second-accepted c.in_ok-refusal-2.ensures.sheet_after)
+
+pub returns-then-run : goal.returns-then-run
+returns-then-run c =
+    let a = c.args in
+    let archive-accepted : archive.refusal a.s.now ≡ 0 = sym c.in_ok-refusal.ensures.value in
+    let second-accepted : second.refusal (archive.coefficients a.s.now) a.t.now ≡ 0 = ap (λ (p : ℕ). second.refusal p a.t.now) (sym (archive-p a.s.now _ c.archive_sizes-z.ensures)) ∙ sym c.in_ok-refusal-2.ensures.value in
+    let both = tests-refuse a.c a.s.now a.t.now archive-accepted second-accepted (sym (ap (λ (r : Run). r.refused) c.tests_from-run.ensures) ∙ c.if-run.true) in
+    record { value = both.1; answered = both.0 }
 
 pub returns : goal.returns
 returns c =
-    let archive-accepted : archive.refusal c.args.s.now ≡ 0 = sym c.in_default.ensures.value in
-    let second-accepted : second.refusal (archive.coefficients c.args.s.now) c.args.t.now ≡ 0 = let a = c.args in
-    ap (λ (p : ℕ). second.refusal p a.t.now) (sym (archive-p a.s.now _ c.archive_sizes-z.ensures)) ∙ sym c.in_default-second.ensures.value in
     let a = c.args in
+    let archive-accepted : archive.refusal a.s.now ≡ 0 = sym c.in_ok-refusal.ensures.value in
+    let second-accepted : second.refusal (archive.coefficients a.s.now) a.t.now ≡ 0 = ap (λ (p : ℕ). second.refusal p a.t.now) (sym (archive-p a.s.now _ c.archive_sizes-z.ensures)) ∙ sym c.in_ok-refusal-2.ensures.value in
     let e = c.tests_from-run.ensures in
-    let both = tests-answer a.c a.s.now a.t.now archive-accepted second-accepted _ _ _ _ (ap (λ (r : Run). r.refused) e) (ap (λ (r : Run). r.entries) e) c.answer_of.ensures.value c.answer_of.ensures.told_after in
-    record { value = both.0; told_after = both.1 }
+    let both = tests-answer a.c a.s.now a.t.now archive-accepted second-accepted _ (sym (ap (λ (r : Run). r.refused) e) ∙ c.if-run.false) (ap (λ (r : Run). r.entries) e) in
+    record { value = both.1; answered = both.0 }

@@ -4,11 +4,6 @@ use Rattle.records.specs.readers.CutoffTable.{built_in_table}
 use Rattle.records.proofs.readers.CutoffLaws.{built-in-accepted, built-in-numbers}
 use Rattle.records.specs.calls.ArchiveCall.{from_archive_number, testing_call}
 use Rattle.records.proofs.calls.CallLaws.{other_length, own-answer}
-use borrow.Author.Rules.{rules}
-use Rattle.records_archive_test.proofs.test.Reads as reads
-use Rattle.records_archive_test.proofs.test.Lts as lts
-use Rattle.arithmetic_cutoffs.proofs.document_cutoffs.Reads as document-cutoffs-reads
-use Rattle.records_archive_test.proofs.fill_tests.Reads as fill-tests-reads
 use Rattle.records_archive_test.proofs.test.Goals as goal
 
 pub returns-then-answer-ne-ANSWER_LENGTH : goal.returns-then-answer-ne-ANSWER_LENGTH

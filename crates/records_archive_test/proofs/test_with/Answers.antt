@@ -3,12 +3,6 @@ use mathlib.Core.Path.{refl, sym, ◌∙◌}
 use Rattle.records.proofs.readers.CutoffLaws.{table-length}
 use Rattle.records.specs.calls.ArchiveCall.{from_archive_number, testing_call}
 use Rattle.records.proofs.calls.CallLaws.{other_length, other-table, own-answer}
-use borrow.Author.Rules.{rules}
-use Rattle.records_archive_test.proofs.test_with.Reads as reads
-use Rattle.records_archive_test.proofs.test_with.Lts as lts
-use Rattle.records_archive_test.proofs.fill_tests.Reads as fill-tests-reads
-use Rattle.records_cutoffs.proofs.bad_table.Reads as bad-table-reads
-use Rattle.records_cutoffs.proofs.cutoffs_in.Reads as cutoffs-in-reads
 use Rattle.records_archive_test.proofs.test_with.Goals as goal
 
 pub returns-then-answer-ne-ANSWER_LENGTH : goal.returns-then-answer-ne-ANSWER_LENGTH

@@ -5,7 +5,6 @@ use mathlib.Core.Path.{refl, sym, ◌∙◌, subst}
 use Rattle.records_archive_test.specs.joints.Read.{SecondOnSheet}
 use Rattle.records_archive_reader.proofs.ReaderLaws.{archive-sizes-taken}
 use Rattle.records_archive_test.proofs.TestLaws.{archive-p, inverse-fits, square-fits, adjusted-fits, squares-fit, sigma2-stands, archive-run-is}
-use borrow.Author.Rules.{rules}
 use Rattle.records_archive_test.proofs.tests_from.Goals as goal
 
 pub first_slots-firsts-requires : goal.first_slots-firsts-requires

@@ -1,7 +1,6 @@
 -- `records_archive_test::tests_with` meets its contract.
 use mathlib.Core.Path.{◌∙◌}
 use Rattle.records_archive_test.proofs.TestLaws.{tests-sizes, estimates-fit, contrast-rows-fit, hypothesis-fits, tests-run-is}
-use borrow.Author.Rules.{rules}
 use Rattle.records_archive_test.proofs.tests_with.Goals as goal
 
 pub first_slots-firsts-requires : goal.first_slots-firsts-requires

@@ -4,7 +4,6 @@ use mathlib.Core.Path.{refl}
 use lib.Ieee.{of_bits}
 use Rattle.records.specs.declared.Shape.TheVariants.{Series}
 use Rattle.records.proofs.readers.Limits.{slot-count}
-use borrow.Author.Rules.{rules}
 use Rattle.records_archiving.proofs.archive_panel.Goals as goal
 
 pub archive_series-requires : goal.archive_series-requires

@@ -8,7 +8,6 @@ use Rattle.records.specs.readers.Archive.{Archive, archive_bytes}
 use Rattle.records_kenward_roger.proofs.Calls.{few-blocks, few-coefficients, start-within, sigma2-place, phi-ends, lent-sound, matrices-are, matrices-few, coefficients-read, phi-read, sigma2-read}
 use Rattle.records_archiving.proofs.ArchivingLaws.{series-archive-is, archive-short}
 use Rattle.records_refusals.specs.joints.Room.{SeriesShort}
-use borrow.Author.Rules.{rules}
 use Rattle.records_archiving.proofs.put_series.Goals as goal
 
 pub blocks_of-blocks-requires : goal.blocks_of-blocks-requires
