@@ -9,11 +9,15 @@ use lib.Dec.{eqb}
 use lib.ListN.{length, take, replicate}
 use lib.Seq.{ext_get_or, length-take-le, get_or-take}
 use borrow.Author.Tests.{eqb-true, eqb-false, ne_eqb, not-false, lt-ltb, le-ltb}
+use Rattle.std.specs.Prelude.{Result, Ok, Err, IsErrAnd}
+use Rattle.std.specs.Result.{result_unwrap_or}
 use Rattle.arithmetic_cutoffs.specs.declared.Cutoffs.{Cutoffs}
+use Rattle.arithmetic_cutoffs.specs.Cutoffs.{document_cutoffs}
 use Rattle.tests.specs.declared.Entry.{Entry}
 use Rattle.tests.specs.Answer.{no_entry}
 use Rattle.algebra.specs.Reasons.{first}
 use Rattle.algebra.proofs.ReasonLaws.{passed}
+use Rattle.records.specs.declared.refusal.Refusal.{Refusal}
 use Rattle.records.specs.format.Bytes.{byte}
 use Rattle.records.specs.format.File.{count, length_reasons}
 use Rattle.records.specs.format.Order.{falls, order_reasons}
@@ -62,6 +66,15 @@ module _ (c : Cutoffs) (a : Arrival) (kept : List ℕ) (n : ℕ) (q : n ≡ unke
   pub entries-kept : n ≡ 0 → entries 24 c (kept_file a kept) ≡ arrived_entries c a kept
   unfolding arrived_entries
   entries-kept z = rw (← q, z)
+
+-- of one that must be kept they are those of what is kept
+pub arrived-kept : (a : Arrival) (kept : List ℕ) (c : Cutoffs) → 0 ≡ unkept_number a → c ≡ document_cutoffs → (number 24 c (kept_file a kept) ≡ arrived_number document_cutoffs a kept) × (entries 24 c (kept_file a kept) ≡ arrived_entries document_cutoffs a kept)
+arrived-kept a kept c q e = rw e (number-kept document_cutoffs a kept 0 q refl, entries-kept document_cutoffs a kept 0 q refl)
+
+-- what `?` passes on has no entry in use
+pub none-passed : (r : Result (List Entry) Refusal) (e : Refusal) (es : List Entry) → IsErrAnd r (λ d. d ≡ e) → result_unwrap_or r es ≡ es
+none-passed (Ok x) e es h = absurd h
+none-passed (Err d) e es h = refl
 
 -- ---- a file of bytes that came
 module _ (c : Cutoffs) (s : List ℕ) (bytes : (i : ℕ) → byte s i < 256) (st : Arrived) (room : length st.kept ≡ kept_length) (k : Came s st) where

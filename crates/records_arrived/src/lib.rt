@@ -1,56 +1,49 @@
 // What `pulltest` prints of a file that arrived in pieces.
 #![tactic(auto)]
 
-ghost use Rattle.std.specs.Prelude.{◌≡◌, ◌*◌, ◌≤◌, length};
+ghost use Rattle.std.specs.Prelude.{◌≡◌, ◌*◌, ◌≤◌, length, replicate};
+ghost use Rattle.std.specs.Result.{result_unwrap_or};
 ghost use Rattle.arithmetic_cutoffs.specs.Cutoffs.{document_cutoffs};
+ghost use Rattle.tests.specs.Answer.{no_entry};
+ghost use Rattle.records.specs.format.RefusalNumbers.{result_number};
 ghost use Rattle.records.specs.text.Text.{text_of};
 ghost use Rattle.records_arrived.specs.joints.ArrivedCall.{unkept_number, arrived_number, arrived_entries};
 ghost use Rattle.records_answer_text.specs.joints.Cursor.{Put, text_room};
 
 use arithmetic_cutoffs::document_cutoffs;
+use records::refusal::Refusal;
 use records_answer_text::{TEXT_ROOM, put_run};
 use records_kenward_roger::judge_panel;
 use records_pieces::Arrival;
 use tests::Entry;
 use tests_entries::no_entry;
 
-// The number of a file that is refused whatever is kept: 2 of bytes after the last whole record, 12 of records that do not rise, 2 of more records than are kept; 0 of any other.
-fn unkept_number(a: Arrival) -> u32
-    ensures { result ≡ unkept_number a }
+// What refuses a file whatever is kept: bytes after the last whole record, records that do not rise, more records than are kept.
+fn unkept_refusal(a: Arrival) -> Result<(), Refusal>
+    ensures { result_number result ≡ unkept_number a }
 {
     if a.part != 0 {
-        return 2;
+        return Err(Refusal::Form);
     }
     if a.fell {
-        return 12;
+        return Err(Refusal::Order);
     }
     if a.longer {
-        return 2;
+        return Err(Refusal::Form);
     }
-    0
+    Ok(())
 }
 
-// Its number and its entries, by what is kept.
-pub fn judge_arrived(a: Arrival, kept: &[u8], told: &mut u32) -> [Entry; 7]
+// Its entries, or what refuses it, by what is kept.
+pub fn judge_arrived(a: Arrival, kept: &[u8]) -> Result<[Entry; 7], Refusal>
     requires { 16 * a.records ≤ length kept.now }
-    ensures value { result ≡ arrived_entries document_cutoffs a kept.now }
-    ensures told_after { told.new ≡ arrived_number document_cutoffs a kept.now }
+    ensures value { result_number result ≡ arrived_number document_cutoffs a kept.now }
+    ensures answered { result_unwrap_or result (replicate 7 no_entry) ≡ arrived_entries document_cutoffs a kept.now }
 {
-    let number = unkept_number(a);
-    if number != 0 {
-        *told = number;
-        return [no_entry(); 7];
-    }
-    let mut made: usize = 0;
-    let mut pulled: usize = 0;
+    unkept_refusal(a)?;
     let end = 16 * a.records;
-    judge_panel(
-        document_cutoffs(),
-        &kept[..end],
-        told,
-        &mut made,
-        &mut pulled,
-    )
+    let judged = judge_panel(document_cutoffs(), &kept[..end])?;
+    Ok(judged.entries)
 }
 
 // Its text from the front of `out`, whose other bytes stay, and the text's length.
@@ -58,7 +51,8 @@ pub fn text_arrived(a: Arrival, kept: &[u8], out: &mut [u8; TEXT_ROOM]) -> usize
     requires { 16 * a.records ≤ length kept.now }
     ensures { Put text_room out.old 0 (text_of (arrived_number document_cutoffs a kept.now) (arrived_entries document_cutoffs a kept.now)) out.new result }
 {
-    let mut number: u32 = 0;
-    let es = judge_arrived(a, kept, &mut number);
-    put_run(out, 0, number, es)
+    match judge_arrived(a, kept) {
+        Ok(es) => put_run(out, 0, 0, es),
+        Err(refusal) => put_run(out, 0, u32::from(refusal), [no_entry(); 7]),
+    }
 }

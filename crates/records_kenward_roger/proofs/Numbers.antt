@@ -1,18 +1,22 @@
 -- The number of a call: the first reason that holds, the reader's before those that come after it.
 use Prim.Native.Nat.{ℕ}
-use mathlib.Core.Path.{◌≡◌, refl, sym, ◌∙◌}
-use mathlib.Core.Bool.{Bool, true, false, cond}
+use mathlib.Core.Path.{◌≡◌, refl, sym, ap, ◌∙◌}
+use mathlib.Core.Bool.{Bool, true, false}
 use mathlib.Core.List.{List}
-use native.Mathlib.Omega.{arith}
 use lib.ListN.{replicate}
 use borrow.Author.Tests.{eq-eqb, ne_eqb}
+use Rattle.std.specs.Prelude.{Result, Ok, Err, IsErrAnd}
 use Rattle.arithmetic_cutoffs.specs.declared.Cutoffs.{Cutoffs}
 use Rattle.tests.specs.declared.Entry.{Entry}
 use Rattle.tests.specs.Answer.{no_entry}
-use Rattle.tests.specs.Entries.{run_refusal, run_entries}
 use Rattle.records.specs.readers.Series.{refusal, design}
 use Rattle.records.specs.calls.KenwardRogerCall.{adjusted, run, number, entries, rotations, specimens_run}
 use Rattle.records.proofs.calls.CallLaws.{file_adjustment_refusal, number_is}
+use Rattle.records.specs.declared.refusal.Refusal.{Refusal}
+use Rattle.records.specs.declared.refusal.Refusal.TheVariants.{ZeroPivot}
+use Rattle.records.specs.format.RefusalNumbers.{refusal_number}
+use Rattle.records.proofs.format.RefusalNumbers.{no-zero}
+use Rattle.records_kenward_roger.specs.declared.JudgedSeries.{JudgedSeries}
 use Rattle.records_kenward_roger.specs.joints.Left.{Judges}
 
 -- ---- the number and the entries, by who refuses
@@ -49,9 +53,12 @@ module _ (w : ℕ) (c : Cutoffs) (s : List ℕ) where
   unfolding specimens_run
   no-specimens k f h = rw (ne_eqb (number w c s) 0 (λ z. h (f ∙ z)))
 
-  -- so it is judged
-  pub judged-refused : (k : ℕ) → k ≡ number w c s → (k ≡ 0 → ⊥) → (e : Entry) → e ≡ no_entry → Judges w c s (replicate 7 e) k 0 0
-  judged-refused k f h e q = record { listed = no-entries e q k f h; told = f; made = no-rotations k f h; pulled = no-specimens k f h }
+  -- so it is judged by what refuses it
+  pub judged-refused : (r : Result JudgedSeries Refusal) (P : Refusal → Type 0) → IsErrAnd r P → ((e : Refusal) → P e → refusal_number e ≡ number w c s) → Judges w c s r
+  judged-refused (Ok j) P p f = absurd p
+  judged-refused (Err e) P p f =
+      let n = f e p in
+      record { listed = no-entries no_entry refl _ n (no-zero e); told = n; made = no-rotations _ n (no-zero e); pulled = no-specimens _ n (no-zero e) }
 
   pub run-entries : (es : List Entry) → es ≡ (run c s).entries → 0 ≡ number w c s → es ≡ entries w c s
   unfolding entries
@@ -66,18 +73,12 @@ module _ (w : ℕ) (c : Cutoffs) (s : List ℕ) where
   unfolding specimens_run
   own-specimens n e z = e ∙ rw (eq-eqb (number w c s) 0 (sym z))
 
-  -- a run whose tests were made
+  -- a run whose tests were made: a zero pivot in one refuses it, and where there is none it is the file's
   module _ (r : refusal w s ≡ 0) (a : file_adjustment_refusal c s ≡ 0) where
-    pub run-answer : (b : Bool) (es fs : List Entry) (k : ℕ) → b ≡ (run c s).refused → es ≡ (run c s).entries → fs ≡ run_entries b es → k ≡ run_refusal b → (fs ≡ entries w c s) × (k ≡ number w c s)
-    unfolding run_entries run_refusal
-    run-answer true es fs k e f p q = let n = pivot-number r a true e refl in (p ∙ no-entries no_entry refl 10 n (omega arith), q ∙ n)
-    run-answer false es fs k e f p q = let n = no_number r a false e refl in (p ∙ run-entries es f n, q ∙ n)
+    pub judged-pivot : (b : Bool) → b ≡ (run c s).refused → b ≡ true → Judges w c s (Err ZeroPivot)
+    judged-pivot b e h = judged-refused (Err ZeroPivot) (λ d. d ≡ ZeroPivot) refl (λ d q. ap refusal_number q ∙ pivot-number r a b e h)
 
-    -- none counts where a test refuses
-    pub run-rotations : (b : Bool) (m n : ℕ) → b ≡ (run c s).refused → m ≡ (adjusted c s).rotations → n ≡ cond b 0 m → n ≡ rotations w c s
-    run-rotations true m n e f p = p ∙ no-rotations 10 (pivot-number r a true e refl) (omega arith)
-    run-rotations false m n e f p = p ∙ own-rotations m f (no_number r a false e refl)
-
-    pub run-specimens : (b : Bool) (m n : ℕ) → b ≡ (run c s).refused → m ≡ (design s).n → n ≡ cond b 0 m → n ≡ specimens_run w c s
-    run-specimens true m n e f p = p ∙ no-specimens 10 (pivot-number r a true e refl) (omega arith)
-    run-specimens false m n e f p = p ∙ own-specimens m f (no_number r a false e refl)
+    pub judged-run : (b : Bool) → b ≡ (run c s).refused → b ≡ false → (j : JudgedSeries) → j.entries ≡ (run c s).entries → j.rotations ≡ (adjusted c s).rotations → j.specimens ≡ (design s).n → Judges w c s (Ok j)
+    judged-run b e h j x y z =
+        let n = no_number r a b e h in
+        record { listed = run-entries j.entries x n; told = n; made = own-rotations j.rotations y n; pulled = own-specimens j.specimens z n }

@@ -5,6 +5,7 @@ ghost use Rattle.std.specs.Prelude.{◌≡◌, false, [], cond, ◌-◌, ◌*◌
 ghost use Rattle.std.specs.Option.{option_copied, unwrap_or};
 ghost use Rattle.arithmetic_cutoffs.specs.Cutoffs.{document_cutoffs};
 ghost use Rattle.records.specs.format.Layout.{answer_bytes, answer_length};
+ghost use Rattle.records.specs.format.RefusalNumbers.{result_number};
 ghost use Rattle.records.specs.readers.CutoffTable.{built_in_table};
 ghost use Rattle.records.specs.text.Text.{text_of};
 ghost use Rattle.records.specs.readers.Series.{sizes, kinds, design};
@@ -18,12 +19,13 @@ ghost use Rattle.records_answer_text.specs.joints.Cursor.{Put, text_room};
 use adjustment::{AdjustedPhi, AdjustmentRefusal, CovarianceDesign, LentDesign};
 use adjustment_kr_vcov_adj::vcov_adj16_with_pw;
 use arithmetic_cutoffs::{Cutoffs, document_cutoffs};
+use records::refusal::Refusal;
 use records::{ANSWER_LENGTH, PANEL_LIMIT, RecordKind, Shape, Sizes};
 use records_answer_bytes::put_answer;
 use records_answer_text::{TEXT_ROOM, put_run};
 use records_sheet_parts::{cells_at, six_at};
 use tests::{Covariances, Entry, Hypothesis, Run};
-use tests_entries::{answer_of, no_entry};
+use tests_entries::no_entry;
 use tests_run::compute_kenward_roger;
 
 // What is lent at the panel: a place for each of the cells that its limit allows, six squares of 24 rows of 24, and six parts of 24 rows of 6. All of it is cleared in each call.
@@ -147,17 +149,15 @@ pub fn tests_of(
     compute_kenward_roger(c, &residual, &ps, sheet[variance], &hypothesis)
 }
 
-// What counts of a run: nothing where a test refuses it.
-fn counted(refused: bool, made: usize) -> usize
-    ensures { result ≡ cond refused 0 made }
-{
-    if refused {
-        return 0;
-    }
-    made
+// What is computed of a series that nothing refuses: its entries, the rotations that its adjustment made, and the specimens of its run.
+#[derive(Clone, Copy)]
+pub struct JudgedSeries {
+    pub entries: [Entry; 7],
+    pub rotations: usize,
+    pub specimens: usize,
 }
 
-// The run of a series that the reader takes: its number, its entries, the rotations that its adjustment made, and its specimens. Those that are torn are left out on its sheet.
+// The run of a series that the reader takes. The specimens that are torn are left out on its sheet.
 fn run_of(
     limit: usize,
     c: Cutoffs,
@@ -165,18 +165,15 @@ fn run_of(
     sheet: &mut [f64],
     work: &mut [f64],
     narrow: &mut [f64],
-    told: &mut u32,
-    made: &mut usize,
-    pulled: &mut usize,
-) -> [Entry; 7]
+) -> Result<JudgedSeries, Refusal>
     requires { SeriesRead limit s.now (sizes s.now) (first_slots (kinds s.now)) sheet.old × (6 * (limit * limit) ≤ length work.old) × (36 * limit ≤ length narrow.old) }
-    ensures { Judges limit c s.now result told.new made.new pulled.new }
+    ensures { Judges limit c s.now result }
 {
     let z = records_sizes::series_sizes(s);
     let firsts = records_sheet::first_slots(Shape::Series, z);
     let n = records_torn::shorten(z, &firsts, sheet);
     let mut ps = [algebra_products::zeros(); 4];
-    let adjusted = match kenward_roger_modcomp_data(
+    let adjusted = kenward_roger_modcomp_data(
         limit,
         c,
         s,
@@ -187,15 +184,7 @@ fn run_of(
         work,
         narrow,
         &mut ps,
-    ) {
-        Ok(adjusted) => adjusted,
-        Err(refusal) => {
-            *told = u32::from(refusal);
-            *made = 0;
-            *pulled = 0;
-            return [no_entry(); 7];
-        }
-    };
+    )?;
     let run = tests_of(
         limit,
         c,
@@ -207,13 +196,18 @@ fn run_of(
         ps,
         adjusted.w,
     );
-    *made = counted(run.refused, adjusted.rotations);
-    *pulled = counted(run.refused, n);
-    answer_of(run.refused, run.entries, told)
+    if run.refused {
+        return Err(Refusal::ZeroPivot);
+    }
+    let entries = run.entries;
+    Ok(JudgedSeries {
+        entries,
+        rotations: adjusted.rotations,
+        specimens: n,
+    })
 }
 
-// A file's number, its entries, its adjustment's rotations and its specimens, whatever its bytes are, with a limit of specimens. What is lent for the reading and for the adjustment has the room that
-// the limit asks for.
+// What is computed of a file, or what refuses it, whatever its bytes are, with a limit of specimens. What is lent for the reading and for the adjustment has the room that the limit asks for.
 pub fn judge(
     limit: usize,
     c: Cutoffs,
@@ -222,31 +216,17 @@ pub fn judge(
     sheet: &mut [f64],
     work: &mut [f64],
     narrow: &mut [f64],
-    told: &mut u32,
-    made: &mut usize,
-    pulled: &mut usize,
-) -> [Entry; 7]
+) -> Result<JudgedSeries, Refusal>
     requires { Room limit flags.old sheet.old × (6 * (limit * limit) ≤ length work.old) × (36 * limit ≤ length narrow.old) }
-    ensures { Judges limit c s.now result told.new made.new pulled.new }
+    ensures { Judges limit c s.now result }
 {
-    if let Err(refusal) = records_refusals::refusal(limit, s, flags, sheet) {
-        *told = u32::from(refusal);
-        *made = 0;
-        *pulled = 0;
-        return [no_entry(); 7];
-    }
-    run_of(limit, c, s, sheet, work, narrow, told, made, pulled)
+    records_refusals::refusal(limit, s, flags, sheet)?;
+    run_of(limit, c, s, sheet, work, narrow)
 }
 
 // The same at the panel, whose limit is 24 specimens: room for every cell that it allows, for six squares of 24 rows of 24 and for six parts of 24 rows of 6.
-pub fn judge_panel(
-    c: Cutoffs,
-    s: &[u8],
-    told: &mut u32,
-    made: &mut usize,
-    pulled: &mut usize,
-) -> [Entry; 7]
-    ensures { Judges panel_limit c s.now result told.new made.new pulled.new }
+pub fn judge_panel(c: Cutoffs, s: &[u8]) -> Result<JudgedSeries, Refusal>
+    ensures { Judges panel_limit c s.now result }
 {
     let mut flags = [false; PANEL_CELLS];
     let mut sheet = [0.0; PANEL_CELLS];
@@ -260,50 +240,41 @@ pub fn judge_panel(
         &mut sheet,
         &mut work,
         &mut narrow,
-        told,
-        made,
-        pulled,
     )
 }
 
-// The answer to a file with these cutoffs, in the lent answer bytes. A refusal returns its number alone and leaves the bytes as they are.
-fn fill_answer(c: Cutoffs, records: &[u8], answer: &mut [u8]) -> u32
+// The answer to a file with these cutoffs, in the lent answer bytes. A refusal leaves the bytes as they are.
+fn fill_answer(c: Cutoffs, records: &[u8], answer: &mut [u8]) -> Result<(), Refusal>
     requires { length answer.old ≡ answer_length }
-    ensures value { result ≡ number panel_limit c records.now }
+    ensures value { result_number result ≡ number panel_limit c records.now }
     ensures answer_after { answer.new ≡ cond (eqb (number panel_limit c records.now) 0) (answer_bytes (entries panel_limit c records.now)) answer.old }
 {
-    let mut number: u32 = 0;
-    let mut made: usize = 0;
-    let mut pulled: usize = 0;
-    let es = judge_panel(c, records, &mut number, &mut made, &mut pulled);
-    if number != 0 {
-        return number;
-    }
-    put_answer(answer, es);
-    0
+    let judged = judge_panel(c, records)?;
+    put_answer(answer, judged.entries);
+    Ok(())
 }
 
 // The call with a lab's table: 1 for the lent length, 14 for the table, and then the answer to the records with its cutoffs.
-pub fn call_with(table: &[u8], records: &[u8], answer: &mut [u8]) -> u32
-    ensures value { result ≡ returned panel_limit table.now records.now answer.old }
+pub fn call_with(table: &[u8], records: &[u8], answer: &mut [u8]) -> Result<(), Refusal>
+    ensures value { result_number result ≡ returned panel_limit table.now records.now answer.old }
     ensures answer_after { answer.new ≡ written panel_limit table.now records.now answer.old }
 {
     if answer.len() != ANSWER_LENGTH {
-        return 1;
+        return Err(Refusal::LentLength);
     }
     if records_cutoffs::bad_table(table) {
-        return 14;
+        return Err(Refusal::CutoffTable);
     }
     fill_answer(records_cutoffs::cutoffs_in(table), records, answer)
 }
 
 // The call without a table: the one with the built-in table, whose numbers are at hand.
-pub fn call(records: &[u8], answer: &mut [u8]) -> u32
-    ensures value { result ≡ returned panel_limit built_in_table records.now answer.old }
+pub fn call(records: &[u8], answer: &mut [u8]) -> Result<(), Refusal>
+    ensures value { result_number result ≡ returned panel_limit built_in_table records.now answer.old }
     ensures answer_after { answer.new ≡ written panel_limit built_in_table records.now answer.old }
 {
     if answer.len() != ANSWER_LENGTH {
-        return 1;
+        return Err(Refusal::LentLength);
     }
     fill_answer(document_cutoffs(), records, answer)
 }
@@ -312,15 +283,8 @@ pub fn call(records: &[u8], answer: &mut [u8]) -> u32
 pub fn text(records: &[u8], out: &mut [u8; TEXT_ROOM]) -> usize
     ensures { Put text_room out.old 0 (text_of (number panel_limit document_cutoffs records.now) (entries panel_limit document_cutoffs records.now)) out.new result }
 {
-    let mut number: u32 = 0;
-    let mut made: usize = 0;
-    let mut pulled: usize = 0;
-    let es = judge_panel(
-        document_cutoffs(),
-        records,
-        &mut number,
-        &mut made,
-        &mut pulled,
-    );
-    put_run(out, 0, number, es)
+    match judge_panel(document_cutoffs(), records) {
+        Ok(judged) => put_run(out, 0, 0, judged.entries),
+        Err(refusal) => put_run(out, 0, u32::from(refusal), [no_entry(); 7]),
+    }
 }

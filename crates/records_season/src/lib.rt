@@ -93,15 +93,17 @@ fn close_series(
     ensures window_after { window.new ≡ with_latest (arrived_f a kept.now) window.old }
     ensures put { Put closed_room out.old at (arrived_text a kept.now window.old) out.new result }
 {
-    let mut number: u32 = 0;
-    let es = judge_arrived(a, kept, &mut number);
+    let es = match judge_arrived(a, kept) {
+        Ok(es) => es,
+        Err(refusal) => {
+            keep_latest(window, None);
+            return put_refusal(out, at, u32::from(refusal));
+        }
+    };
     let contrast = es[6];
     let f = contrast.f;
     keep_latest(window, f);
-    let next = put_run(out, at, number, es);
-    if number != 0 {
-        return next;
-    }
+    let next = put_run(out, at, 0, es);
     let w = worst_of(window);
     put_worst(out, next, w)
 }

@@ -1,6 +1,6 @@
 -- Not needed to check document 01: names that join the code to its definitions.
 -- A file that arrived in pieces, judged at the panel by what is kept of it.
-use Rattle.std.specs.Prelude.{ℕ, ◌*◌, Bool, not, cond, List, [], ◌∷◌, eqb, take, replicate}
+use Rattle.std.specs.Prelude.{ℕ, ◌*◌, not, cond, List, [], ◌∷◌, eqb, take, replicate}
 use Rattle.arithmetic_cutoffs.specs.declared.Cutoffs.{Cutoffs}
 use Rattle.algebra.specs.Reasons.{first}
 use Rattle.tests.specs.declared.Entry.{Entry}

@@ -1,10 +1,11 @@
 -- `records_kenward_roger::judge` meets its contract.
+use mathlib.Core.Path.{ap, ◌∙◌}
+use Rattle.records.specs.format.RefusalNumbers.{refusal_number}
 use Rattle.records.proofs.format.RefusalNumbers.{no-zero}
 use Rattle.records_kenward_roger.proofs.Numbers.{early-number, judged-refused}
 use Rattle.records_kenward_roger.proofs.judge.Goals as goal
 
-pub returns-in-Err : goal.returns-in-Err
-returns-in-Err c =
+pub returns-in_err-refusal : goal.returns-in_err-refusal
+returns-in_err-refusal c =
     let a = c.args in
-    let e = early-number a.limit a.c a.s.now _ c.in-Err.ensures.value (no-zero _) in
-    rw c.from.ensures (judged-refused a.limit a.c a.s.now _ e (no-zero _) _ c.no_entry.ensures)
+    judged-refused a.limit a.c a.s.now _ _ c.from_residual.ensures.1 (λ e q. early-number a.limit a.c a.s.now _ (ap refusal_number q ∙ c.in_err-refusal.ensures.value) (no-zero e))

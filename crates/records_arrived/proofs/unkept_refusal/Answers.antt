@@ -1,9 +1,8 @@
--- `records_arrived::unkept_number` meets its contract.
-use mathlib.Core.Path.{◌≡◌, sym}
+-- `records_arrived::unkept_refusal` meets its contract.
 use borrow.Author.Tests.{eq-eqb, ne_eqb}
 use Rattle.algebra.specs.Reasons.{first}
 use Rattle.records_arrived.specs.joints.ArrivedCall.{unkept_number}
-use Rattle.records_arrived.proofs.unkept_number.Goals as goal
+use Rattle.records_arrived.proofs.unkept_refusal.Goals as goal
 
 pub returns-then-a-ne0 : goal.returns-then-a-ne0
 unfolding unkept_number first
