@@ -17,7 +17,7 @@ pub extern "C" fn pull_kenward_roger_with(table: &[u8], records: &[u8], answer: 
     ensures value { result ≡ series.returned 24 table.now records.now answer.old }
     ensures answer_after { answer.new ≡ series.written 24 table.now records.now answer.old }
 {
-    records_kenward_roger::call_with(table, records, answer)
+    result_number(records_kenward_roger::call_with(table, records, answer))
 }
 
 #[unsafe(no_mangle)]
@@ -25,7 +25,7 @@ pub extern "C" fn pull_kenward_roger(records: &[u8], answer: &mut [u8]) -> u32
     ensures value { result ≡ series.returned 24 built_in_table records.now answer.old }
     ensures answer_after { answer.new ≡ series.written 24 built_in_table records.now answer.old }
 {
-    records_kenward_roger::call(records, answer)
+    result_number(records_kenward_roger::call(records, answer))
 }
 
 // The Satterthwaite call: one entry in 24 bytes. The answer keeps its contents where the number is not 0.

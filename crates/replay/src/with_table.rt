@@ -27,7 +27,7 @@ fn put_filled(number: u32, bytes: &[u8], own: &mut Answer) {
 impl<'a> Answers for WithTable<'a> {
     fn put_kenward_roger(&self, file: &[u8], own: &mut Answer) {
         let mut answer = [0u8; ANSWER_LENGTH];
-        let number = records_kenward_roger::call_with(self.table, file, &mut answer);
+        let number = result_number(records_kenward_roger::call_with(self.table, file, &mut answer));
         put_filled(number, &answer, own);
     }
 
