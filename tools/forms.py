@@ -11,6 +11,23 @@ import sys
 from collections import Counter, defaultdict
 
 
+# The pairs beside those of plain and marked numbers: what reading found. A new one is written here.
+PAIRS = [
+    ("gain_one", "gain_two"),
+    ("first_turned", "second_turned"),
+    ("effects_of", "groups_of"),
+    ("larger_size", "smaller_size"),
+    ("three_at", "six_at"),
+    ("not_all_finite", "not_all_finite_marked"),
+    ("plus_cells", "minus_cells"),
+    ("times_number", "over_number"),
+    ("scaled_up", "scaled_down"),
+    ("call", "call_with"),
+    ("archive", "archive_with"),
+    ("test", "test_with"),
+]
+
+
 def files(commit):
     """Each .rt file of crates/*/src, with its text."""
     if commit:
@@ -27,7 +44,7 @@ def files(commit):
                 yield name, f.read()
 
 
-HEAD = re.compile(r"^( *)(?:pub(?:\([a-z ]+\))? )?(?:const )?(?:final )?fn (\w+)(<[^(]*>)?\(", re.M)
+HEAD = re.compile(r"^( *)(?:pub(?:\([a-z ]+\))? )?(?:const )?(?:final )?fn (\w+)(<(?:[^()\n]|\([^()\n]*\))*?>)?\(", re.M)
 
 
 def functions(text):
@@ -123,6 +140,8 @@ def main():
             for m in re.finditer(r"\breturn (\d+);", body):
                 if int(m.group(1)) in range(1, 20) and re.match(r" *-> u32\b", clauses.split("\n")[0]):
                     places["1 a bare refusal number in the code (return 2;)"].append(f"{here} {m.group()}")
+            for m in re.finditer(r"\bput_refusal\([^()]*, \d+\)|\*told = [1-9]\d*;", body):
+                places["1 a bare refusal number in the code (return 2;)"].append(f"{here} {m.group()}")
             for m in re.finditer(r"\bwhile\b", body):
                 places["3 loops by while"].append(here)
             for m in re.finditer(r"^ *(\w+) (\+= 1|= \1 \+ 1);", body, re.M):
@@ -130,8 +149,8 @@ def main():
                     places["3 of these, loops that count an index by hand"].append(here)
             for i, counted, under in loops(body):
                 uses = re.findall(rf"[^\n]*\b{counted}\b[^\n]*", under)
-                indexed = set(re.findall(rf"(\w+)\[{counted}\]", under))
-                others = re.sub(rf"\w+\[{counted}\]", "", under)
+                indexed = set(re.findall(rf"(\w+)\[(?:\d+ \+ )?{counted}\]", under))
+                others = re.sub(rf"\w+\[(?:\d+ \+ )?{counted}\]", "", under)
                 if uses and len(indexed) == 1 and not re.search(rf"\b{counted}\b", others) and not re.search(rf"\w+\[{counted}\](?:\[[^\]]*\])* =[^=]", under):
                     places["3 loops over a range that only read one slice or array by it"].append(here)
                 if not re.search(r"\bfor\b", under) and re.search(r"if .*\{\s*return (true|false);\s*\}", under):
@@ -161,9 +180,9 @@ def main():
                 base = {crate[: -len("_marked")], "algebra_rotation"}
                 if base & crates:
                     places["2 functions written for plain numbers and again for marked ones"].append(f"{crate}::{f}")
-    for a, b in [("gain_one", "gain_two"), ("first_turned", "second_turned"), ("effects_of", "groups_of"), ("larger_size", "smaller_size"), ("call", "call_with")]:
-        if a in names and b in names:
-            places["2 other pairs (gain_one and gain_two, effects_of and groups_of ..)"].append(f"{a}, {b}: {', '.join(sorted(names[a] & names[b]))}")
+    for a, b in PAIRS:
+        for crate in sorted(names.get(a, set()) & names.get(b, set())):
+            places["2 other pairs of functions that differ in a name, a number or a step"].append(f"{crate}: {a}, {b}")
     for heading in sorted(places):
         print(f"{len(places[heading]):5d}  {heading}")
         if listed:
