@@ -21,6 +21,7 @@ use records::{ANSWER_LENGTH, RecordKind, Shape};
 use records_answer_bytes::put_answer;
 use records_sheet_parts::{cells_at, six_at, stack_at};
 use tests::{Covariances, Entry, Hypothesis, Run};
+use tests_entries::answer_of;
 use tests_run::compute_kenward_roger;
 
 // The tests of what a second file says, on matrices in residual units. A zero pivot in any of them refuses the run.
@@ -96,10 +97,10 @@ pub fn judge(c: Cutoffs, s: &[u8], t: &[u8]) -> Result<[Entry; 7], Refusal>
     let mut numbers = [0.0; 64];
     records_second_file::refusal(z.coefficients, t, &mut marks, &mut numbers)?;
     let run = tests_from(c, s, &sheet, t, &numbers);
-    if run.refused {
+    let Some(es) = answer_of(run) else {
         return Err(Refusal::ZeroPivot);
-    }
-    Ok(run.entries)
+    };
+    Ok(es)
 }
 
 // The answer to an archive and a second file with these cutoffs, in the lent answer bytes. A refusal leaves the bytes as they are.

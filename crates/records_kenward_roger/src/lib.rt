@@ -25,7 +25,7 @@ use records_answer_bytes::put_answer;
 use records_answer_text::{TEXT_ROOM, put_run};
 use records_sheet_parts::{cells_at, six_at};
 use tests::{Covariances, Entry, Hypothesis, Run};
-use tests_entries::no_entry;
+use tests_entries::{answer_of, no_entry};
 use tests_run::compute_kenward_roger;
 
 // What is lent at the panel: a place for each of the cells that its limit allows, six squares of 24 rows of 24, and six parts of 24 rows of 6. All of it is cleared in each call.
@@ -196,10 +196,9 @@ fn run_of(
         ps,
         adjusted.w,
     );
-    if run.refused {
+    let Some(entries) = answer_of(run) else {
         return Err(Refusal::ZeroPivot);
-    }
-    let entries = run.entries;
+    };
     Ok(JudgedSeries {
         entries,
         rotations: adjusted.rotations,

@@ -1,11 +1,12 @@
-// The entries of an answer: one that is not in use, and those of a run, with its number.
+// The entries of an answer: one that is not in use, and those of a run that no test refuses.
 #![tactic(auto)]
 
-ghost use Rattle.std.specs.Prelude.{◌≡◌};
+ghost use Rattle.std.specs.Prelude.{◌≡◌, cond, is_some, replicate};
+ghost use Rattle.std.specs.Option.{unwrap_or};
 ghost use Rattle.tests.specs.Answer.{no_entry};
 ghost use Rattle.tests.specs.Entries.{run_refusal, run_entries};
 
-use tests::Entry;
+use tests::{Entry, Run};
 
 // An entry that is not in use.
 pub fn no_entry() -> Entry
@@ -19,15 +20,13 @@ pub fn no_entry() -> Entry
     }
 }
 
-// The number of a run whose tests were made, and its entries: a zero pivot in any one test refuses the run.
-pub fn answer_of(refused: bool, es: [Entry; 7], told: &mut u32) -> [Entry; 7]
-    ensures value { result ≡ run_entries refused es }
-    ensures told_after { told.new ≡ run_refusal refused }
+// The entries of a run whose tests were made, or none: a zero pivot in any one test refuses the run, which is then told as 10 (`run_refusal`).
+pub fn answer_of(run: Run) -> Option<[Entry; 7]>
+    ensures value { unwrap_or result (replicate 7 no_entry) ≡ run_entries run.refused run.entries }
+    ensures told { cond (is_some result) 0 10 ≡ run_refusal run.refused }
 {
-    if refused {
-        *told = 10;
-        return [no_entry(); 7];
+    if run.refused {
+        return None;
     }
-    *told = 0;
-    es
+    Some(run.entries)
 }

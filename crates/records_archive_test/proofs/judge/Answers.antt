@@ -3,6 +3,7 @@ use Prim.Native.Nat.{ℕ}
 use mathlib.Core.Path.{◌≡◌, refl, sym, ap, ◌∙◌}
 use lib.Ieee.{of_bits}
 use Rattle.tests.specs.declared.Run.{Run}
+use Rattle.tests_entries.proofs.AnswerLaws.{pivot-told, none-told, own-entries}
 use Rattle.records.specs.readers.Archive as archive
 use Rattle.records.specs.readers.SecondFile as second
 use Rattle.records.proofs.format.RefusalNumbers.{no-zero, number-passed}
@@ -40,12 +41,12 @@ tests_from-run-requires c =
     let a = c.args in
     (archive-taken a.s.now 512 _ archive-sheet archive-accepted c.in_ok-refusal.ensures.sheet_after, second-taken (archive.coefficients a.s.now) a.t.now 64 _ tests-sheet second-accepted c.in_ok-refusal-2.ensures.sheet_after)
 
-pub returns-then-run : goal.returns-then-run
-returns-then-run c =
+pub returns-in_default : goal.returns-in_default
+returns-in_default c =
     let a = c.args in
     let archive-accepted : archive.refusal a.s.now ≡ 0 = sym c.in_ok-refusal.ensures.value in
     let second-accepted : second.refusal (archive.coefficients a.s.now) a.t.now ≡ 0 = ap (λ (p : ℕ). second.refusal p a.t.now) (sym (archive-p a.s.now _ c.archive_sizes-z.ensures)) ∙ sym c.in_ok-refusal-2.ensures.value in
-    let both = tests-refuse a.c a.s.now a.t.now archive-accepted second-accepted (sym (ap (λ (r : Run). r.refused) c.tests_from-run.ensures) ∙ c.if-run.true) in
+    let both = tests-refuse a.c a.s.now a.t.now archive-accepted second-accepted (sym (ap (λ (r : Run). r.refused) c.tests_from-run.ensures) ∙ pivot-told _ c.in_default.ensures.told) in
     record { value = both.1; answered = both.0 }
 
 pub returns : goal.returns
@@ -54,5 +55,6 @@ returns c =
     let archive-accepted : archive.refusal a.s.now ≡ 0 = sym c.in_ok-refusal.ensures.value in
     let second-accepted : second.refusal (archive.coefficients a.s.now) a.t.now ≡ 0 = ap (λ (p : ℕ). second.refusal p a.t.now) (sym (archive-p a.s.now _ c.archive_sizes-z.ensures)) ∙ sym c.in_ok-refusal-2.ensures.value in
     let e = c.tests_from-run.ensures in
-    let both = tests-answer a.c a.s.now a.t.now archive-accepted second-accepted _ (sym (ap (λ (r : Run). r.refused) e) ∙ c.if-run.false) (ap (λ (r : Run). r.entries) e) in
+    let t = c.in-Some.ensures in
+    let both = tests-answer a.c a.s.now a.t.now archive-accepted second-accepted _ (sym (ap (λ (r : Run). r.refused) e) ∙ none-told _ t.told) (own-entries _ _ _ t.told t.value ∙ ap (λ (r : Run). r.entries) e) in
     record { value = both.1; answered = both.0 }

@@ -3,6 +3,7 @@ use mathlib.Core.Path.{◌≡◌, refl, sym, ap, ◌∙◌, subst}
 use lib.ListN.{length}
 use Rattle.adjustment.specs.declared.AdjustedPhi.{AdjustedPhi}
 use Rattle.tests.specs.declared.Run.{Run}
+use Rattle.tests_entries.proofs.AnswerLaws.{pivot-told, none-told, own-entries}
 use Rattle.records.specs.readers.Series.{design}
 use Rattle.records_sheet.specs.joints.Sheet.{Small}
 use Rattle.records_torn.proofs.ShortSheet.{length-short}
@@ -50,10 +51,10 @@ returns-in_err-adjusted c =
     let n = c.in_err-adjusted.ensures.number in
     judged-refused a.limit a.c a.s.now _ _ c.from_residual.ensures.1 (λ e q. late-number a.limit a.c a.s.now c.requires.0.taken _ (q ∙ n) (no-zero e))
 
-pub returns-then-run : goal.returns-then-run
-returns-then-run c =
+pub returns-in_default : goal.returns-in_default
+returns-in_default c =
     let a = c.args in
-    judged-pivot a.limit a.c a.s.now c.requires.0.taken (sym c.in_ok-adjusted.ensures.number) _ (ap (λ (r : Run). r.refused) c.tests_of-run.ensures) c.if-run.true
+    judged-pivot a.limit a.c a.s.now c.requires.0.taken (sym c.in_ok-adjusted.ensures.number) _ (ap (λ (r : Run). r.refused) c.tests_of-run.ensures) (pivot-told _ c.in_default.ensures.told)
 
 pub returns : goal.returns
 returns c =
@@ -63,4 +64,5 @@ returns c =
     let t = c.tests_of-run.ensures in
     let a = c.args in
     let d = c.in_ok-adjusted.ensures in
-    judged-run a.limit a.c a.s.now c.requires.0.taken (sym d.number) _ (ap (λ (r : Run). r.refused) t) c.if-run.false _ (ap (λ (r : Run). r.entries) t) (ap (λ (p : AdjustedPhi). p.rotations) d.value) left-run
+    let e = c.in-Some.ensures in
+    judged-run a.limit a.c a.s.now c.requires.0.taken (sym d.number) _ (ap (λ (r : Run). r.refused) t) (none-told _ e.told) _ (own-entries _ _ _ e.told e.value ∙ ap (λ (r : Run). r.entries) t) (ap (λ (p : AdjustedPhi). p.rotations) d.value) left-run

@@ -1,0 +1,2 @@
+-- What an answer tells of its run.
+pub mod AnswerLaws
