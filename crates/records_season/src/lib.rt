@@ -130,47 +130,57 @@ impl Season {
         }
     }
 
-    // The sixteenth byte of a record. Where the record closes the open series that is done, and nothing has come of the next one.
-    fn take_last_byte(&mut self, b: u8, out: &mut [u8], at: usize) -> usize
-        requires { SeasonArrives (season_as self.old) × (self.old.arrival.part ≡ 15) × (at + closed_room ≤ length out.old) }
-        ensures { Fed (b ∷ []) closed_room (season_as self.old) out.old at (season_as self.new) out.new result }
+    // The sixteenth byte of a record, of the open series that has come as far as `a` says. Where the record closes it that is done, and nothing has come of the next one. Answered are how far the series has come then, and where the text ends.
+    fn take_last_byte(&mut self, a: Arrival, b: u8, out: &mut [u8], at: usize) -> (Arrival, usize)
+        requires { SeasonArrives (season_of a self.old.kept self.old.current self.old.window) × (a.part ≡ 15) × (at + closed_room ≤ length out.old) }
+        ensures { Fed (b ∷ []) closed_room (season_of a self.old.kept self.old.current self.old.window) out.old at (season_of result.0 self.new.kept self.new.current self.new.window) out.new result.1 }
     {
-        let a = self.arrival;
         self.current[15] = b;
         if closes(&self.current) {
             let whole = Arrival { part: 0, ..a };
             let next = close_series(whole, &self.kept, &mut self.window, out, at);
-            self.arrival = nothing_yet();
-            return next;
+            return (nothing_yet(), next);
         }
-        self.arrival = records_pieces::take_byte(a, b, &mut self.kept, &mut self.current);
-        at
+        (
+            records_pieces::take_byte(a, b, &mut self.kept, &mut self.current),
+            at,
+        )
     }
 
-    // One more byte.
-    fn take_byte(&mut self, b: u8, out: &mut [u8], at: usize) -> usize
-        requires { SeasonArrives (season_as self.old) × (at + closed_room * ((self.old.arrival.part + 1) / 16) ≤ length out.old) }
-        ensures { Fed (b ∷ []) (closed_room * ((self.old.arrival.part + 1) / 16)) (season_as self.old) out.old at (season_as self.new) out.new result }
+    // One more byte, likewise.
+    fn take_byte(&mut self, a: Arrival, b: u8, out: &mut [u8], at: usize) -> (Arrival, usize)
+        requires { SeasonArrives (season_of a self.old.kept self.old.current self.old.window) × (at + closed_room * ((a.part + 1) / 16) ≤ length out.old) }
+        ensures { Fed (b ∷ []) (closed_room * ((a.part + 1) / 16)) (season_of a self.old.kept self.old.current self.old.window) out.old at (season_of result.0 self.new.kept self.new.current self.new.window) out.new result.1 }
     {
-        let a = self.arrival;
         if a.part == 15 {
-            return self.take_last_byte(b, out, at);
+            return self.take_last_byte(a, b, out, at);
         }
-        self.arrival = records_pieces::take_byte(a, b, &mut self.kept, &mut self.current);
-        at
+        (
+            records_pieces::take_byte(a, b, &mut self.kept, &mut self.current),
+            at,
+        )
     }
 
     // One more piece, of any length: what it adds to the text stands from the front of `out`, and its length is answered. A series adds `closed_room` bytes at most, the lines of six coefficients, of the contrast and of the worst, and
-    // needs a record's sixteenth byte.
+    // needs a record's sixteenth byte. How far the series has come goes from byte to byte by value, so that no more is written for a byte than the byte.
     pub fn feed(&mut self, piece: &[u8], out: &mut [u8]) -> usize
         requires { SeasonArrives (season_as self.old) × (closed_room * ((self.old.arrival.part + length piece.now) / 16) ≤ length out.old) }
         ensures fed { Fed piece.now (closed_room * ((self.old.arrival.part + length piece.now) / 16)) (season_as self.old) out.old 0 (season_as self.new) out.new result }
         ensures written_in_bounds { result ≤ length out.old }
     {
+        let mut a = self.arrival;
         let mut at = 0;
         for b in piece {
-            at = self.take_byte(*b, out, at);
+            (a, at) = self.take_byte(a, *b, out, at);
         }
+        // Field by field: a copy of the whole would take the bytes between its fields with it, from turn to turn of the loop.
+        self.arrival = Arrival {
+            records: a.records,
+            part: a.part,
+            least: a.least,
+            fell: a.fell,
+            longer: a.longer,
+        };
         at
     }
 }

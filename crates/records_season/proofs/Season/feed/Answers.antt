@@ -9,8 +9,8 @@ loop-b-init c =
     let few = c.requires.0.came.unclosed.ready.part in
     (refl, c.requires.0, omega arith, fed-wider (fed-none _ _ _) (omega arith))
 
-pub take_byte-at-requires : goal.take_byte-at-requires
-take_byte-at-requires c =
+pub take_byte-requires : goal.take_byte-requires
+take_byte-requires c =
     let l = c.loop-b in
     let first = c.requires.0 in
     let wrote = l.invariant.3.wrote first.file first.came in
@@ -26,7 +26,7 @@ pub loop-b-preserved : goal.loop-b-preserved
 loop-b-preserved c =
     let l = c.loop-b in
     let more = c.loop-b-test.true in
-    let taken = c.take_byte-at in
+    let taken = c.take_byte in
     let piece = c.args.piece.now in
     let part = l.invariant.2 in
     let next = fed-part taken.ensures l.invariant.1 in (

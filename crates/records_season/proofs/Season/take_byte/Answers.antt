@@ -18,4 +18,4 @@ pub returns : goal.returns
 returns c =
     let a = c.args in
     let small : a.b < 256 = omega (arith, c.ranges.b) in
-    open-fed a.self.now.arrival a.self.now.kept a.self.now.current a.self.now.window a.b small _ _ c.take_byte-self.ensures (λ q. absurd (c.if-a-eq15.false q)) _ _
+    open-fed a.a a.self.now.kept a.self.now.current a.self.now.window a.b small _ _ c.take_byte.ensures (λ q. absurd (c.if-a-eq15.false q)) _ _

@@ -12,12 +12,12 @@ returns-then-closes c =
     let small : a.b < 256 = omega (arith, c.ranges.b) in
     let whole = sym c.closes.ensures ∙ c.if-closes.true in
     let q = c.close_series-next.ensures in
-    closing-fed a.self.now.arrival a.self.now.kept a.self.now.current a.self.now.window a.b small c.requires.1 whole _ q.window_after _ _ _ _ q.put _ c.nothing_yet-self.ensures
+    closing-fed a.a a.self.now.kept a.self.now.current a.self.now.window a.b small c.requires.1 whole _ q.window_after _ _ _ _ q.put _ c.nothing_yet.ensures
 
 pub returns : goal.returns
 returns c =
     let a = c.args in
     let small : a.b < 256 = omega (arith, c.ranges.b) in
     let open' = sym c.closes.ensures ∙ c.if-closes.false in
-    let taken = c.take_byte-self.ensures ∙ set-again a.self.now.arrival a.self.now.kept a.self.now.current a.self.now.window a.b small c.requires.1 in
-    open-fed a.self.now.arrival a.self.now.kept a.self.now.current a.self.now.window a.b small closed_room _ taken (λ e. open') _ _
+    let taken = c.take_byte.ensures ∙ set-again a.a a.self.now.kept a.self.now.current a.self.now.window a.b small c.requires.1 in
+    open-fed a.a a.self.now.kept a.self.now.current a.self.now.window a.b small closed_room _ taken (λ e. open') _ _
