@@ -33,7 +33,7 @@ fn group_term<const K: usize>(
 }
 
 // Each cell gains the term of a group of K effects.
-fn gain_effects<const K: usize>(
+pub fn gain_effects<const K: usize>(
     out: &mut [f64],
     d: usize,
     m: usize,
