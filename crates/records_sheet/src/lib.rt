@@ -6,7 +6,7 @@ ghost use Rattle.arithmetic.specs.Numbers.{plus_zero};
 ghost use Rattle.records.specs.format.Scan.{any};
 ghost use Rattle.records.specs.format.Kinds.{width, index_of, kind_at, kinds_of, kind_numbers};
 ghost use Rattle.records.specs.format.Cells.{slots, slot_count, offset};
-ghost use Rattle.records.specs.format.File.{count, row_of, column_of, count_of, out_of, beyond, again};
+ghost use Rattle.records.specs.format.File.{count, kind_of, row_of, column_of, count_of, out_of, beyond, again};
 ghost use Rattle.records_sheet.specs.joints.Sheet.{Small, first_slots, slot_of, flags_after, sheet_after, gap, missing_in};
 
 use records::{Kind, Shape, Sizes};
@@ -66,6 +66,7 @@ impl LastKind {
     fn kind_at(&mut self, file: Shape, z: Sizes, number: u8) -> Kind
         requires { self.old.kind ≡ kind_at (kinds_of file z) self.old.number }
         ensures value { result ≡ kind_at (kinds_of file z) number }
+        ensures asked { self.new.number ≡ number }
         ensures last { self.new.kind ≡ kind_at (kinds_of file z) self.new.number }
     {
         if number != self.number {
@@ -90,6 +91,7 @@ fn slot_of(
     requires last { last.old.kind ≡ kind_at (kinds_of file z) last.old.number }
     ensures value { result ≡ slot_of (kinds_of file z) s.now i }
     ensures within { (result < slot_count (kinds_of file z)) × (result ≤ 553648128) }
+    ensures asked { last.new.number ≡ kind_of s.now i }
     ensures last { last.new.kind ≡ kind_at (kinds_of file z) last.new.number }
 {
     let number = kind_of(s, i);

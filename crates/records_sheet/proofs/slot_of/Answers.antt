@@ -24,4 +24,4 @@ returns c =
     let e = c.slot_at.ensures ∙ slot-known h in
     let low = slot-within h in
     let small = slot_small h in
-    record { value = e; within = (omega arith, omega arith); last = c.kind_at-kind.ensures.last }
+    record { value = e; within = (omega arith, omega arith); asked = c.kind_at-kind.ensures.asked ∙ c.kind_of-number.ensures; last = c.kind_at-kind.ensures.last }
